@@ -1,0 +1,31 @@
+// The numbers that this profile of Linux fixes. Code and definitions cite them by name.
+
+/// Bytes of a page.
+pub const PAGE_SIZE: u64 = 4096;
+
+/// Pages of a process.
+pub const PAGE_LIMIT: u64 = 16_384;
+
+/// Steps of a segment, the stopping step included.
+pub const SEGMENT_LIMIT: u32 = 65_536;
+
+/// Bytes of a file.
+pub const FILE_LIMIT: u64 = 16_777_216;
+
+/// Bytes of an image's index.
+pub const INDEX_LIMIT: u64 = 4_194_304;
+
+/// Entries of an image: with the root, the nodes of a tree.
+pub const ENTRY_LIMIT: u64 = 4_095;
+
+/// Bytes of a path, its ending 0 not counted.
+pub const PATH_LIMIT: u64 = 4_095;
+
+/// Bytes of a name in a directory.
+pub const NAME_LIMIT: u64 = 255;
+
+/// Arguments and environment together: the sum of each word's length and 9.
+pub const ARGUMENT_LIMIT: u64 = 131_072;
+
+/// Bytes that one call moves at most (Linux's MAX_RW_COUNT).
+pub const TRANSFER_LIMIT: u64 = 0x7fff_f000;

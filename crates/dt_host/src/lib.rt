@@ -1,0 +1,2 @@
+//! dt_host
+#![tactic(auto)]

@@ -1,0 +1,2 @@
+//! dt_memhost
+#![tactic(auto)]

@@ -1,0 +1,2 @@
+//! dt_run
+#![tactic(auto)]
