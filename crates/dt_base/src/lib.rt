@@ -1,13 +1,25 @@
 //! Plain types that every layer of dettrace speaks of, with the numbers and limits of its profile of Linux.
 #![tactic(auto)]
 
+mod blob;
+mod command;
+mod errno;
+mod event;
 mod fields;
+mod image;
 mod limits;
 mod memory;
+mod refusal;
 
+pub use blob::{Blob, Text};
+pub use command::Command;
+pub use errno::Errno;
+pub use event::{End, Event, Verdict};
 pub use fields::{get16, get32, get64, put16, put32, put64};
+pub use image::{Entry, Image, What};
 pub use limits::{
-    ARGUMENT_LIMIT, ENTRY_LIMIT, FILE_LIMIT, INDEX_LIMIT, NAME_LIMIT, PAGE_LIMIT, PAGE_SIZE,
-    PATH_LIMIT, SEGMENT_LIMIT, TRANSFER_LIMIT,
+    ARGUMENT_LIMIT, ENTRY_LIMIT, FILE_LIMIT, INDEX_LIMIT, LINK_MODE, MODE_LIMIT, NAME_LIMIT,
+    PAGE_LIMIT, PAGE_SIZE, PATH_LIMIT, SEGMENT_LIMIT, TRANSFER_LIMIT,
 };
 pub use memory::NoMemory;
+pub use refusal::{ImageErr, Refusal};
