@@ -1,0 +1,5 @@
+pub mod Cause
+pub mod Sink
+pub mod Store
+pub mod World
+pub mod Legal

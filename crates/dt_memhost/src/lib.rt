@@ -1,2 +1,2 @@
-//! dt_memhost
+//! Host, store and sink in memory, whose choices are words.
 #![tactic(auto)]

@@ -1,0 +1,51 @@
+-- Which answers of a host are legal: for each call a relation of the world before it, what was asked, the answer, and the world after it.
+use Rattle.std.specs.Prelude.{◌≡◌, ℕ, ◌-◌, ◌^◌, ◌<◌, ◌≤◌, min, List, [], ◌++◌, length, take, drop, None, Result, MatchResult}
+use Rattle.dt_host.specs.declared.kind.NodeKind.{NodeKind}
+use Rattle.dt_host.specs.declared.kind.NodeKind.TheVariants.{File}
+use Rattle.dt_host.specs.Sink.{MovesSome}
+use Rattle.dt_host.specs.World.{World, Node, file, node_at, with_node, with_forest, with_entry, with_bytes, content, overwritten}
+
+-- a new node of that kind
+abbrev pub new_node : NodeKind → Node
+new_node File = file []
+
+-- a new node was made under a number that was free
+pub record MadeAt (old : World) (kind : NodeKind) (new : World) (n : ℕ) : Type 0 where
+  pub positive : 1 ≤ n
+  pub free : node_at old.forest n ≡ None
+  pub made : new ≡ with_forest old (with_node old.forest n (new_node kind))
+
+-- the answers of `make`
+abbrev pub Makes : {E : Type 0} → World → NodeKind → Result ℕ E → World → Type 0
+Makes old kind result new = MatchResult result (MadeAt old kind new) (λ _. new ≡ old)
+
+-- the answers of `bind`
+abbrev pub Binds : {A E : Type 0} → World → ℕ → List ℕ → ℕ → Result A E → World → Type 0
+Binds old d name n result new =
+    MatchResult result (λ _. new ≡ with_forest old (with_entry old.forest d name n)) (λ _. new ≡ old)
+
+-- so many bytes of a file, from a place on, came into the front of a buffer
+pub record Reads (bytes : List ℕ) (off : ℕ) (old new : List ℕ) (count : ℕ) : Type 0 where
+  pub moved : MovesSome (min (length old) (length bytes - off)) count
+  pub front : new ≡ take count (drop off bytes) ++ drop count old
+  pub sized : length bytes < 2 ^ 64
+
+-- the world with bytes written over a file from a place on
+abbrev pub written : World → ℕ → ℕ → List ℕ → World
+written w n off bytes = with_forest w (with_bytes w.forest n (overwritten (content w.forest n) off bytes))
+
+-- so many of the bytes were written
+pub record WritesSome (old : World) (n off : ℕ) (bytes : List ℕ) (new : World) (count : ℕ) : Type 0 where
+  pub moved : MovesSome (length bytes) count
+  pub front : new ≡ written old n off (take count bytes)
+
+-- a front of the bytes was written, maybe none or all of them
+pub record WritesPart (old : World) (n off : ℕ) (bytes : List ℕ) (new : World) : Type 0 where
+  pub count : ℕ
+  pub within : count ≤ length bytes
+  pub front : new ≡ written old n off (take count bytes)
+
+-- the answers of `write_at`
+abbrev pub Writes : {E : Type 0} → World → ℕ → ℕ → List ℕ → Result ℕ E → World → Type 0
+Writes old n off bytes result new =
+    MatchResult result (WritesSome old n off bytes new) (λ _. WritesPart old n off bytes new)

@@ -1,0 +1,100 @@
+-- What a host keeps: the nodes of a tree by number, and which of them is the root.
+use Rattle.std.specs.Prelude.{◌≡◌, ℕ, ◌+◌, List, [], ◌++◌, length, take, drop, Option, None, Some, option_and_then, unwrap_or, IsSome}
+use Rattle.std.specs.Ordering.{nat_cmp}
+use Rattle.std.specs.Cmp.Lexicographic.{slice_cmp}
+use Rattle.std.specs.FinMap.{FinMap, empty, get, insert}
+
+-- the entries of a directory: a node's number by the bytes of its name
+abbrev pub Names : Type 0
+Names = FinMap (slice_cmp nat_cmp) ℕ
+
+-- the bytes of a file, the entries of a directory, or the target of a link
+pub data Node : Type 0 where
+  file : List ℕ → Node
+  dir : Names → Node
+  link : List ℕ → Node
+
+-- the live nodes by number, and the number of the root
+pub record Forest : Type 0 where
+  pub nodes : FinMap nat_cmp Node
+  pub root : ℕ
+
+-- all that a host keeps
+pub record World : Type 0 where
+  pub forest : Forest
+
+-- the node of that number
+abbrev pub node_at : Forest → ℕ → Option Node
+node_at v n = get v.nodes n
+
+-- the number is one of a node
+abbrev pub IsLive : Forest → ℕ → Type 0
+IsLive v n = IsSome (node_at v n)
+
+-- the bytes of a node that is a file
+abbrev pub file_bytes : Node → Option (List ℕ)
+file_bytes (file bytes) = Some bytes
+file_bytes (dir names) = None
+file_bytes (link target) = None
+
+-- the entries of a node that is a directory
+abbrev pub dir_names : Node → Option Names
+dir_names (file bytes) = None
+dir_names (dir names) = Some names
+dir_names (link target) = None
+
+-- the bytes of the file of that number
+abbrev pub file_at : Forest → ℕ → Option (List ℕ)
+file_at v n = option_and_then file_bytes (node_at v n)
+
+-- the entries of the directory of that number
+abbrev pub dir_at : Forest → ℕ → Option Names
+dir_at v n = option_and_then dir_names (node_at v n)
+
+-- the number is one of a file
+abbrev pub IsFile : Forest → ℕ → Type 0
+IsFile v n = IsSome (file_at v n)
+
+-- the number is one of a directory
+abbrev pub IsDir : Forest → ℕ → Type 0
+IsDir v n = IsSome (dir_at v n)
+
+-- the bytes of a file; none where there is no file
+unfoldable pub content : Forest → ℕ → List ℕ
+content v n = unwrap_or (file_at v n) []
+
+-- the entries of a directory; none where there is no directory
+unfoldable pub names_at : Forest → ℕ → Names
+names_at v d = unwrap_or (dir_at v d) empty
+
+-- the number that a directory has under a name
+unfoldable pub entry : Forest → ℕ → List ℕ → Option ℕ
+entry v d name = get (names_at v d) name
+
+-- the forest with this node under that number
+abbrev pub with_node : Forest → ℕ → Node → Forest
+with_node v n node = record v { nodes = insert v.nodes n node }
+
+-- the forest with these bytes as the file of that number
+unfoldable pub with_bytes : Forest → ℕ → List ℕ → Forest
+with_bytes v n bytes = with_node v n (file bytes)
+
+-- the forest with one entry more in that directory
+unfoldable pub with_entry : Forest → ℕ → List ℕ → ℕ → Forest
+with_entry v d name n = with_node v d (dir (insert (names_at v d) name n))
+
+-- bytes with others written over them from a place on
+abbrev pub overwritten : List ℕ → ℕ → List ℕ → List ℕ
+overwritten old off bytes = take off old ++ bytes ++ drop (off + length bytes) old
+
+-- the world with this forest
+abbrev pub with_forest : World → Forest → World
+with_forest w v = record w { forest = v }
+
+-- a world of nothing but a root without entries
+abbrev pub empty_world : ℕ → World
+empty_world root = record { forest = record { nodes = insert empty root (dir empty); root = root } }
+
+-- nothing is there but a root without entries
+abbrev pub IsEmptyStart : World → Type 0
+IsEmptyStart w = w ≡ empty_world w.forest.root

@@ -1,0 +1,88 @@
+ghost use Rattle.std.specs.Prelude.{◌≡◌};
+ghost use Rattle.dt_host.specs.declared.error.HostErr.TheVariants.{NoMemory as no_memory_of_host};
+ghost use Rattle.dt_host.specs.declared.error.StoreErr.TheVariants.{NoMemory as no_memory_of_store};
+ghost use Rattle.dt_host.specs.declared.error.SinkErr.TheVariants.{NoMemory as no_memory_of_sink};
+
+use std::alloc::{AllocError, AllocFailed};
+use thiserror::Error;
+
+/// Why a call of a host gave no answer.
+#[derive(Clone, Copy, Debug, PartialEq, Eq, Error)]
+pub enum HostErr {
+    /// The host failed, and counted it.
+    #[error("the host failed")]
+    Failed,
+    /// Memory ran out.
+    #[error("out of memory")]
+    NoMemory,
+}
+
+/// Why a call of a store gave no answer.
+#[derive(Clone, Copy, Debug, PartialEq, Eq, Error)]
+pub enum StoreErr {
+    /// The store failed, and counted it.
+    #[error("the store failed")]
+    Failed,
+    /// Memory ran out.
+    #[error("out of memory")]
+    NoMemory,
+}
+
+/// Why a sink took nothing.
+#[derive(Clone, Copy, Debug, PartialEq, Eq, Error)]
+pub enum SinkErr {
+    /// The sink failed, and counted it.
+    #[error("the sink failed")]
+    Failed,
+    /// Memory ran out.
+    #[error("out of memory")]
+    NoMemory,
+}
+
+impl From<AllocError> for HostErr {
+    ghost from_gives = { λ _ e. e ≡ no_memory_of_host };
+
+    fn from(_: AllocError) -> Self {
+        HostErr::NoMemory
+    }
+}
+
+impl<T: Drop> From<AllocFailed<T>> for HostErr {
+    ghost from_gives = { λ _ e. e ≡ no_memory_of_host };
+
+    fn from(_: AllocFailed<T>) -> Self {
+        HostErr::NoMemory
+    }
+}
+
+impl From<AllocError> for StoreErr {
+    ghost from_gives = { λ _ e. e ≡ no_memory_of_store };
+
+    fn from(_: AllocError) -> Self {
+        StoreErr::NoMemory
+    }
+}
+
+impl<T: Drop> From<AllocFailed<T>> for StoreErr {
+    ghost from_gives = { λ _ e. e ≡ no_memory_of_store };
+
+    fn from(_: AllocFailed<T>) -> Self {
+        StoreErr::NoMemory
+    }
+}
+
+impl From<AllocError> for SinkErr {
+    ghost from_gives = { λ _ e. e ≡ no_memory_of_sink };
+
+    fn from(_: AllocError) -> Self {
+        SinkErr::NoMemory
+    }
+}
+
+impl<T: Drop> From<AllocFailed<T>> for SinkErr {
+    ghost from_gives = { λ _ e. e ≡ no_memory_of_sink };
+
+    fn from(_: AllocFailed<T>) -> Self {
+        SinkErr::NoMemory
+    }
+}
