@@ -49,3 +49,8 @@ pub record WritesPart (old : World) (n off : ℕ) (bytes : List ℕ) (new : Worl
 abbrev pub Writes : {E : Type 0} → World → ℕ → ℕ → List ℕ → Result ℕ E → World → Type 0
 Writes old n off bytes result new =
     MatchResult result (WritesSome old n off bytes new) (λ _. WritesPart old n off bytes new)
+
+-- the answers of a write that goes on until all is written
+abbrev pub WritesAll : {A E : Type 0} → World → ℕ → ℕ → List ℕ → Result A E → World → Type 0
+WritesAll old n off bytes result new =
+    MatchResult result (λ _. new ≡ written old n off bytes) (λ _. WritesPart old n off bytes new)

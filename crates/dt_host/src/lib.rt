@@ -1,3 +1,4 @@
+//! The outside of dettrace: host, store, sink and gate, and whole transfers over calls that move a part.
 #![tactic(auto)]
 
 mod error;
@@ -6,6 +7,7 @@ mod host;
 mod kind;
 mod sink;
 mod store;
+mod whole;
 
 pub use error::{HostErr, SinkErr, StoreErr};
 pub use gate::{Gate, NoGate};
@@ -13,3 +15,4 @@ pub use host::Host;
 pub use kind::NodeKind;
 pub use sink::Sink;
 pub use store::Store;
+pub use whole::{read_whole, sink_all, store_whole, write_whole};

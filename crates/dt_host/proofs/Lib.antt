@@ -1,0 +1,4 @@
+pub mod Growth
+pub mod Transfers
+pub mod Maps
+pub mod Worlds
