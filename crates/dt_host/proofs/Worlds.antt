@@ -1,10 +1,9 @@
 -- What a change of a forest leaves, node by node.
-use Rattle.std.proofs.Common.{◌≡◌, ◌≢◌, ℕ, ◌+◌, ◌≤◌, List, [], ◌++◌, length, Option, Some, None, refl, sym, ap, subst, ◌∙◌, arith}
+use Rattle.std.proofs.Common.{◌≡◌, ◌≢◌, ℕ, ◌+◌, ◌≤◌, List, [], ◌++◌, length, Option, Some, None, refl, sym, ap, subst, ◌∙◌}
 use Rattle.std.specs.Prelude.{IsSome, unwrap_or, option_and_then}
-use Rattle.std.specs.Ordering.{nat_cmp}
 use Rattle.std.specs.Cmp.{nat_cmp_total}
-use Rattle.std.specs.FinMap.{FinMap, get, insert, nat_cmp-IsAntisymmetric}
-use Rattle.dt_host.specs.World.{World, Forest, Node, Names, file, dir, link, node_at, file_at, dir_at, file_bytes, dir_names, IsFile, IsDir, IsLive, content, names_at, entry, with_node, with_bytes, with_entry, with_forest, overwritten}
+use Rattle.std.specs.FinMap.{nat_cmp-IsAntisymmetric}
+use Rattle.dt_host.specs.World.{World, Forest, Node, file, dir, link, node_at, file_at, file_bytes, IsFile, content, with_node, with_bytes, with_forest, overwritten}
 use Rattle.dt_host.specs.Legal.{written}
 use Rattle.dt_host.proofs.Maps.{get-insert_same, get-insert_other, insert_same, put_back}
 use Rattle.dt_host.proofs.Transfers.{overwritten-nil, overwritten-overwritten, length-overwritten}
