@@ -1,0 +1,3 @@
+pub mod Picks
+pub mod Script
+pub mod Sink

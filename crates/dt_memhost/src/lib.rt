@@ -1,2 +1,9 @@
-//! Host, store and sink in memory, whose choices are words.
+//! Host, store and sink in memory. They choose by words, and fail at the calls that are listed.
 #![tactic(auto)]
+
+mod picker;
+mod script;
+mod sink;
+
+pub use picker::Picker;
+pub use sink::MemSink;

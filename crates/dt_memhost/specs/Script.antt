@@ -1,0 +1,39 @@
+-- What a host, a store or a sink in memory goes by: the words of its choices and the calls that fail.
+use Rattle.std.specs.Prelude.{ℕ, ◌+◌, ◌-◌, ◌^◌, ◌==◌, ◌||◌, min, Bool, List, if◌then◌else◌}
+use Rattle.std.specs.List.{list_any}
+use Rattle.dt_memhost.specs.Picks.{Picks, next_of}
+
+-- the words, the numbers of the calls that fail, and how many calls were made and how many failed
+pub record Script : Type 0 where
+  pub picks : Picks
+  pub fails : List ℕ
+  pub calls : ℕ
+  pub faults : ℕ
+
+-- one more, until the last value of 64 bits
+abbrev pub one_more : ℕ → ℕ
+one_more count = min (count + 1) (2 ^ 64 - 1)
+
+-- the next call is listed; calls are counted from 1
+abbrev pub fails_next : Script → Bool
+fails_next s = list_any (λ number. number == one_more s.calls) s.fails
+
+-- the script once a call was made
+abbrev pub counted : Script → Script
+counted s = record s { calls = one_more s.calls }
+
+-- the script once a call has failed
+abbrev pub failed : Script → Script
+failed s = record s { calls = one_more s.calls; faults = one_more s.faults }
+
+-- the script once a word was taken
+abbrev pub picked : Script → Script
+picked s = record s { picks = (next_of s.picks).1 }
+
+-- the next word
+abbrev pub word_of : Script → ℕ
+word_of s = (next_of s.picks).0
+
+-- the script of these words and failing calls, before any call
+abbrev pub script_of : Picks → List ℕ → Script
+script_of picks fails = record { picks = picks; fails = fails; calls = 0; faults = 0 }

@@ -1,0 +1,46 @@
+-- A sink in memory, and how it answers.
+use Rattle.std.specs.Prelude.{◌≡◌, ℕ, ◌-◌, ◌||◌, min, Bool, false, List, ◌++◌, length, take, Option, None, Some, Ok, Err, Result, MatchBool, MatchResult, nat_le}
+use Rattle.dt_host.specs.declared.error.SinkErr.{SinkErr}
+use Rattle.dt_host.specs.declared.error.SinkErr.TheVariants.{Failed, NoMemory}
+use Rattle.dt_memhost.specs.Picks.{length_by}
+use Rattle.dt_memhost.specs.Script.{Script, fails_next, counted, failed, picked, word_of}
+
+-- the bytes so far, how many may stand if that is limited, and the script
+pub record SinkState : Type 0 where
+  pub bytes : List ℕ
+  pub room : Option ℕ
+  pub script : Script
+
+-- no more bytes have room
+abbrev pub is_full : Option ℕ → ℕ → Bool
+is_full None count = false
+is_full (Some room) count = nat_le room count
+
+-- how many of so many more bytes have room
+abbrev pub fitting : Option ℕ → ℕ → ℕ → ℕ
+fitting None count more = more
+fitting (Some room) count more = min more (room - count)
+
+-- the next call fails: it is listed, or there is no room
+abbrev pub refuses : SinkState → Bool
+refuses s = is_full s.room (length s.bytes) || fails_next s.script
+
+-- a call that fails is counted, and changes nothing else
+pub record FailsAtSink (old : SinkState) (result : Result ℕ SinkErr) (new : SinkState) : Type 0 where
+  pub failed_only : result ≡ Err Failed
+  pub counts : new ≡ record old { script = failed old.script }
+
+-- a word chooses how much of a piece is taken
+pub record TakesSome (old : SinkState) (piece : List ℕ) (new : SinkState) (count : ℕ) : Type 0 where
+  pub chosen : count ≡ length_by (word_of old.script) (fitting old.room (length old.bytes) (length piece))
+  pub taken : new ≡ record old { bytes = old.bytes ++ take count piece; script = picked (counted old.script) }
+
+-- memory ran out: nothing is taken but the word
+pub record TakesNone (old new : SinkState) (error : SinkErr) : Type 0 where
+  pub memory_only : error ≡ NoMemory
+  pub kept : new ≡ record old { script = picked (counted old.script) }
+
+-- how a sink in memory answers
+abbrev pub WritesBy : SinkState → List ℕ → Result ℕ SinkErr → SinkState → Type 0
+WritesBy old piece result new =
+    MatchBool (refuses old) (FailsAtSink old result new) (MatchResult result (TakesSome old piece new) (TakesNone old new))

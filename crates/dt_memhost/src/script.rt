@@ -1,0 +1,76 @@
+ghost use Rattle.std.specs.Prelude.{◌≡◌, ◌<◌, ◌^◌, ◌||◌, if◌then◌else◌};
+ghost use Rattle.dt_memhost.specs.Picks.{length_by};
+ghost use Rattle.dt_memhost.specs.Script.{script_of, fails_next, counted, failed, picked, word_of};
+
+use crate::picker::Picker;
+use std::marker::Model;
+
+/// The words of the choices and the calls that fail.
+#[derive(Drop)]
+pub(crate) struct Script {
+    picker: Picker,
+    fails: Vec<u64>,
+    calls: u64,
+    faults: u64,
+}
+
+impl Model for Script {
+    ghost use Rattle.dt_memhost.specs.Script.{Script as ScriptState};
+
+    ghost Value = { ScriptState };
+
+    ghost view = { λ s. record { picks = s.picker; fails = s.fails.items; calls = s.calls; faults = s.faults } };
+}
+
+impl Script {
+    ghost use Rattle.std.specs.Prelude.{◌≤◌, length};
+
+    pub(crate) fn new(picker: Picker, fails: Vec<u64>) -> Script
+        ensures { result ≡ script_of picker fails.items }
+    {
+        Script {
+            picker,
+            fails,
+            calls: 0,
+            faults: 0,
+        }
+    }
+
+    // How many calls failed.
+    pub(crate) fn faults(&self) -> u64
+        ensures value { result ≡ self.now.faults }
+        ensures small { self.now.faults < 2 ^ 64 }
+    {
+        self.faults
+    }
+
+    // Counts a call, and says whether it fails: because it is listed, or for another reason that is known.
+    pub(crate) fn fails(&mut self, refused: bool) -> bool
+        ensures answer { result ≡ (refused || fails_next self.old) }
+        ensures after { self.new ≡ (if result then failed self.old else counted self.old) }
+    {
+        self.calls = self.calls.saturating_add(1);
+        let fails = refused || self.fails.contains(&self.calls);
+        if fails {
+            self.faults = self.faults.saturating_add(1);
+        }
+        fails
+    }
+
+    // A word.
+    pub(crate) fn word(&mut self) -> u32
+        ensures word { result ≡ word_of self.old }
+        ensures after { self.new ≡ picked self.old }
+    {
+        self.picker.word()
+    }
+
+    // A length from 1 to `most`, by a word.
+    pub(crate) fn length(&mut self, most: usize) -> usize
+        requires { 0 < most }
+        ensures word { result ≡ length_by (word_of self.old) most }
+        ensures after { self.new ≡ picked self.old }
+    {
+        1 + self.word() as usize % most
+    }
+}
