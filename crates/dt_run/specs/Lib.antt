@@ -1,0 +1,14 @@
+pub mod Options
+pub mod Errors
+pub mod Installed
+pub mod Space
+pub mod Piece
+pub mod Instruction
+pub mod Machine
+pub mod Segment
+pub mod Process
+pub mod Call
+pub mod Turn
+pub mod Course
+pub mod Tree
+pub mod Report

@@ -1,2 +1,14 @@
-//! dt_run
+//! A run: from words, an image and a command to a report.
 #![tactic(auto)]
+
+mod call;
+mod error;
+mod install;
+mod machine;
+mod options;
+mod process;
+mod report;
+mod space;
+mod turn;
+
+pub use error::RunErr;

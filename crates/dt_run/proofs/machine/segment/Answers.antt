@@ -1,0 +1,25 @@
+use Rattle.std.proofs.Common.{◌≡◌, ◌∙◌, ◌-◌, ◌+◌, refl, arith}
+use Rattle.dt_base.specs.declared.limits.TheConstants.{SEGMENT_LIMIT}
+use Rattle.dt_run.proofs.Runs.{run-step, run-end, segment-starts}
+use Rattle.dt_run.proofs.machine.segment.Goals as goal
+use Rattle.dt_run.proofs.machine.segment.Goals.{in-Call, in-Fault}
+
+pub loop-made-init : goal.loop-made-init
+loop-made-init c = segment-starts _
+
+-- a step that ran leaves the rest of the segment
+pub loop-made-preserved : goal.loop-made-preserved
+loop-made-preserved c = c.loop-made.invariant ∙ run-step (SEGMENT_LIMIT - c.loop-made.made) (SEGMENT_LIMIT - (c.loop-made.made + 1)) c.loop-made.made _ _ _ (omega arith) c.in-Ran.ensures
+
+-- any other step is the last
+pub returns-in-loop-made-clause-run : goal.returns-in-loop-made-clause-run
+returns-in-loop-made-clause-run c = elim c.match-step.branch [
+  | in-Call w ↦ rw w.stop-is (c.loop-made.invariant ∙ run-step (SEGMENT_LIMIT - c.loop-made.made) (SEGMENT_LIMIT - (c.loop-made.made + 1)) c.loop-made.made _ _ _ (omega arith) w.in-Call.ensures)
+  | in-Fault w ↦ rw w.stop-is (c.loop-made.invariant ∙ run-step (SEGMENT_LIMIT - c.loop-made.made) (SEGMENT_LIMIT - (c.loop-made.made + 1)) c.loop-made.made _ _ _ (omega arith) w.in-Fault.ensures)
+]
+
+-- each of the steps ran
+pub returns-clause-run : goal.returns-clause-run
+returns-clause-run c =
+    let made : c.loop-made.made ≡ SEGMENT_LIMIT = omega arith in
+    c.loop-made.invariant ∙ run-end _ _ _ (omega arith) ∙ rw made refl

@@ -1,0 +1,10 @@
+-- How a host holds the image of one file.
+use Rattle.std.specs.Prelude.{◌≡◌, ℕ, List, Some}
+use Rattle.std.specs.FinMap.{empty, insert}
+use Rattle.dt_host.specs.World.{World, dir_at, file_at}
+
+-- the root has one entry, and under its name stands a file of these bytes
+pub record HoldsFile (w : World) (name bytes : List ℕ) : Type 0 where
+  pub number : ℕ
+  pub root : dir_at w.forest w.forest.root ≡ Some (insert empty name number)
+  pub file : file_at w.forest number ≡ Some bytes
