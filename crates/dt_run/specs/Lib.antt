@@ -1,5 +1,7 @@
 pub mod Options
 pub mod Errors
+pub mod Failure
+pub mod Failures
 pub mod Installed
 pub mod Space
 pub mod Piece

@@ -3,6 +3,7 @@
 
 mod call;
 mod error;
+mod failure;
 mod install;
 mod machine;
 mod options;

@@ -1,0 +1,28 @@
+-- What a line of an error says, and with which status a run ends then.
+use Rattle.std.specs.Prelude.{ℕ, ◌+◌, List, ◌∷◌, ◌++◌, codes}
+use Rattle.dt_base.specs.declared.refusal.Refusal.{Refusal}
+use Rattle.dt_base.specs.Refusal.{refusal_number, refusal_name}
+use Rattle.dt_run.specs.declared.failure.Failure.{Failure}
+use Rattle.dt_run.specs.declared.failure.Failure.TheVariants.{Usage, Image, Store, Host, Output, NoMemory}
+
+-- the digit of a refusal's number, which is one from 1 to 8
+abbrev pub refusal_digit : Refusal → ℕ
+refusal_digit refusal = 48 + refusal_number refusal
+
+-- the line on the error stream
+abbrev pub failure_line : Failure → List ℕ
+failure_line Usage = codes "dettrace: usage: dettrace run IMAGE -- PROGRAM\n"
+failure_line (Image refusal) = codes "dettrace: image refused: " ++ (refusal_digit refusal ∷ (codes " " ++ (refusal_name refusal ++ codes "\n")))
+failure_line Store = codes "dettrace: store fault\n"
+failure_line Host = codes "dettrace: host fault\n"
+failure_line Output = codes "dettrace: output fault\n"
+failure_line NoMemory = codes "dettrace: out of memory\n"
+
+-- the status
+abbrev pub failure_status : Failure → ℕ
+failure_status Usage = 2
+failure_status (Image refusal) = 3
+failure_status Store = 4
+failure_status Host = 5
+failure_status Output = 6
+failure_status NoMemory = 7

@@ -1,0 +1,26 @@
+-- The failure that an error of a part stands for.
+use Rattle.dt_base.specs.declared.refusal.ImageErr.{ImageErr}
+use Rattle.dt_base.specs.declared.refusal.ImageErr.TheVariants.{Refused as ImageRefused, Store as StoreFailed, NoMemory as NoImageMemory}
+use Rattle.dt_run.specs.declared.options.UsageErr.{UsageErr}
+use Rattle.dt_run.specs.declared.options.UsageErr.TheVariants.{Refused as WordsRefused, NoMemory as NoWordsMemory}
+use Rattle.dt_run.specs.declared.error.RunErr.{RunErr}
+use Rattle.dt_run.specs.declared.error.RunErr.TheVariants.{Host as HostFailed, Sink as SinkFailed, NoMemory as NoRunMemory}
+use Rattle.dt_run.specs.declared.failure.Failure.{Failure}
+use Rattle.dt_run.specs.declared.failure.Failure.TheVariants.{Usage, Image, Store, Host, Output, NoMemory}
+
+-- of an error in the words
+abbrev pub of_usage : UsageErr → Failure
+of_usage WordsRefused = Usage
+of_usage NoWordsMemory = NoMemory
+
+-- of an error in reading the image
+abbrev pub of_image : ImageErr → Failure
+of_image (ImageRefused refusal) = Image refusal
+of_image StoreFailed = Store
+of_image NoImageMemory = NoMemory
+
+-- of an error in the run
+abbrev pub of_run : RunErr → Failure
+of_run HostFailed = Host
+of_run SinkFailed = Output
+of_run NoRunMemory = NoMemory

@@ -1,0 +1,119 @@
+// How a call that ran nothing to its end is told.
+ghost use Rattle.std.specs.Prelude.{◌≡◌};
+ghost use Rattle.dt_run.specs.Failure.{failure_status, failure_line};
+ghost use Rattle.dt_run.specs.declared.failure.Failure.TheVariants.{NoMemory as OutOfMemory};
+
+use crate::error::RunErr;
+use crate::options::UsageErr;
+use dt_base::{ImageErr, NoMemory, Refusal};
+
+/// Why there is no whole report, in the order in which it is found.
+#[derive(Clone, Copy, Debug, PartialEq, Eq)]
+pub enum Failure {
+    /// The words of the command line are refused.
+    Usage,
+    /// The image is refused.
+    Image(Refusal),
+    /// The store failed.
+    Store,
+    /// The host failed.
+    Host,
+    /// The sink of the report failed.
+    Output,
+    /// Memory ran out.
+    NoMemory,
+}
+
+impl Failure {
+    /// The status that the program ends with.
+    pub fn status(self) -> u8
+        ensures { result ≡ failure_status self }
+    {
+        match self {
+            Failure::Usage => 2,
+            Failure::Image(_) => 3,
+            Failure::Store => 4,
+            Failure::Host => 5,
+            Failure::Output => 6,
+            Failure::NoMemory => 7,
+        }
+    }
+
+    /// The line on the error stream. It takes no memory, since that may be what is wanting.
+    pub fn line(self) -> &'static str
+        ensures { result.now ≡ failure_line self }
+    {
+        match self {
+            Failure::Usage => "dettrace: usage: dettrace run IMAGE -- PROGRAM\n",
+            Failure::Image(refusal) => image_line(refusal),
+            Failure::Store => "dettrace: store fault\n",
+            Failure::Host => "dettrace: host fault\n",
+            Failure::Output => "dettrace: output fault\n",
+            Failure::NoMemory => "dettrace: out of memory\n",
+        }
+    }
+}
+
+fn image_line(refusal: Refusal) -> &'static str
+    ensures { result.now ≡ failure_line (Failure.Image refusal) }
+{
+    match refusal {
+        Refusal::NoIndex => "dettrace: image refused: 1 NoIndex\n",
+        Refusal::BadIndex => "dettrace: image refused: 2 BadIndex\n",
+        Refusal::BadPath => "dettrace: image refused: 3 BadPath\n",
+        Refusal::Twice => "dettrace: image refused: 4 Twice\n",
+        Refusal::NoParent => "dettrace: image refused: 5 NoParent\n",
+        Refusal::NoBlob => "dettrace: image refused: 6 NoBlob\n",
+        Refusal::TooBig => "dettrace: image refused: 7 TooBig\n",
+        Refusal::TooMany => "dettrace: image refused: 8 TooMany\n",
+    }
+}
+
+impl From<UsageErr> for Failure {
+    ghost use Rattle.dt_run.specs.Failures.{of_usage};
+
+    ghost from_gives = { λ e f. f ≡ of_usage e };
+
+    fn from(e: UsageErr) -> Self {
+        match e {
+            UsageErr::Refused => Failure::Usage,
+            UsageErr::NoMemory => Failure::NoMemory,
+        }
+    }
+}
+
+impl From<ImageErr> for Failure {
+    ghost use Rattle.dt_run.specs.Failures.{of_image};
+
+    ghost from_gives = { λ e f. f ≡ of_image e };
+
+    fn from(e: ImageErr) -> Self {
+        match e {
+            ImageErr::Refused(refusal) => Failure::Image(refusal),
+            ImageErr::Store => Failure::Store,
+            ImageErr::NoMemory => Failure::NoMemory,
+        }
+    }
+}
+
+impl From<RunErr> for Failure {
+    ghost use Rattle.dt_run.specs.Failures.{of_run};
+
+    ghost from_gives = { λ e f. f ≡ of_run e };
+
+    fn from(e: RunErr) -> Self {
+        match e {
+            RunErr::Host => Failure::Host,
+            RunErr::Sink => Failure::Output,
+            RunErr::NoMemory => Failure::NoMemory,
+        }
+    }
+}
+
+impl From<NoMemory> for Failure {
+    ghost from_gives = { λ _ f. f ≡ OutOfMemory };
+
+    fn from(_: NoMemory) -> Self {
+        Failure::NoMemory
+    }
+}
