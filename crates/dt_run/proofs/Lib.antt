@@ -1,6 +1,10 @@
 pub mod Installing
+pub mod Launching
 pub mod Pages
 pub mod Loads
 pub mod Runs
-pub mod Modes
+pub mod Headers
+pub mod Following
+pub mod Placed
 pub mod Courses
+pub mod Modes

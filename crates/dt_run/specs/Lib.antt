@@ -5,9 +5,13 @@ pub mod Failures
 pub mod Installed
 pub mod Space
 pub mod Piece
+pub mod Pages
 pub mod Instruction
 pub mod Machine
 pub mod Segment
+pub mod Executable
+pub mod FirstMachine
+pub mod Launch
 pub mod Process
 pub mod Call
 pub mod Turn

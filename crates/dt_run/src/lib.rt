@@ -2,9 +2,11 @@
 #![tactic(auto)]
 
 mod call;
+mod elf;
 mod error;
 mod failure;
 mod install;
+mod launch;
 mod machine;
 mod options;
 mod process;

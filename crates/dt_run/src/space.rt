@@ -1,10 +1,12 @@
 // A process's memory: a sorted list of pages.
-ghost use Rattle.std.specs.Prelude.{◌≡◌, ◌<◌, ◌≤◌, ◌+◌, ◌^◌, true, false, drop, length, MatchOption, MatchResult, OnOk, OnSome, OnErr, IsOk, Ok, Err};
+ghost use Rattle.std.specs.Prelude.{◌≡◌, ◌<◌, ◌≤◌, ◌+◌, ◌^◌, ◌++◌, [], IfOk, true, false, drop, length, MatchOption, MatchResult, OnOk, OnSome, OnErr, IsOk, Ok, Err};
 ghost use Rattle.std.specs.Option.{option_copied};
 ghost use Rattle.dt_run.specs.Space.{has, page_at, load, loaded};
+ghost use Rattle.dt_run.specs.Pages.{filled, pages_from, EndsBelow};
 ghost use Rattle.dt_run.specs.Piece.{IsRest, IsPiece};
 
-use dt_base::PAGE_SIZE;
+use dt_base::{NoMemory, PAGE_LIMIT, PAGE_SIZE};
+use std::alloc::Global;
 use std::marker::Model;
 
 /// The right to read.
@@ -39,6 +41,21 @@ impl Model for Page {
 }
 
 impl Page {
+    // A page of these bytes, filled up with zeros.
+    fn new(alloc: Global, number: u64, rights: u8, contents: &[u8]) -> Result<Self, NoMemory>
+        requires { length contents.now ≤ PAGE_SIZE }
+        ensures { IfOk result (λ page. page ≡ record { number = number; rights = rights; bytes = filled contents.now }) }
+    {
+        let mut bytes = [0; 4096];
+        bytes[..contents.len()].copy_from_slice(contents);
+        let bytes = Box::new(alloc, bytes)?;
+        Ok(Page {
+            number,
+            rights,
+            bytes,
+        })
+    }
+
     // The bytes from an offset to the page's end, where the page has the right.
     fn bytes_from(&self, right: u8, offset: u64) -> Option<&[u8]>
         requires { offset < PAGE_SIZE }
@@ -70,6 +87,40 @@ impl Model for Space {
 }
 
 impl Space {
+    /// A space without a page.
+    pub fn new(alloc: Global) -> Self
+        ensures { result ≡ [] }
+    {
+        Space {
+            pages: Vec::new(alloc),
+        }
+    }
+
+    /// The space with `count` pages more, above all of its own, from the number `first` on. The
+    /// contents run through them, and zeros follow.
+    pub fn with_pages(
+        self,
+        alloc: Global,
+        first: u64,
+        count: u64,
+        rights: u8,
+        contents: &[u8],
+    ) -> Result<Self, NoMemory>
+        requires above { EndsBelow self first }
+        requires low { first + count ≤ 2 ^ 26 }
+        requires few { length self + count ≤ PAGE_LIMIT }
+        ensures { IfOk result (λ space. space ≡ self ++ pages_from first rights contents.now count) }
+    {
+        let Space { mut pages } = self;
+        let mut rest = contents;
+        for number in first..first + count {
+            let (piece, after) = rest.split_at((PAGE_SIZE as usize).min(rest.len()));
+            pages.push(Page::new(alloc, number, rights, piece)?)?;
+            rest = after;
+        }
+        Ok(Space { pages })
+    }
+
     /// How many pages there are.
     pub fn pages(&self) -> usize
         ensures { result ≡ length self.now }

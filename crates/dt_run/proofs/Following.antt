@@ -1,0 +1,91 @@
+-- Pages that follow one another, and a space that gets them.
+use Rattle.std.proofs.Common.{◌≡◌, ℕ, zero, suc, ◌+◌, ◌-◌, ◌<◌, ◌≤◌, ◌^◌, inl, inr, List, [], ◌∷◌, ◌++◌, length, take, drop, replicate, min, refl, ◌∙◌, ap, arith}
+use Rattle.std.proofs.lemmas.List.{length-append, append_assoc, append-nil, get_or_append_left, get_or-append_right, take_min, drop_min, drop-replicate}
+use Rattle.std.proofs.lemmas.Bool.{cases_lt}
+use Rattle.dt_base.specs.declared.limits.TheConstants.{PAGE_SIZE, PAGE_LIMIT}
+use Rattle.dt_run.specs.Space.{PageView, number_at, IsSpace}
+use Rattle.dt_run.specs.Pages.{filled, pages_from, EndsBelow}
+
+-- bytes written over the first zeros of a page
+pub filled-from : (bytes written : List ℕ) → written ≡ bytes → written ++ drop (length bytes) (replicate PAGE_SIZE 0) ≡ filled bytes
+unfolding filled
+filled-from bytes written is = rw (is, drop-replicate {X = ℕ} (length bytes) PAGE_SIZE 0) refl
+
+pages_from-zero : (number rights : ℕ) (contents : List ℕ) (left : ℕ) → left ≡ 0 → pages_from number rights contents left ≡ []
+unfolding pages_from
+pages_from-zero number rights contents left is = rw is refl
+
+pages_from-suc : (number rights : ℕ) (contents : List ℕ) (left rest : ℕ) → left ≡ suc rest → pages_from number rights contents left ≡ record { number = number; rights = rights; bytes = filled (take PAGE_SIZE contents) } ∷ pages_from (number + 1) rights (drop PAGE_SIZE contents) rest
+unfolding pages_from
+pages_from-suc number rights contents left rest is = rw is refl
+
+-- what has been added, and what is still to be added
+pub pages-start : (pages : List PageView) (number rights : ℕ) (contents : List ℕ) (left count : ℕ) → left ≡ count → pages ++ pages_from number rights contents left ≡ pages ++ pages_from number rights contents count
+pages-start pages number rights contents left count is = rw is refl
+
+pub pages-end : (pages : List PageView) (number rights : ℕ) (contents : List ℕ) (left : ℕ) → left ≡ 0 → pages ++ pages_from number rights contents left ≡ pages
+pages-end pages number rights contents left is = rw (pages_from-zero number rights contents left is) (append-nil pages)
+
+pub pages-more : (pages : List PageView) (number rights : ℕ) (contents : List ℕ) (left rest : ℕ) (page : PageView) → left ≡ suc rest → page ≡ record { number = number; rights = rights; bytes = filled (take (min PAGE_SIZE (length contents)) contents) }
+    → (pages ++ page ∷ []) ++ pages_from (number + 1) rights (drop (min PAGE_SIZE (length contents)) contents) rest ≡ pages ++ pages_from number rights contents left
+pages-more pages number rights contents left rest page is page_is =
+    append_assoc pages (page ∷ []) _ ∙ rw (page_is, take_min PAGE_SIZE contents, drop_min PAGE_SIZE contents, pages_from-suc number rights contents left rest is) refl
+
+pub length-pages_from : (number rights : ℕ) (contents : List ℕ) (count : ℕ) → length (pages_from number rights contents count) ≡ count
+unfolding pages_from
+length-pages_from number rights contents zero = refl
+length-pages_from number rights contents (suc count) = ap suc (length-pages_from (number + 1) rights (drop PAGE_SIZE contents) count)
+
+number_at-pages_from : (number rights : ℕ) (contents : List ℕ) (count i : ℕ) → i < count → number_at (pages_from number rights contents count) i ≡ number + i
+unfolding pages_from
+number_at-pages_from number rights contents zero i lt = absurd (omega (arith, lt))
+number_at-pages_from number rights contents (suc count) zero lt = omega arith
+number_at-pages_from number rights contents (suc count) (suc i) lt = omega (arith, number_at-pages_from (number + 1) rights (drop PAGE_SIZE contents) count i (omega (arith, lt)))
+
+module _ (pages : List PageView) (space : IsSpace pages) (first rights : ℕ) (contents : List ℕ) (count : ℕ) (above : EndsBelow pages first) where
+  none : PageView
+  none = record { number = 0; rights = 0; bytes = [] }
+
+  long : length (pages ++ pages_from first rights contents count) ≡ length pages + count
+  long = length-append pages (pages_from first rights contents count) ∙ ap (λ n. length pages + n) (length-pages_from first rights contents count)
+
+  -- the numbers of the pages that were there
+  here : (i : ℕ) → i < length pages → number_at (pages ++ pages_from first rights contents count) i ≡ number_at pages i
+  here i lt = ap (λ (page : PageView). page.number) (get_or_append_left pages _ (record { number = 0; rights = 0; bytes = [] }) i lt)
+
+  -- and of those added
+  there : (i : ℕ) → length pages ≤ i → i < length pages + count → number_at (pages ++ pages_from first rights contents count) i ≡ first + (i - length pages)
+  there i le lt = ap (λ (page : PageView). page.number) (get_or-append_right pages _ (length pages) i (record { number = 0; rights = 0; bytes = [] }) refl le) ∙ number_at-pages_from first rights contents count (i - length pages) (omega arith)
+
+  pub IsSpace-more : first + count ≤ 2 ^ 26 → length pages + count ≤ PAGE_LIMIT → IsSpace (pages ++ pages_from first rights contents count)
+  IsSpace-more low few = record { rising = rising; low = is_low; few = omega (arith, long) }
+    where
+      rising : (i j : ℕ) → i < j → j < length (pages ++ pages_from first rights contents count) → number_at (pages ++ pages_from first rights contents count) i < number_at (pages ++ pages_from first rights contents count) j
+      rising i j lt within = elim (cases_lt j (length pages)) [
+        | inl both ↦ omega (arith, here i (omega arith), here j both, space.rising i j lt both)
+        | inr last ↦ elim (cases_lt i (length pages)) [
+          | inl front ↦ omega (arith, here i front, there j last (omega (arith, long)), above i front)
+          | inr back ↦ omega (arith, there i back (omega (arith, long)), there j last (omega (arith, long)))
+        ]
+      ]
+
+      is_low : (i : ℕ) → i < length (pages ++ pages_from first rights contents count) → number_at (pages ++ pages_from first rights contents count) i < 2 ^ 26
+      is_low i within = elim (cases_lt i (length pages)) [
+        | inl front ↦ omega (arith, here i front, space.low i front)
+        | inr back ↦ omega (arith, there i back (omega (arith, long)), long)
+      ]
+
+  pub EndsBelow-more : (next : ℕ) → first + count ≤ next → EndsBelow (pages ++ pages_from first rights contents count) next
+  EndsBelow-more next le i within = elim (cases_lt i (length pages)) [
+    | inl front ↦ omega (arith, here i front, above i front)
+    | inr back ↦ omega (arith, there i back (omega (arith, long)), long)
+  ]
+
+-- a space's first pages
+pub first-pages-end : (pages : List PageView) (first rights : ℕ) (contents : List ℕ) (count next : ℕ) → pages ≡ pages_from first rights contents count → first + count ≤ next → EndsBelow pages next
+first-pages-end pages first rights contents count next is le i within =
+    let lt : i < count = omega (arith, within, ap length is, length-pages_from first rights contents count) in
+    omega (arith, ap (λ p. number_at p i) is, number_at-pages_from first rights contents count i lt)
+
+pub first-pages-length : (pages : List PageView) (first rights : ℕ) (contents : List ℕ) (count : ℕ) → pages ≡ pages_from first rights contents count → length pages ≡ count
+first-pages-length pages first rights contents count is = ap length is ∙ length-pages_from first rights contents count

@@ -1,0 +1,21 @@
+use Rattle.std.proofs.Common.{ap, ◌∙◌, arith, Err}
+use Rattle.std.proofs.lemmas.Result.{err_from_is_err_and}
+use Rattle.dt_run.proofs.Placed.{exe-placed, not-too-big, page_count-bound}
+use Rattle.dt_run.specs.Executable.{IsPlaced}
+use Rattle.dt_run.proofs.elf.start.Goals as goal
+
+pub pages-requires : goal.pages-requires
+pages-requires c = let placed : IsPlaced c.args.bytes.now c.args.elf.now.segment = exe-placed c.args.bytes.now c.args.elf.now c.requires in placed.below
+
+pub overflow_add-pages : goal.overflow_add-pages
+overflow_add-pages c =
+    let bound = page_count-bound c.args.bytes.now c.args.elf.now.segment (exe-placed c.args.bytes.now c.args.elf.now c.requires) in
+    omega (arith, bound)
+
+pub load-requires-clause-placed : goal.load-requires-clause-placed
+load-requires-clause-placed c = exe-placed c.args.bytes.now c.args.elf.now c.requires
+
+pub returns-in_err-space-clause-too_big : goal.returns-in_err-space-clause-too_big
+returns-in_err-space-clause-too_big c =
+    let p = err_from_is_err_and c.from_residual.result c.from_residual.ensures.1 in
+    not-too-big c.args.elf.now c.args.bytes.now c.pages.result _ (p.1 ∙ ap Err p.2) c.pages.ensures c.if-pages-gt-PAGE_LIMIT.false
