@@ -52,7 +52,7 @@ IsFile-found w e h name n is =
     let f = finds w e h name n is in
     subst (λ q. IsFile w.forest q) (sym f.number) (subst (λ found. IsSome found) (sym h.held.file) refl)
 
-content-found : (w : World) (e : Entry) (h : HoldsEntry w e) (name : List ℕ) (n : ℕ) → entry_at w.forest w.forest.root name ≡ Some n → content w.forest n ≡ h.bytes
+pub content-found : (w : World) (e : Entry) (h : HoldsEntry w e) (name : List ℕ) (n : ℕ) → entry_at w.forest w.forest.root name ≡ Some n → content w.forest n ≡ h.bytes
 unfolding content
 content-found w e h name n is =
     let f = finds w e h name n is in
@@ -74,9 +74,13 @@ missed_if true e isnt = absurd (isnt refl)
 missed_if false e isnt = refl
 
 -- what follows a first byte
-abbrev tail_of : List ℕ → Option (List ℕ)
+abbrev pub tail_of : List ℕ → Option (List ℕ)
 tail_of [] = None
 tail_of (b ∷ bytes) = Some bytes
+
+-- the names of one path in the root are the same
+pub same_names : (path a b : List ℕ) → path ≡ 47 ∷ a → path ≡ 47 ∷ b → a ≡ b
+same_names path a b first second = ap (λ found. unwrap_or (tail_of found) []) (sym first ∙ second)
 
 -- there is no program of that name
 pub launched-missed : (w : World) (e : Entry) (h : HoldsEntry w e) (name : List ℕ) → entry_at w.forest w.forest.root name ≡ None → Err NoEnt ≡ launched (e ∷ []) (Ok name)

@@ -8,3 +8,7 @@ pub mod Following
 pub mod Placed
 pub mod Courses
 pub mod Modes
+pub mod TopPaths
+pub mod Items
+pub mod Images
+pub mod Completed

@@ -1,5 +1,5 @@
 -- What `{:04o}` writes is a mode's text.
-use Rattle.std.proofs.Common.{◌≡◌, ℕ, ◌-◌, ◌^◌, false, [], ◌++◌, length, replicate}
+use Rattle.std.proofs.Common.{◌≡◌, ℕ, ◌-◌, ◌^◌, false, []}
 use Rattle.std.proofs.Math.Nat.{sub-zero}
 use Rattle.std.specs.Fmt.{padded_integral, char_count, format_spec, digits}
 use Rattle.std.proofs.lemmas.List.{append-nil}

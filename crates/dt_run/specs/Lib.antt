@@ -1,4 +1,7 @@
 pub mod Options
+pub mod Index
+pub mod IndexView
+pub mod ImageOf
 pub mod Errors
 pub mod Failure
 pub mod Failures
@@ -18,3 +21,6 @@ pub mod Turn
 pub mod Course
 pub mod Tree
 pub mod Report
+pub mod Run
+pub mod Asked
+pub mod Headline

@@ -1,5 +1,7 @@
 -- A process between its turns.
-use Rattle.std.specs.Prelude.{ℕ}
+use Rattle.std.specs.Prelude.{ℕ, ◌==◌, if◌then◌else◌}
+use Rattle.dt_base.specs.declared.event.End.{End}
+use Rattle.dt_base.specs.declared.event.End.TheVariants.{Code, Signal}
 use Rattle.dt_run.specs.declared.process.Process.{Process}
 use Rattle.dt_run.specs.declared.process.Phase.{Phase}
 use Rattle.dt_run.specs.declared.process.Phase.TheVariants.{Owes, Ran, Zombie}
@@ -26,3 +28,14 @@ abbrev pub cost_of : Phase → ℕ
 cost_of Owes = 0
 cost_of (Ran seg) = seg.count
 cost_of (Zombie end) = 0
+
+-- 0 where the process ended with code 0, and else 1
+abbrev pub ended_status : End → ℕ
+ended_status (Code code) = if code == 0 then 0 else 1
+ended_status (Signal signal) = 1
+
+-- the status of a run whose process is in this phase at the end: 10 where it has not ended
+abbrev pub status_of : Phase → ℕ
+status_of Owes = 10
+status_of (Ran seg) = 10
+status_of (Zombie end) = ended_status end

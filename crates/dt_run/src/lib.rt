@@ -5,12 +5,15 @@ mod call;
 mod elf;
 mod error;
 mod failure;
+mod image;
+mod index;
 mod install;
 mod launch;
 mod machine;
 mod options;
 mod process;
 mod report;
+mod run;
 mod space;
 mod turn;
 

@@ -16,7 +16,7 @@ pub enum Phase {
 }
 
 impl Phase {
-    ghost use Rattle.dt_run.specs.Process.{cost_of};
+    ghost use Rattle.dt_run.specs.Process.{cost_of, status_of};
 
     /// What a turn costs in this phase: the steps of the segment that was run.
     pub fn cost(self) -> u64
@@ -25,6 +25,17 @@ impl Phase {
         match self {
             Phase::Ran(seg) => u64::from(seg.count),
             Phase::Owes | Phase::Zombie(_) => 0,
+        }
+    }
+
+    /// The status of a run whose first process is in this phase at the end.
+    pub fn status(self) -> u8
+        ensures { result ≡ status_of self }
+    {
+        match self {
+            Phase::Zombie(End::Code(0)) => 0,
+            Phase::Zombie(_) => 1,
+            Phase::Owes | Phase::Ran(_) => 10,
         }
     }
 }

@@ -1,0 +1,54 @@
+-- What the program's call promises: its status, what it writes, and why.
+use Rattle.std.specs.Prelude.{◌≡◌, ◌⊎◌, ◌||◌, ◌==◌, ℕ, Bool, List, [], Option, Result, Ok, Err, nat_le, if◌then◌else◌}
+use Rattle.dt_base.specs.declared.refusal.Refusal.{Refusal}
+use Rattle.dt_host.specs.Cause.{Rose}
+use Rattle.dt_host.specs.Sink.{added, AddsPart}
+use Rattle.dt_run.specs.declared.failure.Failure.{Failure}
+use Rattle.dt_run.specs.declared.failure.Failure.TheVariants.{Usage, Image, Store, Host, Output, NoMemory}
+use Rattle.dt_run.specs.Failure.{failure_line}
+use Rattle.dt_run.specs.Run.{Outcome, report_of}
+
+-- the status of a run that was completed
+abbrev pub is_run_status : ℕ → Bool
+is_run_status status = (status == 0) || (status == 1) || (status == 10)
+
+-- a status that the program ends with
+abbrev pub is_status : ℕ → Bool
+is_status status = nat_le status 7 || (status == 10)
+
+-- the run that was asked for has this status, and its report was added
+pub record Completes (asked : Result Outcome Failure) (answer : ℕ) (old new : Option (List ℕ)) : Type 0 where
+  pub run : Outcome
+  pub accepted : asked ≡ Ok run
+  pub status : answer ≡ run.status
+  pub report : new ≡ added old (report_of run)
+
+-- the image that was asked for is refused
+pub record RefusesImage (asked : Result Outcome Failure) : Type 0 where
+  pub refusal : Refusal
+  pub refused : asked ≡ Err (Image refusal)
+
+-- the line of a refusal
+abbrev pub refused_line : Result Outcome Failure → List ℕ
+refused_line (Ok run) = []
+refused_line (Err failure) = failure_line failure
+
+-- the line of a status: none at 0, 1 and 10
+abbrev pub line_of : Result Outcome Failure → ℕ → List ℕ
+line_of asked status =
+    if status == 2 then failure_line Usage
+    else if status == 3 then refused_line asked
+    else if status == 4 then failure_line Store
+    else if status == 5 then failure_line Host
+    else if status == 6 then failure_line Output
+    else []
+
+-- a line was added whole, or a front of it and then the stream failed
+pub record TellsLine (line : List ℕ) (old new : Option (List ℕ)) (before now : ℕ) : Type 0 where
+  pub part : AddsPart old new line
+  pub whole : (new ≡ added old line) ⊎ Rose before now
+
+-- a front of some failure's line was added
+pub record TellsPart (old new : Option (List ℕ)) : Type 0 where
+  pub failure : Failure
+  pub part : AddsPart old new (failure_line failure)
