@@ -12,3 +12,6 @@ pub mod TopPaths
 pub mod Items
 pub mod Images
 pub mod Completed
+pub mod Askings
+pub mod Escapes
+pub mod Trees

@@ -16,6 +16,10 @@ is_run_status status = (status == 0) || (status == 1) || (status == 10)
 abbrev pub is_status : ℕ → Bool
 is_status status = nat_le status 7 || (status == 10)
 
+-- a status at which nothing was written: words or image were refused, or the store failed
+abbrev pub precedes_run : ℕ → Bool
+precedes_run status = (status == 2) || (status == 3) || (status == 4)
+
 -- the run that was asked for has this status, and its report was added
 pub record Completes (asked : Result Outcome Failure) (answer : ℕ) (old new : Option (List ℕ)) : Type 0 where
   pub run : Outcome

@@ -1,4 +1,7 @@
-//! A run: from words, an image and a command to a report.
+//! A run: from words, a store and a host to a report.
+//!
+//! `dettrace` is the call that the program makes. Its clauses say that what is written is the report of one
+//! function of the image, the command, the seed and the budget, whatever the host chooses.
 #![tactic(auto)]
 
 mod call;
@@ -15,6 +18,15 @@ mod process;
 mod report;
 mod run;
 mod space;
+mod top;
 mod turn;
 
+pub use elf::{Elf, ElfErr, Segment, StartErr, read_elf, start};
 pub use error::RunErr;
+pub use failure::Failure;
+pub use image::read_image;
+pub use machine::{Instr, Machine, Seg, Step, Stop, decode, segment};
+pub use options::{Options, UsageErr, read_options};
+pub use run::run_container;
+pub use space::{Miss, Space};
+pub use top::{dettrace, tell};

@@ -1,0 +1,98 @@
+-- What is asked for, by the words and the image, and which line tells of a failure.
+use Rattle.std.proofs.Common.{◌≡◌, ◌≢◌, ℕ, Bool, true, false, cond, List, [], ◌∷◌, Option, Some, None, Result, Ok, Err, refl, sym, ap, subst, ◌∙◌, eqb}
+use Rattle.std.specs.Prelude.{IsTrue, IfSome, IfOk, ◌⊎◌}
+use Rattle.std.proofs.Common.{⊎_elim}
+use Rattle.dt_base.specs.declared.image.Entry.{Entry}
+use Rattle.dt_base.specs.declared.event.End.{End}
+use Rattle.dt_base.specs.declared.event.End.TheVariants.{Code, Signal}
+use Rattle.dt_base.specs.declared.errno.Errno.{Errno}
+use Rattle.dt_base.specs.declared.refusal.Refusal.{Refusal}
+use Rattle.dt_base.specs.Command.{Words}
+use Rattle.dt_host.specs.Sink.{AddsPart}
+use Rattle.dt_host.specs.Store.{Files}
+use Rattle.dt_run.specs.declared.machine.Machine.{Machine}
+use Rattle.dt_run.specs.declared.process.Phase.{Phase}
+use Rattle.dt_run.specs.declared.process.Phase.TheVariants.{Owes, Ran, Zombie}
+use Rattle.dt_run.specs.declared.failure.Failure.{Failure}
+use Rattle.dt_run.specs.declared.failure.Failure.TheVariants.{Usage, Image, Store, Host, Output, NoMemory}
+use Rattle.dt_run.specs.Process.{status_of, ended_status}
+use Rattle.dt_run.specs.Course.{course}
+use Rattle.dt_run.specs.Options.{Request, request_of}
+use Rattle.dt_run.specs.ImageOf.{image_of}
+use Rattle.dt_run.specs.Failure.{failure_status, failure_line}
+use Rattle.dt_run.specs.Launch.{launch}
+use Rattle.dt_run.specs.Run.{Outcome, outcome_of, run_of, report_of}
+use Rattle.dt_run.specs.Asked.{asked, run_asked, run_on, asked_report, default_seed, default_budget}
+use Rattle.dt_run.specs.Headline.{is_run_status, Completes, RefusesImage, line_of, TellsLine}
+
+code_status : (b : Bool) → IsTrue (is_run_status (cond b 0 1))
+code_status true = refl
+code_status false = refl
+
+status_of-run : (phase : Phase) → IsTrue (is_run_status (status_of phase))
+status_of-run Owes = refl
+status_of-run (Ran seg) = refl
+status_of-run (Zombie (Code code)) = code_status (eqb code 0)
+status_of-run (Zombie (Signal signal)) = refl
+
+outcome_of-status : (entries : List Entry) (budget : ℕ) (started : Result Machine Errno) → IsTrue (is_run_status (outcome_of entries budget started).status)
+outcome_of-status entries budget (Ok m) = let last = course (record { process = record { machine = m; phase = Owes }; left = budget }) in status_of-run last.last.process.phase
+outcome_of-status entries budget (Err errno) = refl
+
+-- the status of a run is 0, 1 or 10
+pub run_of-status : (entries : List Entry) (words : Words) (seed budget status : ℕ) → status ≡ (run_of entries words seed budget).status → IsTrue (is_run_status status)
+unfolding run_of
+run_of-status entries words seed budget status is = subst (λ s. IsTrue (is_run_status s)) (sym is) (outcome_of-status entries budget (launch entries words))
+
+-- what was added is a part of the report of the run on the image that was read
+pub part_on : (told : Option Files) (folder at : List ℕ) (image : List Entry) (words : Words) (old new : Option (List ℕ)) → folder ≡ at → IfSome told (λ files. image_of files folder ≡ Ok image) → AddsPart old new (report_of (run_of image words default_seed default_budget)) → IfSome told (λ files. AddsPart old new (asked_report (run_on words (image_of files at))))
+part_on None folder at image words old new same read part = tt
+part_on (Some files) folder at image words old new same read part = subst (λ found. AddsPart old new (asked_report (run_on words found))) (sym (ap (image_of files) (sym same) ∙ read)) part
+
+-- what is asked for is the run of the words' request
+asked-request : (files : Files) (words : List (List ℕ)) (request : Request) → request_of words ≡ Some request → asked files words ≡ run_on request.command (image_of files request.image)
+unfolding asked
+asked-request files words request is = ap (run_asked files) is
+
+pub completes_asked : {E : Type 0} (r : Result ℕ E) (told : Option Files) (words : List (List ℕ)) (request : Request) (old new : Option (List ℕ)) → request_of words ≡ Some request → IfOk r (λ status. IfSome told (λ files. Completes (run_on request.command (image_of files request.image)) status old new)) → IfOk r (λ status. IfSome told (λ files. Completes (asked files words) status old new))
+completes_asked (Ok status) (Some files) words request old new is h = subst (λ run. Completes run status old new) (sym (asked-request files words request is)) h
+completes_asked (Ok status) None words request old new is h = tt
+completes_asked (Err e) told words request old new is h = tt
+
+pub part_asked : (told : Option Files) (words : List (List ℕ)) (request : Request) (old new : Option (List ℕ)) → request_of words ≡ Some request → IfSome told (λ files. AddsPart old new (asked_report (run_on request.command (image_of files request.image)))) → IfSome told (λ files. AddsPart old new (asked_report (asked files words)))
+part_asked (Some files) words request old new is h = subst (λ run. AddsPart old new (asked_report run)) (sym (asked-request files words request is)) h
+part_asked None words request old new is h = tt
+
+pub refused_asked : (told : Option Files) (words : List (List ℕ)) (request : Request) (refusal : Refusal) → request_of words ≡ Some request → IfSome told (λ files. image_of files request.image ≡ Err refusal) → IfSome told (λ files. asked files words ≡ Err (Image refusal))
+refused_asked (Some files) words request refusal is h = asked-request files words request is ∙ ap (run_on request.command) h
+refused_asked None words request refusal is h = tt
+
+-- the failure with status 3 is an image's
+pub refuses : (f : Failure) (status : ℕ) (told : Option Files) (words : List (List ℕ)) → (status ≡ failure_status f) ⊎ (status ≡ 7) → status ≡ 3 → ((refusal : Refusal) → f ≡ Image refusal → IfSome told (λ files. asked files words ≡ Err (Image refusal))) → IfSome told (λ files. RefusesImage (asked files words))
+refuses (Image refusal) status None words by three is = tt
+refuses (Image refusal) status (Some files) words by three is = record { refusal = refusal; refused = is refusal refl }
+refuses Usage status told words by three is = absurd (⊎_elim (λ e. cc) (λ e. cc) by)
+refuses Store status told words by three is = absurd (⊎_elim (λ e. cc) (λ e. cc) by)
+refuses Host status told words by three is = absurd (⊎_elim (λ e. cc) (λ e. cc) by)
+refuses Output status told words by three is = absurd (⊎_elim (λ e. cc) (λ e. cc) by)
+refuses NoMemory status told words by three is = absurd (⊎_elim (λ e. cc) (λ e. cc) by)
+
+-- the status that was answered is the failure's, where it isn't 7
+own_status : (f : Failure) (status : ℕ) → (status ≡ failure_status f) ⊎ (status ≡ 7) → status ≢ 7 → status ≡ failure_status f
+own_status f status by other = ⊎_elim (λ e. e) (λ e. absurd (other e)) by
+
+line_of-failure : (f : Failure) (run : Result Outcome Failure) → failure_status f ≢ 7 → ((refusal : Refusal) → f ≡ Image refusal → run ≡ Err (Image refusal)) → line_of run (failure_status f) ≡ failure_line f
+line_of-failure Usage run other is = refl
+line_of-failure (Image refusal) run other is = ap (λ found. line_of found 3) (is refusal refl)
+line_of-failure Store run other is = refl
+line_of-failure Host run other is = refl
+line_of-failure Output run other is = refl
+line_of-failure NoMemory run other is = absurd (other refl)
+
+-- the line of a failure is the line of the status that was answered
+pub tells : (f : Failure) (status : ℕ) (told : Option Files) (words : List (List ℕ)) (old new : Option (List ℕ)) (before now : ℕ) → (status ≡ failure_status f) ⊎ (status ≡ 7) → status ≢ 7 → ((refusal : Refusal) → f ≡ Image refusal → IfSome told (λ files. asked files words ≡ Err (Image refusal))) → TellsLine (failure_line f) old new before now → IfSome told (λ files. TellsLine (line_of (asked files words) status) old new before now)
+tells f status None words old new before now by other is line = tt
+tells f status (Some files) words old new before now by other is line =
+    let own = own_status f status by other in
+    let same = ap (line_of (asked files words)) own ∙ line_of-failure f (asked files words) (λ seven. other (own ∙ seven)) is in
+    subst (λ found. TellsLine found old new before now) (sym same) line

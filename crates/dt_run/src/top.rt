@@ -1,0 +1,140 @@
+// The call that the program makes.
+ghost use Rattle.std.specs.Prelude.{◌≡◌, ◌≢◌, ◌⊎◌, ℕ, Some, None, Ok, Err, map, string_bytes, IsTrue, IfSome, IfOk, IsErrOf};
+ghost use Rattle.dt_base.specs.declared.refusal.Refusal.{Refusal};
+ghost use Rattle.dt_host.specs.Cause.{HasCause};
+ghost use Rattle.dt_host.specs.Sink.{AddsPart};
+ghost use Rattle.dt_host.specs.World.{IsEmptyStart};
+ghost use Rattle.dt_run.specs.Failure.{failure_status, failure_line};
+ghost use Rattle.dt_run.specs.Options.{request_of};
+ghost use Rattle.dt_run.specs.Asked.{asked, run_on, asked_report};
+ghost use Rattle.dt_run.specs.Headline.{is_status, is_run_status, Completes, RefusesImage, precedes_run, line_of, TellsLine, TellsPart};
+ghost use Rattle.dt_run.specs.ImageOf.{image_of};
+
+use crate::failure::Failure;
+use crate::image::read_image;
+use crate::options::{Options, read_options};
+use crate::run::run_container;
+use dt_host::{Gate, Host, Sink, SinkErr, Store, sink_all};
+use std::alloc::Global;
+
+// What a run has whose words give no other: a seed, a budget in steps, and so many workers.
+const SEED: u64 = 0;
+const BUDGET: u64 = 100_000_000;
+const WORKERS: usize = 1;
+
+/// Runs what the words ask for, on the image that the store holds, at a host that holds nothing.
+/// Writes the report to `out`, and why there is no whole report to `err`; the answer is the status.
+pub fn dettrace<S: Store, H: Host, O: Sink, E: Sink, G: Gate>(
+    alloc: Global,
+    words: &[String],
+    store: &mut S,
+    host: &mut H,
+    out: &mut O,
+    err: &mut E,
+    gate: &G,
+) -> u8
+    requires { IsEmptyStart (H.view host.old) }
+
+    // At 0, 1 and 10 the bytes added are the report of the run that was asked for, and the status is that run's.
+    ensures statuses { IsTrue (is_status result) }
+    ensures completed { IsTrue (is_run_status result) → IfSome (S.told store.old)
+        (λ files. Completes (asked files (map string_bytes words.now)) result (O.told out.old) (O.told out.new)) }
+
+    // Whatever fails, what was written is a front of that report; nothing where words or image are refused.
+    ensures part { IfSome (S.told store.old)
+        (λ files. AddsPart (O.told out.old) (O.told out.new) (asked_report (asked files (map string_bytes words.now)))) }
+    ensures nothing { IsTrue (precedes_run result) → O.told out.new ≡ O.told out.old }
+
+    // Each other answer has its cause.
+    ensures usage { result ≡ 2 → request_of (map string_bytes words.now) ≡ None }
+    ensures image { result ≡ 3 → IfSome (S.told store.old) (λ files. RefusesImage (asked files (map string_bytes words.now))) }
+    ensures store { HasCause (S.count store.old) (S.count store.new) (result ≡ 4) }
+    ensures host { HasCause (H.count host.old) (H.count host.new) (result ≡ 5) }
+    ensures output { HasCause (O.count out.old) (O.count out.new) (result ≡ 6) }
+
+    // The error stream gets the status's line, with the refusal's number; where that stream fails, a front of it.
+    ensures line { result ≢ 7 → IfSome (S.told store.old) (λ files.
+        TellsLine (line_of (asked files (map string_bytes words.now)) result) (E.told err.old) (E.told err.new) (E.count err.old) (E.count err.new)) }
+    ensures memory_line { result ≡ 7 → TellsPart (E.told err.old) (E.told err.new) }
+{
+    match run_words(alloc, words, store, host, out, gate) {
+        Ok(status) => status,
+        Err(failure) => tell(failure, err),
+    }
+}
+
+/// Writes a failure's line to `err`, and answers the failure's status, or want of memory's where `err` wants memory.
+pub fn tell<E: Sink>(failure: Failure, err: &mut E) -> u8
+    ensures status { (result ≡ failure_status failure) ⊎ (result ≡ 7) }
+    ensures line { result ≢ 7 → TellsLine (failure_line failure) (E.told err.old) (E.told err.new) (E.count err.old) (E.count err.new) }
+    ensures part { AddsPart (E.told err.old) (E.told err.new) (failure_line failure) }
+{
+    match sink_all(err, failure.line().as_bytes()) {
+        Ok(()) => failure.status(),
+        Err(SinkErr::Failed) => failure.status(),
+        Err(SinkErr::NoMemory) => Failure::NoMemory.status(),
+    }
+}
+
+// The run that the words ask for, or the first failure.
+fn run_words<S: Store, H: Host, O: Sink, G: Gate>(
+    alloc: Global,
+    words: &[String],
+    store: &mut S,
+    host: &mut H,
+    out: &mut O,
+    gate: &G,
+) -> Result<u8, Failure>
+    requires { IsEmptyStart (H.view host.old) }
+    ensures completed { IfOk result (λ status. IfSome (S.told store.old)
+        (λ files. Completes (asked files (map string_bytes words.now)) status (O.told out.old) (O.told out.new))) }
+    ensures statuses { IfOk result (λ status. IsTrue (is_run_status status)) }
+    ensures part { IfSome (S.told store.old)
+        (λ files. AddsPart (O.told out.old) (O.told out.new) (asked_report (asked files (map string_bytes words.now)))) }
+    ensures nothing { (f : Failure) → result ≡ Err f → IsTrue (precedes_run (failure_status f)) → O.told out.new ≡ O.told out.old }
+    ensures usage { result ≡ Err Failure.Usage → request_of (map string_bytes words.now) ≡ None }
+    ensures image { (r : Refusal) → result ≡ Err (Failure.Image r) → IfSome (S.told store.old) (λ files. asked files (map string_bytes words.now) ≡ Err (Failure.Image r)) }
+    ensures store { HasCause (S.count store.old) (S.count store.new) (IsErrOf result Failure.Store) }
+    ensures host { HasCause (H.count host.old) (H.count host.new) (IsErrOf result Failure.Host) }
+    ensures output { HasCause (O.count out.old) (O.count out.new) (IsErrOf result Failure.Output) }
+{
+    let options = read_options(alloc, words)?;
+    run_options(alloc, &options, store, host, out, gate)
+}
+
+// The run of a request on the image that it names, or the first failure.
+fn run_options<S: Store, H: Host, O: Sink, G: Gate>(
+    alloc: Global,
+    options: &Options,
+    store: &mut S,
+    host: &mut H,
+    out: &mut O,
+    gate: &G,
+) -> Result<u8, Failure>
+    requires { IsEmptyStart (H.view host.old) }
+    ensures completed { IfOk result (λ status. IfSome (S.told store.old)
+        (λ files. Completes (run_on options.now.command (image_of files options.now.image)) status (O.told out.old) (O.told out.new))) }
+    ensures statuses { IfOk result (λ status. IsTrue (is_run_status status)) }
+    ensures part { IfSome (S.told store.old)
+        (λ files. AddsPart (O.told out.old) (O.told out.new) (asked_report (run_on options.now.command (image_of files options.now.image)))) }
+    ensures nothing { (f : Failure) → result ≡ Err f → IsTrue (precedes_run (failure_status f)) → O.told out.new ≡ O.told out.old }
+    ensures usage { result ≢ Err Failure.Usage }
+    ensures image { (r : Refusal) → result ≡ Err (Failure.Image r) → IfSome (S.told store.old) (λ files. image_of files options.now.image ≡ Err r) }
+    ensures store { HasCause (S.count store.old) (S.count store.new) (IsErrOf result Failure.Store) }
+    ensures host { HasCause (H.count host.old) (H.count host.new) (IsErrOf result Failure.Host) }
+    ensures output { HasCause (O.count out.old) (O.count out.new) (IsErrOf result Failure.Output) }
+{
+    let image = read_image(alloc, store, options.image.as_str())?;
+    let status = run_container(
+        alloc,
+        &image,
+        &options.command,
+        SEED,
+        BUDGET,
+        WORKERS,
+        host,
+        out,
+        gate,
+    )?;
+    Ok(status)
+}
