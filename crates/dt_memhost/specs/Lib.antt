@@ -1,3 +1,5 @@
 pub mod Picks
 pub mod Script
 pub mod Sink
+pub mod Store
+pub mod Codes

@@ -4,6 +4,9 @@
 mod picker;
 mod script;
 mod sink;
+mod store;
+mod transfer;
 
 pub use picker::Picker;
 pub use sink::MemSink;
+pub use store::MemStore;
