@@ -1,5 +1,6 @@
 -- The finite map of a list of entries, key by key and after an insert.
-use Rattle.std.proofs.Common.{◌≡◌, ℕ, List, [], ◌∷◌, map, Bool, true, false, cond, Option, Some, None, refl, sym, ap, ◌∙◌}
+use Rattle.std.proofs.Common.{◌≡◌, ℕ, List, [], ◌∷◌, ◌++◌, map, Bool, true, false, cond, Option, Some, None, refl, sym, ap, ◌∙◌}
+use Rattle.std.proofs.lemmas.List.{map-append}
 use Rattle.std.specs.Prelude.{option_map}
 use Rattle.std.specs.declared.cmp.Ordering.{Ordering}
 use Rattle.std.specs.declared.cmp.Ordering.TheVariants.{Less, Equal, Greater}
@@ -8,7 +9,7 @@ use Rattle.std.specs.Cmp.{IsTotalOrder}
 use Rattle.std.proofs.lemmas.Cmp.{alike_right}
 use Rattle.std.specs.Map.{lookup}
 use Rattle.std.specs.BTreeMap.{insert_entry}
-use Rattle.std.specs.FinMap.{FinMap, IsAntisymmetric, find, empty, from_entries, get, insert, get-insert, get-from_entries, same_map}
+use Rattle.std.specs.FinMap.{FinMap, IsAntisymmetric, find, empty, from_entries, get, insert, get-insert, get-from_entries, from_entries_push, same_map}
 use Rattle.dt_host.specs.Entries.{map_of}
 
 repeated : {A : Type 0} (b : Bool) (x y z : A) → cond b x z ≡ cond b x (cond b y z)
@@ -45,6 +46,14 @@ module _ {K J X Y : Type 0} {R : J → J → Ordering} (o : IsTotalOrder R) (key
   pub map_of-nil : (es : List (K × X)) → es ≡ [] → map_of {R = R} key value es ≡ empty
   unfolding map_of
   map_of-nil es e = ap (λ xs. from_entries (map (λ e. (key e.0, value e.1)) xs)) e
+
+  -- an entry more at the end, whose key is new, is an insert
+  pub map_of-push : IsAntisymmetric R → (es : List (K × X)) (k : K) (v : X) → get (map_of {R = R} key value es) (key k) ≡ None → map_of {R = R} key value (es ++ (k, v) ∷ []) ≡ insert (map_of key value es) (key k) (value v)
+  unfolding map_of
+  map_of-push same es k v none =
+      let seen = map (λ (e : K × X). (key e.0, value e.1)) es in
+      ap from_entries (map-append (λ (e : K × X). (key e.0, value e.1)) es ((k, v) ∷ []))
+      ∙ from_entries_push o same seen (key k) (value v) (sym (get-from_entries o seen (key k)) ∙ none)
 
   -- a look-up after an insert into a sorted list of entries
   lookup-insert_entry : (q : J) (es : List (K × X)) (k : K) (v : X) → lookup (λ x. is_eq (R q (key x))) (insert_entry (λ x y. R (key x) (key y)) es k v) ≡ cond (is_eq (R q (key k))) (Some v) (lookup (λ x. is_eq (R q (key x))) es)

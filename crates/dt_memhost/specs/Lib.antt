@@ -2,4 +2,6 @@ pub mod Picks
 pub mod Script
 pub mod Sink
 pub mod Store
+pub mod Dir
+pub mod Node
 pub mod Codes

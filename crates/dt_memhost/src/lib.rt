@@ -1,6 +1,8 @@
 //! Host, store and sink in memory. They choose by words, and fail at the calls that are listed.
 #![tactic(auto)]
 
+mod dir;
+mod node;
 mod picker;
 mod script;
 mod sink;
