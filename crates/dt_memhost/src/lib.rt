@@ -3,6 +3,7 @@
 
 mod dir;
 mod node;
+mod nodes;
 mod picker;
 mod script;
 mod sink;
