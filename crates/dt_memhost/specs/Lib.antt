@@ -4,4 +4,5 @@ pub mod Sink
 pub mod Store
 pub mod Dir
 pub mod Node
+pub mod Number
 pub mod Codes

@@ -4,6 +4,7 @@
 mod dir;
 mod node;
 mod nodes;
+mod number;
 mod picker;
 mod script;
 mod sink;
