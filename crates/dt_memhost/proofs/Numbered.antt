@@ -1,22 +1,22 @@
 -- The search for the number of a new node.
-use Rattle.std.proofs.Common.{◌≡◌, ◌≢◌, ℕ, suc, ◌+◌, ◌-◌, ◌%◌, ◌<◌, ◌≤◌, List, [], ◌∷◌, ◌++◌, map, length, Bool, true, false, cond, ◌||◌, Option, Some, None, refl, sym, ap, subst, ◌∙◌, arith, eqb, eq-eqb, is_some}
+use Rattle.std.proofs.Common.{◌≡◌, ℕ, zero, suc, ◌+◌, ◌-◌, ◌%◌, ◌<◌, ◌≤◌, List, [], ◌∷◌, map, Bool, true, false, cond, ◌||◌, Option, Some, None, refl, sym, ap, ◌∙◌, arith, eqb, eq-eqb, is_some}
 use Rattle.std.proofs.lemmas.List.{length-map}
 use Rattle.std.proofs.lemmas.Bool.Decides.{nat_tests}
-use Rattle.std.specs.Prelude.{IsSome, option_map}
+use Rattle.std.specs.Prelude.{IsSome, option_map, MatchOption}
 use Rattle.std.specs.List.{list_any}
 use Rattle.std.specs.Ordering.{nat_cmp, is_eq}
 use Rattle.std.specs.Cmp.{nat_cmp_total}
 use Rattle.std.specs.Map.{lookup}
 use Rattle.std.specs.BTreeMap as tree
 use Rattle.std.specs.BTreeMap.{BTreeMap, btree_map_len}
-use Rattle.std.specs.FinMap.{FinMap, get, contains_key, IsAntisymmetric, nat_cmp-IsAntisymmetric}
+use Rattle.std.specs.FinMap.{FinMap, get, contains_key}
 use Rattle.std.proofs.lemmas.Map.Steps.{le-length_from_below}
 use Rattle.dt_host.specs.World.{Node}
 use Rattle.dt_host.proofs.MapOf.{get-map_of}
 use Rattle.dt_memhost.specs.declared.node.MemNode.{MemNode}
 use Rattle.dt_memhost.specs.Node.{node_of, nodes_of, node_in}
 use Rattle.dt_memhost.specs.declared.number.TheConstants.{NUMBERS}
-use Rattle.dt_memhost.specs.Number.{around}
+use Rattle.dt_memhost.specs.Number.{around, IsLeastAbove, Numbers}
 
 -- the map has at a number the node in the tree
 pub get-nodes_of : (nodes : BTreeMap ℕ MemNode) (q : ℕ) → get (nodes_of nodes.entries) q ≡ node_in nodes q
@@ -75,5 +75,26 @@ found_past start q (e ∷ entries) h =
 pub row_of_live : (nodes : BTreeMap ℕ MemNode) (start count : ℕ) → ((q : ℕ) → q < count → IsSome (get (nodes_of nodes.entries) (start + q))) → count ≤ btree_map_len nodes
 row_of_live nodes start count live =
     let most = le-length_from_below (map (λ (e : ℕ × MemNode). e.0 - start) nodes.entries) count (λ q h.
-        found_past start q nodes.entries (sym (is_some-map node_of (tree.get nat_cmp nodes (start + q))) ∙ ap is_some (sym (get-nodes_of nodes (start + q))) ∙ live q h)) in
+    found_past start q nodes.entries (sym (is_some-map node_of (tree.get nat_cmp nodes (start + q))) ∙ ap is_some (sym (get-nodes_of nodes (start + q))) ∙ live q h)) in
     omega (arith, most, length-map nodes.entries (λ (e : ℕ × MemNode). e.0 - start))
+
+-- a number that is found on the way round is at least 1, and free
+pub found_around : (nodes : FinMap nat_cmp Node) (place left n : ℕ) → around nodes place left ≡ Some n → (1 ≤ n) × (get nodes n ≡ None)
+unfolding around
+found_around nodes place zero n e = cc
+found_around nodes place (suc left) n e =
+    let at = 1 + place % NUMBERS in
+    elim (contains_key nodes at) as (λ b. contains_key nodes at ≡ b → cond b (around nodes (place + 1) left) (Some at) ≡ Some n → (1 ≤ n) × (get nodes n ≡ None)) [
+      | true ↦ λ live is. found_around nodes (place + 1) left n is
+      | false ↦ λ free is.
+          let same : at ≡ n = cc in
+          (omega arith, ap (get nodes) (sym same) ∙ none_if _ free)
+    ] refl e
+
+-- so is every number that a word chooses
+pub chosen_number : (nodes : FinMap nat_cmp Node) (word n : ℕ) → Numbers nodes word n → (1 ≤ n) × (get nodes n ≡ None)
+chosen_number nodes word n h =
+    elim (around nodes word NUMBERS) as (λ found. around nodes word NUMBERS ≡ found → MatchOption found (IsLeastAbove nodes n) (λ at. n ≡ at) → (1 ≤ n) × (get nodes n ≡ None)) [
+      | None ↦ λ is least. (omega (arith, least.above), least.free)
+      | Some at ↦ λ is same. found_around nodes word NUMBERS n (is ∙ ap (λ x. Some x) (sym same))
+    ] refl h

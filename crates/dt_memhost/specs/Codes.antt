@@ -8,6 +8,7 @@ use Rattle.rand_chacha.specs.ChaCha.{ChaCha}
 use Rattle.dt_memhost.specs.Picks.{Picks}
 use Rattle.dt_memhost.specs.Script.{Script}
 use Rattle.dt_memhost.specs.Store.{StoreState}
+use Rattle.dt_memhost.specs.Host.{HostState}
 
 -- a stream, as its key, its number and its place
 abbrev pub stream_code : Coded ChaCha
@@ -28,3 +29,8 @@ script_code =
 abbrev pub store_code : Coded StoreState
 store_code =
     code_by (Files × Script) (coded× files_code script_code) (λ s. (s.files, s.script)) (λ p. record { files = p.0; script = p.1 }) (λ _. refl)
+
+-- a host, as what it keeps and its script
+abbrev pub host_code : Coded HostState
+host_code =
+    code_by (World × Script) (coded× world_code script_code) (λ s. (s.view, s.script)) (λ p. record { view = p.0; script = p.1 }) (λ _. refl)

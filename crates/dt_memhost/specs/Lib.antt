@@ -5,4 +5,5 @@ pub mod Store
 pub mod Dir
 pub mod Node
 pub mod Number
+pub mod Host
 pub mod Codes

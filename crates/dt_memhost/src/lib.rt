@@ -2,6 +2,8 @@
 #![tactic(auto)]
 
 mod dir;
+mod forest;
+mod host;
 mod node;
 mod nodes;
 mod number;
@@ -11,6 +13,7 @@ mod sink;
 mod store;
 mod transfer;
 
+pub use host::MemHost;
 pub use picker::Picker;
 pub use sink::MemSink;
 pub use store::MemStore;

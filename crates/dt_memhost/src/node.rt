@@ -1,11 +1,14 @@
 ghost use Rattle.std.specs.Prelude.{◌≡◌, ◌+◌, ◌≤◌, None, [], length, unwrap_or, option_map, option_copied, option_and_then, vec_items, OnOk, OnErr, IfSome};
 ghost use Rattle.std.specs.FinMap.{get, insert};
 ghost use Rattle.dt_host.specs.World.{file, dir, file_bytes, dir_names, overwritten};
+ghost use Rattle.dt_host.specs.Legal.{new_node};
 ghost use Rattle.dt_memhost.specs.Node.{node_of};
 
 use crate::dir::Entries;
 use crate::transfer::overwrite;
 use dt_base::NoMemory;
+use dt_host::NodeKind;
+use std::alloc::Global;
 
 /// A node in memory.
 #[derive(Drop)]
@@ -17,6 +20,15 @@ pub(crate) enum MemNode {
 }
 
 impl MemNode {
+    // A new node of that kind.
+    pub(crate) fn new(alloc: Global, kind: NodeKind) -> MemNode
+        ensures { node_of result ≡ new_node kind }
+    {
+        match kind {
+            NodeKind::File => MemNode::File(Vec::new(alloc)),
+        }
+    }
+
     // The bytes of a file.
     pub(crate) fn bytes(&self) -> Option<&Vec<u8>>
         ensures { option_map vec_items (option_copied result) ≡ file_bytes (node_of self.now) }

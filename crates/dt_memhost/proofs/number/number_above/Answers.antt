@@ -10,7 +10,7 @@ pub returns-then-not-contains_key : goal.returns-then-not-contains_key
 returns-then-not-contains_key c = record {
   above = omega (arith, c.loop-number.auto.number-counter);
   free = free_in c.args.nodes.now c.loop-number.number-counter (sym c.contains_key.ensures ∙ c.if-not-contains_key.true);
-  least = c.loop-number.invariant
+  least = c.loop-number.invariant;
 }
 
 pub loop-number-preserved : goal.loop-number-preserved

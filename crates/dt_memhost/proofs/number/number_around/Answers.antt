@@ -15,7 +15,7 @@ returns-then-not-contains_key c =
     let place = c.args.word + c.loop-step.step in
     let at : c.from.result + c.loop-step.step ≡ place = ap (λ w. w + c.loop-step.step) c.from.ensures in
     let free : contains_key nodes (1 + place % NUMBERS) ≡ false =
-        contains_key-nodes_of c.args.nodes.now (1 + place % NUMBERS) ∙ rw at at (sym c.contains_key.ensures ∙ c.if-not-contains_key.true) in
+    contains_key-nodes_of c.args.nodes.now (1 + place % NUMBERS) ∙ rw at at (sym c.contains_key.ensures ∙ c.if-not-contains_key.true) in
     rw at (sym (c.loop-step.invariant ∙ ap (around nodes place) (one_left c.loop-step.step c.loop-step-test.true) ∙ around-free nodes place _ free))
 
 pub loop-step-preserved : goal.loop-step-preserved
@@ -24,7 +24,7 @@ loop-step-preserved c =
     let place = c.args.word + c.loop-step.step in
     let at : c.from.result + c.loop-step.step ≡ place = ap (λ w. w + c.loop-step.step) c.from.ensures in
     let live : contains_key nodes (1 + place % NUMBERS) ≡ true =
-        contains_key-nodes_of c.args.nodes.now (1 + place % NUMBERS) ∙ rw at at (sym c.contains_key.ensures ∙ c.if-not-contains_key.false) in
+    contains_key-nodes_of c.args.nodes.now (1 + place % NUMBERS) ∙ rw at at (sym c.contains_key.ensures ∙ c.if-not-contains_key.false) in
     c.loop-step.invariant
     ∙ ap (around nodes place) (one_left c.loop-step.step c.loop-step-test.true)
     ∙ around-live nodes place _ live

@@ -1,5 +1,5 @@
-use Rattle.std.proofs.Common.{◌≡◌, None, sym, ap, ◌∙◌, subst}
-use Rattle.std.specs.FinMap.{get, insert}
+use Rattle.std.proofs.Common.{◌≡◌, None, sym, ap, ◌∙◌}
+use Rattle.std.specs.FinMap.{get}
 use Rattle.indexmap.proofs.CallerLemmas.{insert_entry-new}
 use Rattle.dt_memhost.specs.Dir.{names_of}
 use Rattle.dt_memhost.proofs.Named.{get-names_of, names_of-push}

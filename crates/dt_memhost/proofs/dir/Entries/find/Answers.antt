@@ -1,5 +1,4 @@
-use Rattle.std.proofs.Common.{sym, ap, ◌∙◌}
-use Rattle.std.specs.FinMap.{get}
+use Rattle.std.proofs.Common.{sym, ◌∙◌}
 use Rattle.dt_memhost.proofs.Named.{get-names_of}
 use Rattle.dt_memhost.proofs.dir.Entries.find.Goals as goal
 

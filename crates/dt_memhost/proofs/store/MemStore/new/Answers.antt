@@ -1,4 +1,3 @@
-use Rattle.std.proofs.Common.{ap, Ok}
 use Rattle.std.specs.Prelude.{string_bytes, vec_items}
 use Rattle.std.specs.Cmp.Lexicographic.{nat_list_cmp_total}
 use Rattle.dt_host.proofs.MapOf.{map_of-nil}
