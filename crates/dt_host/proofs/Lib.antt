@@ -2,3 +2,4 @@ pub mod Growth
 pub mod Transfers
 pub mod Maps
 pub mod Worlds
+pub mod MapOf

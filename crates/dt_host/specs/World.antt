@@ -91,9 +91,13 @@ overwritten old off bytes = take off old ++ bytes ++ drop (off + length bytes) o
 abbrev pub with_forest : World → Forest → World
 with_forest w v = record w { forest = v }
 
+-- a forest of nothing but a root without entries
+abbrev pub empty_forest : ℕ → Forest
+empty_forest root = record { nodes = insert empty root (dir empty); root = root }
+
 -- a world of nothing but a root without entries
 abbrev pub empty_world : ℕ → World
-empty_world root = record { forest = record { nodes = insert empty root (dir empty); root = root } }
+empty_world root = record { forest = empty_forest root }
 
 -- nothing is there but a root without entries
 abbrev pub IsEmptyStart : World → Type 0

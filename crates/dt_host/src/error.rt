@@ -3,6 +3,7 @@ ghost use Rattle.dt_host.specs.declared.error.HostErr.TheVariants.{NoMemory as n
 ghost use Rattle.dt_host.specs.declared.error.StoreErr.TheVariants.{NoMemory as no_memory_of_store};
 ghost use Rattle.dt_host.specs.declared.error.SinkErr.TheVariants.{NoMemory as no_memory_of_sink};
 
+use dt_base::NoMemory;
 use std::alloc::{AllocError, AllocFailed};
 use thiserror::Error;
 
@@ -83,6 +84,30 @@ impl<T: Drop> From<AllocFailed<T>> for SinkErr {
     ghost from_gives = { λ _ e. e ≡ no_memory_of_sink };
 
     fn from(_: AllocFailed<T>) -> Self {
+        SinkErr::NoMemory
+    }
+}
+
+impl From<NoMemory> for HostErr {
+    ghost from_gives = { λ _ e. e ≡ no_memory_of_host };
+
+    fn from(_: NoMemory) -> Self {
+        HostErr::NoMemory
+    }
+}
+
+impl From<NoMemory> for StoreErr {
+    ghost from_gives = { λ _ e. e ≡ no_memory_of_store };
+
+    fn from(_: NoMemory) -> Self {
+        StoreErr::NoMemory
+    }
+}
+
+impl From<NoMemory> for SinkErr {
+    ghost from_gives = { λ _ e. e ≡ no_memory_of_sink };
+
+    fn from(_: NoMemory) -> Self {
         SinkErr::NoMemory
     }
 }

@@ -1,5 +1,5 @@
 -- What a host, a store or a sink in memory goes by: the words of its choices and the calls that fail.
-use Rattle.std.specs.Prelude.{ℕ, ◌+◌, ◌-◌, ◌^◌, ◌==◌, ◌||◌, min, Bool, List, if◌then◌else◌}
+use Rattle.std.specs.Prelude.{ℕ, ◌+◌, ◌-◌, ◌^◌, ◌==◌, min, Bool, List}
 use Rattle.std.specs.List.{list_any}
 use Rattle.dt_memhost.specs.Picks.{Picks, next_of}
 

@@ -1,5 +1,5 @@
 -- A sink in memory, and how it answers.
-use Rattle.std.specs.Prelude.{◌≡◌, ℕ, ◌-◌, ◌||◌, min, Bool, false, List, ◌++◌, length, take, Option, None, Some, Ok, Err, Result, MatchBool, MatchResult, nat_le}
+use Rattle.std.specs.Prelude.{◌≡◌, ℕ, ◌-◌, ◌||◌, min, Bool, false, List, ◌++◌, length, take, Option, None, Some, Err, Result, MatchBool, MatchResult, nat_le}
 use Rattle.dt_host.specs.declared.error.SinkErr.{SinkErr}
 use Rattle.dt_host.specs.declared.error.SinkErr.TheVariants.{Failed, NoMemory}
 use Rattle.dt_memhost.specs.Picks.{length_by}

@@ -1,9 +1,19 @@
 //! Host, store and sink in memory. They choose by words, and fail at the calls that are listed.
 #![tactic(auto)]
 
+mod dir;
+mod forest;
+mod host;
+mod node;
+mod nodes;
+mod number;
 mod picker;
 mod script;
 mod sink;
+mod store;
+mod transfer;
 
+pub use host::MemHost;
 pub use picker::Picker;
 pub use sink::MemSink;
+pub use store::MemStore;

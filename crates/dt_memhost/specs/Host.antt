@@ -1,0 +1,93 @@
+-- A host in memory, and how it answers: a call that is listed fails and is counted, and any other chooses by words.
+use Rattle.std.specs.Prelude.{◌≡◌, ℕ, ◌-◌, min, ◌==◌, List, ◌++◌, length, take, drop, Option, Ok, Err, Result, MatchBool, MatchResult, if◌then◌else◌}
+use Rattle.dt_host.specs.declared.kind.NodeKind.{NodeKind}
+use Rattle.dt_host.specs.declared.error.HostErr.{HostErr}
+use Rattle.dt_host.specs.declared.error.HostErr.TheVariants.{Failed, NoMemory}
+use Rattle.dt_host.specs.World.{World, with_forest, with_node, with_entry, entry, content}
+use Rattle.dt_host.specs.Legal.{new_node, written}
+use Rattle.dt_memhost.specs.Picks.{length_by}
+use Rattle.dt_memhost.specs.Script.{Script, fails_next, counted, failed, picked, word_of}
+use Rattle.dt_memhost.specs.Number.{Numbers}
+
+-- what the host keeps, and the script
+pub record HostState : Type 0 where
+  pub view : World
+  pub script : Script
+
+-- a call that fails is counted, and changes nothing else
+pub record Fails {A : Type 0} (old : HostState) (result : Result A HostErr) (new : HostState) : Type 0 where
+  pub failed_only : result ≡ Err Failed
+  pub counts : new ≡ record old { script = failed old.script }
+
+-- memory ran out: nothing changes but the script
+pub record Starves (old : HostState) (script : Script) (new : HostState) (error : HostErr) : Type 0 where
+  pub memory_only : error ≡ NoMemory
+  pub kept : new ≡ record old { script = script }
+
+-- an answer without a choice, which leaves what the host keeps
+pub record Tells {A : Type 0} (old : HostState) (answer : A) (result : Result A HostErr) (new : HostState) : Type 0 where
+  pub told : result ≡ Ok answer
+  pub counts : new ≡ record old { script = counted old.script }
+
+-- how a host in memory answers `root`
+abbrev pub RootsBy : HostState → Result ℕ HostErr → HostState → Type 0
+RootsBy old result new = MatchBool (fails_next old.script) (Fails old result new) (Tells old old.view.forest.root result new)
+
+-- how it answers `find`
+abbrev pub FindsBy : HostState → ℕ → List ℕ → Result (Option ℕ) HostErr → HostState → Type 0
+FindsBy old d name result new =
+    MatchBool (fails_next old.script) (Fails old result new) (Tells old (entry old.view.forest d name) result new)
+
+-- a word chooses the number of the new node
+pub record MakesNumber (old : HostState) (kind : NodeKind) (new : HostState) (n : ℕ) : Type 0 where
+  pub chosen : Numbers old.view.forest.nodes (word_of old.script) n
+  pub made : new
+      ≡ record { view = with_forest old.view (with_node old.view.forest n (new_node kind)); script = picked (counted old.script) }
+
+-- how it answers `make`
+abbrev pub MakesBy : HostState → NodeKind → Result ℕ HostErr → HostState → Type 0
+MakesBy old kind result new =
+    MatchBool (fails_next old.script) (Fails old result new) (MatchResult result (MakesNumber old kind new) (Starves old (picked (counted old.script)) new))
+
+-- how it answers `bind`
+abbrev pub BindsBy : {A : Type 0} → HostState → ℕ → List ℕ → ℕ → Result A HostErr → HostState → Type 0
+BindsBy old d name n result new =
+    MatchBool (fails_next old.script) (Fails old result new) (MatchResult result (λ _. new ≡ record { view = with_forest old.view (with_entry old.view.forest d name n); script = counted old.script }) (Starves old (counted old.script) new))
+
+-- the greatest length of a read
+abbrev pub most_read : List ℕ → ℕ → List ℕ → ℕ
+most_read bytes off buffer = min (length buffer) (length bytes - off)
+
+-- how much is read, by a word where there is anything to read
+abbrev pub count_read : ℕ → ℕ → ℕ
+count_read word most = if most == 0 then 0 else length_by word most
+
+-- the script after a read, which takes a word where there is anything to read
+abbrev pub script_read : Script → ℕ → Script
+script_read s most = if most == 0 then counted s else picked (counted s)
+
+-- so much of a file comes as a word chooses
+pub record ReadsCount (old : HostState) (n off : ℕ) (before after : List ℕ) (result : Result ℕ HostErr) (new : HostState) : Type 0 where
+  pub chosen : let most = most_read (content old.view.forest n) off before in
+      result ≡ Ok (count_read (word_of old.script) most)
+  pub front : let bytes = content old.view.forest n in
+      let count = count_read (word_of old.script) (most_read bytes off before) in
+      after ≡ take count (drop off bytes) ++ drop count before
+  pub kept : let most = most_read (content old.view.forest n) off before in
+      new ≡ record old { script = script_read old.script most }
+
+-- how it answers `read_at`
+abbrev pub ReadsBy : HostState → ℕ → ℕ → List ℕ → List ℕ → Result ℕ HostErr → HostState → Type 0
+ReadsBy old n off before after result new =
+    MatchBool (fails_next old.script) (Fails old result new) (ReadsCount old n off before after result new)
+
+-- so much is written as a word chooses
+pub record WritesCount (old : HostState) (n off : ℕ) (bytes : List ℕ) (new : HostState) (count : ℕ) : Type 0 where
+  pub chosen : count ≡ length_by (word_of old.script) (length bytes)
+  pub put : new
+      ≡ record { view = written old.view n off (take count bytes); script = picked (counted old.script) }
+
+-- how it answers `write_at`
+abbrev pub WritesBy : HostState → ℕ → ℕ → List ℕ → Result ℕ HostErr → HostState → Type 0
+WritesBy old n off bytes result new =
+    MatchBool (fails_next old.script) (Fails old result new) (MatchResult result (WritesCount old n off bytes new) (Starves old (picked (counted old.script)) new))

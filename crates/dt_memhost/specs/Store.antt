@@ -1,0 +1,44 @@
+-- A store in memory, and how it answers.
+use Rattle.std.specs.Prelude.{◌≡◌, ℕ, List, ◌++◌, length, take, drop, Option, Ok, Err, Result, MatchBool, String, Vec, string_bytes, vec_items}
+use Rattle.dt_host.specs.Entries.{map_of}
+use Rattle.dt_host.specs.Store.{Files, bytes_of, size_of}
+use Rattle.dt_host.specs.declared.error.StoreErr.{StoreErr}
+use Rattle.dt_host.specs.declared.error.StoreErr.TheVariants.{Failed}
+use Rattle.dt_memhost.specs.Picks.{length_by}
+use Rattle.dt_memhost.specs.Script.{Script, fails_next, counted, failed, picked, word_of}
+
+-- the files of a list of names and bytes
+abbrev pub files_of : {Y Z : Type 0} → List (String Y × Vec ℕ Z) → Files
+files_of entries = map_of string_bytes vec_items entries
+
+-- the files, and the script
+pub record StoreState : Type 0 where
+  pub files : Files
+  pub script : Script
+
+-- a call that fails is counted, and changes nothing else
+pub record FailsAtStore {A : Type 0} (old : StoreState) (result : Result A StoreErr) (new : StoreState) : Type 0 where
+  pub failed_only : result ≡ Err Failed
+  pub counts : new ≡ record old { script = failed old.script }
+
+-- the size is told without a word
+pub record TellsSize (old : StoreState) (name : List ℕ) (result : Result (Option ℕ) StoreErr) (new : StoreState) : Type 0 where
+  pub told : result ≡ Ok (size_of old.files name)
+  pub counts : new ≡ record old { script = counted old.script }
+
+-- how a store in memory answers a question for a size
+abbrev pub SizesBy : StoreState → List ℕ → Result (Option ℕ) StoreErr → StoreState → Type 0
+SizesBy old name result new =
+    MatchBool (fails_next old.script) (FailsAtStore old result new) (TellsSize old name result new)
+
+-- a word chooses how much of the buffer is filled
+pub record ReadsSome (old : StoreState) (name : List ℕ) (off : ℕ) (before after : List ℕ) (result : Result ℕ StoreErr) (new : StoreState) : Type 0 where
+  pub chosen : result ≡ Ok (length_by (word_of old.script) (length before))
+  pub front : let count = length_by (word_of old.script) (length before) in
+      after ≡ take count (drop off (bytes_of old.files name)) ++ drop count before
+  pub counts : new ≡ record old { script = picked (counted old.script) }
+
+-- how a store in memory answers a read
+abbrev pub ReadsBy : StoreState → List ℕ → ℕ → List ℕ → List ℕ → Result ℕ StoreErr → StoreState → Type 0
+ReadsBy old name off before after result new =
+    MatchBool (fails_next old.script) (FailsAtStore old result new) (ReadsSome old name off before after result new)

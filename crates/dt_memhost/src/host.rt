@@ -1,0 +1,157 @@
+ghost use Rattle.std.specs.Prelude.{◌≡◌, ◌+◌, ◌<◌, ◌≤◌, None, length, IfOk, IsErrOf};
+ghost use Rattle.dt_host.specs.Cause.{HasCause};
+ghost use Rattle.dt_host.specs.World.{IsLive, IsFile, IsDir, entry, content, empty_world, IsEmptyStart};
+ghost use Rattle.dt_host.specs.Legal.{Makes, Binds, Reads, Writes};
+ghost use Rattle.dt_memhost.specs.Script.{script_of};
+ghost use Rattle.dt_memhost.specs.Host.{RootsBy, FindsBy, MakesBy, BindsBy, ReadsBy, WritesBy};
+
+use crate::forest::MemForest;
+use crate::picker::Picker;
+use crate::script::Script;
+use crate::transfer::copy_front;
+use dt_base::{FILE_LIMIT, NoMemory};
+use dt_host::{Host, HostErr, NodeKind};
+use std::alloc::Global;
+use std::marker::Model;
+
+/// A host in memory, which chooses numbers and lengths by words.
+#[derive(Drop)]
+pub struct MemHost {
+    forest: MemForest,
+    script: Script,
+}
+
+impl Model for MemHost {
+    ghost use Rattle.dt_memhost.specs.Host.{HostState};
+    ghost use Rattle.dt_memhost.specs.Codes.{host_code};
+
+    ghost Value = { HostState };
+
+    ghost coded = { host_code };
+
+    ghost view = { λ h. record { view = record { forest = h.forest }; script = h.script } };
+}
+
+impl MemHost {
+    /// A host of nothing but a root without entries, whose number is 1. It fails at the calls of
+    /// `fails`, numbers below 2^64 - 1 counted from 1.
+    pub fn new(alloc: Global, picker: Picker, fails: Vec<u64>) -> Result<MemHost, NoMemory>
+        ensures exact { IfOk result (λ h. h ≡ record { view = empty_world 1; script = script_of picker fails.items }) }
+        ensures start { IfOk result (λ h. IsEmptyStart h.view) }
+    {
+        Ok(MemHost {
+            forest: MemForest::new(alloc)?,
+            script: Script::new(picker, fails),
+        })
+    }
+}
+
+impl Host for MemHost {
+    ghost view = { λ h. h.view };
+
+    ghost count = { λ h. h.script.faults };
+
+    fn faults(&self) -> u64 {
+        self.script.faults()
+    }
+
+    fn root(&mut self) -> Result<u64, HostErr>
+        ensures exact { RootsBy self.old result self.new }
+        ensures ok { IfOk result (λ n. n ≡ self.old.view.forest.root) }
+        ensures stays { self.new.view ≡ self.old.view }
+        ensures cause { HasCause self.old.script.faults self.new.script.faults (IsErrOf result HostErr.Failed) }
+    {
+        let _before = self.faults();
+        if self.script.fails(false) {
+            return Err(HostErr::Failed);
+        }
+        Ok(self.forest.root())
+    }
+
+    fn make(&mut self, kind: NodeKind) -> Result<u64, HostErr>
+        ensures exact { MakesBy self.old kind result self.new }
+        ensures legal { Makes self.old.view kind result self.new.view }
+        ensures cause { HasCause self.old.script.faults self.new.script.faults (IsErrOf result HostErr.Failed) }
+    {
+        let _before = self.faults();
+        if self.script.fails(false) {
+            return Err(HostErr::Failed);
+        }
+        let number = self.forest.number_by(self.script.word());
+        self.forest.make(number, kind)?;
+        Ok(number)
+    }
+
+    fn bind(&mut self, dir: u64, name: &[u8], ino: u64) -> Result<(), HostErr>
+        requires directory { IsDir self.old.view.forest dir }
+        requires unnamed { entry self.old.view.forest dir name.now ≡ None }
+        requires live { IsLive self.old.view.forest ino }
+        ensures exact { BindsBy self.old dir name.now ino result self.new }
+        ensures legal { Binds self.old.view dir name.now ino result self.new.view }
+        ensures cause { HasCause self.old.script.faults self.new.script.faults (IsErrOf result HostErr.Failed) }
+    {
+        let _before = self.faults();
+        if self.script.fails(false) {
+            return Err(HostErr::Failed);
+        }
+        self.forest.bind(dir, name, ino)?;
+        Ok(())
+    }
+
+    fn find(&mut self, dir: u64, name: &[u8]) -> Result<Option<u64>, HostErr>
+        requires { IsDir self.old.view.forest dir }
+        ensures exact { FindsBy self.old dir name.now result self.new }
+        ensures ok { IfOk result (λ found. found ≡ entry self.old.view.forest dir name.now) }
+        ensures stays { self.new.view ≡ self.old.view }
+        ensures cause { HasCause self.old.script.faults self.new.script.faults (IsErrOf result HostErr.Failed) }
+    {
+        let _before = self.faults();
+        if self.script.fails(false) {
+            return Err(HostErr::Failed);
+        }
+        Ok(self.forest.find(dir, name))
+    }
+
+    fn read_at(&mut self, ino: u64, off: u64, buf: &mut [u8]) -> Result<usize, HostErr>
+        requires { IsFile self.old.view.forest ino }
+        ensures exact { ReadsBy self.old ino off buf.old buf.new result self.new }
+        ensures ok { IfOk result (Reads (content self.old.view.forest ino) off buf.old buf.new) }
+        ensures stays { self.new.view ≡ self.old.view }
+        ensures cause { HasCause self.old.script.faults self.new.script.faults (IsErrOf result HostErr.Failed) }
+    {
+        let _before = self.faults();
+        if self.script.fails(false) {
+            return Err(HostErr::Failed);
+        }
+        let Some(bytes) = self.forest.bytes_at(ino) else {
+            unreachable!()
+        };
+        let off = off as usize;
+        let most = buf.len().min(bytes.len().saturating_sub(off));
+        if most == 0 {
+            return Ok(0);
+        }
+        let count = self.script.length(most);
+        copy_front(bytes, off, count, buf);
+        Ok(count)
+    }
+
+    fn write_at(&mut self, ino: u64, off: u64, bytes: &[u8]) -> Result<usize, HostErr>
+        requires file { IsFile self.old.view.forest ino }
+        requires joined { off ≤ length (content self.old.view.forest ino) }
+        requires some { 0 < length bytes.now }
+        requires fits { off + length bytes.now ≤ FILE_LIMIT }
+        ensures exact { WritesBy self.old ino off bytes.now result self.new }
+        ensures legal { Writes self.old.view ino off bytes.now result self.new.view }
+        ensures cause { HasCause self.old.script.faults self.new.script.faults (IsErrOf result HostErr.Failed) }
+    {
+        let _before = self.faults();
+        if self.script.fails(false) {
+            return Err(HostErr::Failed);
+        }
+        let count = self.script.length(bytes.len());
+        let (front, _) = bytes.split_at(count);
+        self.forest.write(ino, off as usize, front)?;
+        Ok(count)
+    }
+}

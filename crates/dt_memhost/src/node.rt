@@ -1,0 +1,75 @@
+ghost use Rattle.std.specs.Prelude.{◌≡◌, ◌+◌, ◌≤◌, None, [], length, unwrap_or, option_map, option_copied, option_and_then, vec_items, OnOk, OnErr, IfSome};
+ghost use Rattle.std.specs.FinMap.{get, insert};
+ghost use Rattle.dt_host.specs.World.{file, dir, file_bytes, dir_names, overwritten};
+ghost use Rattle.dt_host.specs.Legal.{new_node};
+ghost use Rattle.dt_memhost.specs.Node.{node_of};
+
+use crate::dir::Entries;
+use crate::transfer::overwrite;
+use dt_base::NoMemory;
+use dt_host::NodeKind;
+use std::alloc::Global;
+
+/// A node in memory.
+#[derive(Drop)]
+pub(crate) enum MemNode {
+    /// The bytes of a file.
+    File(Vec<u8>),
+    /// The entries of a directory.
+    Dir(Entries),
+}
+
+impl MemNode {
+    // A new node of that kind.
+    pub(crate) fn new(alloc: Global, kind: NodeKind) -> MemNode
+        ensures { node_of result ≡ new_node kind }
+    {
+        match kind {
+            NodeKind::File => MemNode::File(Vec::new(alloc)),
+        }
+    }
+
+    // The bytes of a file.
+    pub(crate) fn bytes(&self) -> Option<&Vec<u8>>
+        ensures { option_map vec_items (option_copied result) ≡ file_bytes (node_of self.now) }
+    {
+        match self {
+            MemNode::File(bytes) => Some(bytes),
+            MemNode::Dir(_) => None,
+        }
+    }
+
+    // The number that a directory has under a name.
+    pub(crate) fn find(&self, name: &[u8]) -> Option<u64>
+        ensures { result ≡ option_and_then (λ names. get names name.now) (dir_names (node_of self.now)) }
+    {
+        match self {
+            MemNode::File(_) => None,
+            MemNode::Dir(entries) => entries.find(name),
+        }
+    }
+
+    // Writes over a file from a place in it on; a directory stays.
+    pub(crate) fn write(&mut self, off: usize, piece: &[u8]) -> Result<(), NoMemory>
+        requires { off ≤ length (unwrap_or (file_bytes (node_of self.old)) []) }
+        ensures ok { OnOk result (IfSome (file_bytes (node_of self.old)) (λ old. node_of self.new ≡ file (overwritten old off piece.now))) }
+        ensures err { OnErr result (node_of self.new ≡ node_of self.old) }
+    {
+        match self {
+            MemNode::File(bytes) => overwrite(bytes, off, piece),
+            MemNode::Dir(_) => Ok(()),
+        }
+    }
+
+    // Adds an entry to a directory, whose name isn't there; a file stays.
+    pub(crate) fn bind(&mut self, name: Vec<u8>, number: u64) -> Result<(), NoMemory>
+        requires { option_and_then (λ names. get names name.items) (dir_names (node_of self.old)) ≡ None }
+        ensures ok { OnOk result (IfSome (dir_names (node_of self.old)) (λ old. node_of self.new ≡ dir (insert old name.items number))) }
+        ensures err { OnErr result (node_of self.new ≡ node_of self.old) }
+    {
+        match self {
+            MemNode::File(_) => Ok(()),
+            MemNode::Dir(entries) => entries.bind(name, number),
+        }
+    }
+}
