@@ -1,13 +1,13 @@
 // The files of the machine, by their paths.
-ghost use Rattle.std.specs.Prelude.{None};
+ghost use Rattle.std.specs.Prelude.{◌≡◌, ◌≤◌, None, length, IfOk};
+ghost use Rattle.dt_host.specs.Cause.{Rose};
 
 use dt_host::{Store, StoreErr};
-use std::fs;
 use std::fs::File;
-use std::fs::unix::FileExt;
-use std::io;
 use std::io::ErrorKind;
+use std::os::unix::fs::FileExt;
 use std::rt::Files;
+use std::{fs, io};
 
 /// A store whose names are paths of the machine. It tells no content: what a path holds may change at any time.
 #[derive(Drop)]
@@ -21,7 +21,11 @@ impl<R> FolderStore<R> {
         FolderStore { rt, faults: 0 }
     }
 
-    fn fail(&mut self) -> StoreErr {
+    fn fail(&mut self) -> StoreErr
+        ensures failed { result ≡ StoreErr.Failed }
+        ensures later { self.old.faults ≤ self.new.faults }
+        ensures rose { Rose self.old.faults self.new.faults }
+    {
         self.faults = self.faults.saturating_add(1);
         StoreErr::Failed
     }
@@ -59,6 +63,8 @@ fn read_piece<R: Files<File = File>>(
     name: &str,
     off: u64,
     buf: &mut [u8],
-) -> io::Result<usize> {
+) -> io::Result<usize>
+    ensures { IfOk result (λ count. count ≤ length buf.old) }
+{
     fs::open(rt, name)?.read_at(buf, off)
 }

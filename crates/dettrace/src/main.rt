@@ -9,19 +9,51 @@ use crate::std_sink::StdSink;
 use dt_base::NoMemory;
 use dt_host::NoGate;
 use dt_memhost::{MemHost, Picker};
-use dt_run::{Failure, dettrace, fail};
-use std::alloc::Global;
+use dt_run::{Failure, dettrace, tell};
 use std::env;
-use std::io;
 use std::io::ErrorKind;
 use std::process::ExitCode;
-use std::rt::{Clock, Env};
+use std::rt::Clock;
 use std::time::{SystemTime, UNIX_EPOCH};
 
 fn main(rt: HostRuntime) -> ExitCode {
+    let alloc = rt.alloc();
     let mut err = StdSink::new(rt.stderr());
-    ExitCode::from(match run(&rt, &mut err) {
-        Ok(status) => status,
-        Err(failure) => fail(failure, &mut err),
-    })
+    let words = match command_words(&rt) {
+        Ok(words) => words,
+        Err(failure) => return ExitCode::from(tell(failure, &mut err)),
+    };
+    let picker = Picker::new(Vec::new(alloc), clock_number(&rt));
+    let mut host = match MemHost::new(alloc, picker, Vec::new(alloc)) {
+        Ok(host) => host,
+        Err(NoMemory) => return ExitCode::from(tell(Failure::NoMemory, &mut err)),
+    };
+    let mut store = FolderStore::new(&rt);
+    let mut out = StdSink::new(rt.stdout());
+    ExitCode::from(dettrace(
+        alloc, &words, &mut store, &mut host, &mut out, &mut err, &NoGate,
+    ))
+}
+
+// The words after the program's name. Words that are no text are refused like any others.
+fn command_words(rt: &HostRuntime) -> Result<Vec<String>, Failure> {
+    match env::args(rt) {
+        Ok(mut args) => {
+            let _program = args.next();
+            Ok(args.collect(rt.alloc()).map_err(|_| Failure::NoMemory)?)
+        }
+        Err(error) if error.kind() == ErrorKind::OutOfMemory => Err(Failure::NoMemory),
+        Err(_) => Err(Failure::Usage),
+    }
+}
+
+// A number that differs from run to run, from which the host makes its choices; 0 where the clock cannot be read.
+fn clock_number(clock: &impl Clock) -> u64 {
+    match SystemTime::now(clock) {
+        Ok(now) => match now.duration_since(UNIX_EPOCH) {
+            Ok(since) => (since.as_nanos() & u128::from(u64::MAX)) as u64,
+            Err(_) => 0,
+        },
+        Err(_) => 0,
+    }
 }

@@ -83,8 +83,8 @@ turns-enough (suc n) (suc a) (suc b) s live an bn la lb =
     let t = turn s in
     let on = turn-goes_on s live in
     go_on-same t.verdict t (turns a) (turns b) (λ e.
-      let less = on.cheaper e in
-      turns-enough n a b t.next (on.live e) (omega arith) (omega arith) (omega arith) (omega arith))
+    let less = on.cheaper e in
+    turns-enough n a b t.next (on.live e) (omega arith) (omega arith) (omega arith) (omega arith))
 
 -- the course from a state: a turn, and then the course from the next
 pub course-turn : (s : State) → IsLive s.process.phase → let t = turn s in course s ≡ go_on t t.verdict course
@@ -93,8 +93,8 @@ course-turn s live =
     let t = turn s in
     let on = turn-goes_on s live in
     ap (λ n. turns n s) (add-one s.left) ∙ go_on-same t.verdict t (turns s.left) course (λ e.
-      let less = on.cheaper e in
-      turns-enough s.left s.left (t.next.left + 1) t.next (on.live e) (omega arith) (omega arith) (omega arith) (omega arith))
+    let less = on.cheaper e in
+    turns-enough s.left s.left (t.next.left + 1) t.next (on.live e) (omega arith) (omega arith) (omega arith) (omega arith))
 
 after-after : (a b : List Event) (c : Course) → after a (after b c) ≡ after (a ++ b) c
 after-after a b c = ap (λ events. record { events = events; verdict = c.verdict; last = c.last }) (sym (append_assoc a b c.events))

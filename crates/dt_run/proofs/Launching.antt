@@ -87,9 +87,9 @@ pub launched-missed : (w : World) (e : Entry) (h : HoldsEntry w e) (name : List 
 launched-missed w e h name is =
     let apart = misses w e h name is in
     sym (missed_if (bytes_eq e.path (47 ∷ name)) e (λ same.
-      let paths = (bytes_eq-Decides e.path (47 ∷ name)).0 same in
-      let both = sym h.path ∙ paths in
-      apart (ap (λ path. unwrap_or (tail_of path) []) both)))
+    let paths = (bytes_eq-Decides e.path (47 ∷ name)).0 same in
+    let both = sym h.path ∙ paths in
+    apart (ap (λ path. unwrap_or (tail_of path) []) both)))
 
 -- what a host answered, of its world before
 pub asked : (before w : World) (root : ℕ) (name : List ℕ) (found answer : Option ℕ) → w ≡ before → root ≡ before.forest.root → found ≡ entry_at w.forest root name → found ≡ answer → entry_at before.forest before.forest.root name ≡ answer

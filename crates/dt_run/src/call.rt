@@ -10,13 +10,18 @@ use dt_base::{Blob, End, Errno, Event, NoMemory, TRANSFER_LIMIT};
 use std::alloc::Global;
 
 const WRITE: u64 = 64;
+
 const EXIT: u64 = 93;
+
 const EXIT_GROUP: u64 = 94;
 
 // Registers of a call (riscv-elf-psabi: a7 has the number, a0 to a5 the arguments).
 const A0: u8 = 10;
+
 const A1: u8 = 11;
+
 const A2: u8 = 12;
+
 const A7: u8 = 17;
 
 /// What becomes of a process whose stop was served.

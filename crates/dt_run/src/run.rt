@@ -16,7 +16,9 @@ use crate::error::RunErr;
 use crate::install::{install, read_file};
 use crate::launch::launch;
 use crate::machine::Machine;
-use crate::report::{write_events, write_file_line, write_header, write_tree_header, write_verdict};
+use crate::report::{
+    write_events, write_file_line, write_header, write_tree_header, write_verdict,
+};
 use crate::turn::{State, play};
 use dt_base::{Blob, Command, Entry, Errno, Event, Image, NoMemory, Verdict, What};
 use dt_host::{Gate, Host, HostErr, Sink, sink_all};
@@ -130,11 +132,7 @@ fn program(args: &[Blob]) -> &Blob
 }
 
 // The course of a program that was started, or the end of one that was not.
-fn finish(
-    alloc: Global,
-    started: Result<Machine, Errno>,
-    budget: u64,
-) -> Result<Finished, NoMemory>
+fn finish(alloc: Global, started: Result<Machine, Errno>, budget: u64) -> Result<Finished, NoMemory>
     ensures { (entries : _) → IfOk result (λ run. outcome_of entries budget started ≡ record { events = run.events.items; verdict = run.verdict; status = run.status; tree = entries }) }
 {
     match started {
@@ -171,7 +169,14 @@ fn report_text<H: Host>(
     let mut text = Vec::new(alloc);
     write_run(&mut text, run)?;
     write_tree_header(&mut text, 1)?;
-    write_file_line(alloc, &mut text, FIRST_INODE, entry.mode, entry.path.as_slice(), &bytes)?;
+    write_file_line(
+        alloc,
+        &mut text,
+        FIRST_INODE,
+        entry.mode,
+        entry.path.as_slice(),
+        &bytes,
+    )?;
     Ok(text)
 }
 

@@ -19,7 +19,9 @@ use std::alloc::Global;
 
 // What a run has whose words give no other: a seed, a budget in steps, and so many workers.
 const SEED: u64 = 0;
+
 const BUDGET: u64 = 100_000_000;
+
 const WORKERS: usize = 1;
 
 /// Runs what the words ask for, on the image that the store holds, at a host that holds nothing.

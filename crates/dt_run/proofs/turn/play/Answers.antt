@@ -14,7 +14,7 @@ loop-events-smaller c =
 pub loop-events-preserved : goal.loop-events-preserved
 loop-events-preserved c = record {
   whole =
-    rw c.in_ok-append.ensures.items
-    (course-next _ _ _ _ _ _ c.loop-events.invariant.whole c.loop-events.invariant.live c.in_ok-turned.ensures c.in-None.is);
+      rw c.in_ok-append.ensures.items
+      (course-next _ _ _ _ _ _ c.loop-events.invariant.whole c.loop-events.invariant.live c.in_ok-turned.ensures c.in-None.is);
   live = IsLive-next _ _ _ _ c.loop-events.invariant.live c.in_ok-turned.ensures c.in-None.is;
 }
