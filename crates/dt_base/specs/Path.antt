@@ -22,7 +22,7 @@ pieces_of (b ∷ bs) = if is_slash b then [] ∷ pieces_of bs else with_first b 
 abbrev pub has_no_nul : List ℕ → Bool
 has_no_nul bytes = list_all (λ b. not (b == 0)) bytes
 
--- a name that an entry may have: 1 to 255 bytes, not `.` and not `..`
+-- a piece that may be a name: 1 to 255 bytes, not `.` and not `..`
 abbrev pub is_name : List ℕ → Bool
 is_name name = nat_le 1 (length name) && nat_le (length name) NAME_LIMIT && not (bytes_eq name (codes ".")) && not (bytes_eq name (codes ".."))
 
@@ -30,7 +30,7 @@ is_name name = nat_le 1 (length name) && nat_le (length name) NAME_LIMIT && not 
 abbrev pub is_path : List ℕ → Bool
 is_path path = nat_le (length path) PATH_LIMIT && bytes_eq (take 1 path) (codes "/") && has_no_nul path && list_all is_name (pieces_of (drop 1 path))
 
--- a path of one name
+-- there is no `/` after the first byte, so a path of this form has one name
 abbrev pub is_top : List ℕ → Bool
 is_top path = length (pieces_of (drop 1 path)) == 1
 

@@ -24,7 +24,7 @@ abbrev pub Binds : {A E : Type 0} → World → ℕ → List ℕ → ℕ → Res
 Binds old d name n result new =
     MatchResult result (λ _. new ≡ with_forest old (with_entry old.forest d name n)) (λ _. new ≡ old)
 
--- so many bytes of a file, from a place on, came into the front of a buffer
+-- so many bytes of a file, from a place on, came into the front of a buffer; the file's size is a 64-bit number, as all numbers of a host are
 pub record Reads (bytes : List ℕ) (off : ℕ) (old new : List ℕ) (count : ℕ) : Type 0 where
   pub moved : MovesSome (min (length old) (length bytes - off)) count
   pub front : new ≡ take count (drop off bytes) ++ drop count old

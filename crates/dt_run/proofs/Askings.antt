@@ -21,9 +21,9 @@ use Rattle.dt_run.specs.Options.{Request, request_of}
 use Rattle.dt_run.specs.ImageOf.{image_of}
 use Rattle.dt_run.specs.Failure.{failure_status, failure_line}
 use Rattle.dt_run.specs.Launch.{launch}
-use Rattle.dt_run.specs.Run.{Outcome, outcome_of, run_of, report_of}
+use Rattle.dt_run.specs.Run.{Run, run_from, run_of, report_of}
 use Rattle.dt_run.specs.Asked.{asked, run_asked, run_on, asked_report, default_seed, default_budget}
-use Rattle.dt_run.specs.Headline.{is_run_status, Completes, RefusesImage, line_of, TellsLine}
+use Rattle.dt_run.specs.Statuses.{is_run_status, Completes, RefusesImage, line_of, TellsLine}
 
 code_status : (b : Bool) → IsTrue (is_run_status (cond b 0 1))
 code_status true = refl
@@ -35,14 +35,14 @@ status_of-run (Ran seg) = refl
 status_of-run (Zombie (Code code)) = code_status (eqb code 0)
 status_of-run (Zombie (Signal signal)) = refl
 
-outcome_of-status : (entries : List Entry) (budget : ℕ) (started : Result Machine Errno) → IsTrue (is_run_status (outcome_of entries budget started).status)
-outcome_of-status entries budget (Ok m) = let last = course (record { process = record { machine = m; phase = Owes }; left = budget }) in status_of-run last.last.process.phase
-outcome_of-status entries budget (Err errno) = refl
+run_from-status : (entries : List Entry) (budget : ℕ) (started : Result Machine Errno) → IsTrue (is_run_status (run_from entries budget started).status)
+run_from-status entries budget (Ok m) = let last = course (record { process = record { machine = m; phase = Owes }; left = budget }) in status_of-run last.last.process.phase
+run_from-status entries budget (Err errno) = refl
 
 -- the status of a run is 0, 1 or 10
 pub run_of-status : (entries : List Entry) (words : Words) (seed budget status : ℕ) → status ≡ (run_of entries words seed budget).status → IsTrue (is_run_status status)
 unfolding run_of
-run_of-status entries words seed budget status is = subst (λ s. IsTrue (is_run_status s)) (sym is) (outcome_of-status entries budget (launch entries words))
+run_of-status entries words seed budget status is = subst (λ s. IsTrue (is_run_status s)) (sym is) (run_from-status entries budget (launch entries words))
 
 -- what was added is a part of the report of the run on the image that was read
 pub part_on : (told : Option Files) (folder at : List ℕ) (image : List Entry) (words : Words) (old new : Option (List ℕ)) → folder ≡ at → IfSome told (λ files. image_of files folder ≡ Ok image) → AddsPart old new (report_of (run_of image words default_seed default_budget)) → IfSome told (λ files. AddsPart old new (asked_report (run_on words (image_of files at))))
@@ -81,7 +81,7 @@ refuses NoMemory status told words by three is = absurd (⊎_elim (λ e. cc) (λ
 own_status : (f : Failure) (status : ℕ) → (status ≡ failure_status f) ⊎ (status ≡ 7) → status ≢ 7 → status ≡ failure_status f
 own_status f status by other = ⊎_elim (λ e. e) (λ e. absurd (other e)) by
 
-line_of-failure : (f : Failure) (run : Result Outcome Failure) → failure_status f ≢ 7 → ((refusal : Refusal) → f ≡ Image refusal → run ≡ Err (Image refusal)) → line_of run (failure_status f) ≡ failure_line f
+line_of-failure : (f : Failure) (run : Result Run Failure) → failure_status f ≢ 7 → ((refusal : Refusal) → f ≡ Image refusal → run ≡ Err (Image refusal)) → line_of run (failure_status f) ≡ failure_line f
 line_of-failure Usage run other is = refl
 line_of-failure (Image refusal) run other is = ap (λ found. line_of found 3) (is refusal refl)
 line_of-failure Store run other is = refl

@@ -20,7 +20,7 @@ use Rattle.dt_run.specs.Segment.{SegmentRun, segment_of, run_steps, go_on as ste
 use Rattle.dt_run.specs.Process.{with_segment, ran_in, ran_process, cost_of}
 use Rattle.dt_run.specs.Call.{Served, served}
 use Rattle.dt_run.specs.Turn.{Turn, turn, billed, paid, settled}
-use Rattle.dt_run.specs.Course.{Course, course, turns, go_on, after, IsLive}
+use Rattle.dt_run.specs.Course.{Course, course, turns, go_on, after, HasCost}
 use Rattle.dt_run.proofs.Runs.{run-step, segment-starts}
 
 -- a segment makes a step
@@ -45,7 +45,7 @@ segment_of-least m =
 -- after a turn with no verdict less is left than a bound, and the process owes a segment
 pub record GoesOn (bound : ℕ) (t : Turn) : Type 0 where
   pub cheaper : t.verdict ≡ None → t.next.left + 1 ≤ bound
-  pub live : t.verdict ≡ None → IsLive t.next.process.phase
+  pub live : t.verdict ≡ None → HasCost t.next.process.phase
 
 settled_on : (p : Process) (left bound : ℕ) (s : Served) (o : Outcome) → left + 1 ≤ bound → GoesOn bound (settled p left s o)
 settled_on p left bound s Done h = record { cheaper = λ _. h; live = λ _. tt }
@@ -60,12 +60,12 @@ paid_on false p left seg e h = record { cheaper = λ e. cc; live = λ e. cc }
 billed_on : (m : Machine) (left : ℕ) (seg : Seg) → 1 ≤ seg.count → GoesOn left (billed (record { machine = m; phase = Ran seg }) left)
 billed_on m left seg h = paid_on (nat_le seg.count left) (record { machine = m; phase = Ran seg }) left seg refl h
 
-ran_on : (m : Machine) (left : ℕ) (phase : Phase) → IsLive phase → GoesOn left (billed (ran_in (record { machine = m; phase = phase }) phase) left)
+ran_on : (m : Machine) (left : ℕ) (phase : Phase) → HasCost phase → GoesOn left (billed (ran_in (record { machine = m; phase = phase }) phase) left)
 ran_on m left Owes h = let r = segment_of m in billed_on r.machine left (record { count = r.count; stop = r.stop }) (segment_of-least m)
 ran_on m left (Ran seg) h = billed_on m left seg h
 ran_on m left (Zombie end) h = absurd h
 
-pub turn-goes_on : (s : State) → IsLive s.process.phase → GoesOn s.left (turn s)
+pub turn-goes_on : (s : State) → HasCost s.process.phase → GoesOn s.left (turn s)
 unfolding turn with_segment
 turn-goes_on s h = ran_on s.process.machine s.left s.process.phase h
 
@@ -74,7 +74,7 @@ go_on-same (Some verdict) t f g same = refl
 go_on-same None t f g same = ap (after t.events) (same refl)
 
 -- as many turns as the budget pays for are enough
-turns-enough : (n a b : ℕ) (s : State) → IsLive s.process.phase → a ≤ n → b ≤ n → s.left + 1 ≤ a → s.left + 1 ≤ b → turns a s ≡ turns b s
+turns-enough : (n a b : ℕ) (s : State) → HasCost s.process.phase → a ≤ n → b ≤ n → s.left + 1 ≤ a → s.left + 1 ≤ b → turns a s ≡ turns b s
 unfolding turns
 turns-enough n zero b s live an bn la lb = absurd (omega arith)
 turns-enough n (suc a) zero s live an bn la lb = absurd (omega arith)
@@ -87,7 +87,7 @@ turns-enough (suc n) (suc a) (suc b) s live an bn la lb =
     turns-enough n a b t.next (on.live e) (omega arith) (omega arith) (omega arith) (omega arith))
 
 -- the course from a state: a turn, and then the course from the next
-pub course-turn : (s : State) → IsLive s.process.phase → let t = turn s in course s ≡ go_on t t.verdict course
+pub course-turn : (s : State) → HasCost s.process.phase → let t = turn s in course s ≡ go_on t t.verdict course
 unfolding turns course
 course-turn s live =
     let t = turn s in
@@ -100,22 +100,22 @@ after-after : (a b : List Event) (c : Course) → after a (after b c) ≡ after 
 after-after a b c = ap (λ events. record { events = events; verdict = c.verdict; last = c.last }) (sym (append_assoc a b c.events))
 
 -- the last turn of a course
-pub course-last : (start s next : State) (before events : List Event) (found : Option Verdict) (verdict : Verdict) → course start ≡ after before (course s) → IsLive s.process.phase → turn s ≡ record { next = next; events = events; verdict = found } → found ≡ Some verdict → course start ≡ record { events = before ++ events; verdict = verdict; last = next }
+pub course-last : (start s next : State) (before events : List Event) (found : Option Verdict) (verdict : Verdict) → course start ≡ after before (course s) → HasCost s.process.phase → turn s ≡ record { next = next; events = events; verdict = found } → found ≡ Some verdict → course start ≡ record { events = before ++ events; verdict = verdict; last = next }
 course-last start s next before events found verdict whole live is over =
     whole ∙ ap (after before) (course-turn s live ∙ ap (λ t. go_on t t.verdict course) (is ∙ ap (λ v. record { next = next; events = events; verdict = v }) over))
 
 -- a turn of a course that goes on
-pub course-next : (start s next : State) (before events : List Event) (found : Option Verdict) → course start ≡ after before (course s) → IsLive s.process.phase → turn s ≡ record { next = next; events = events; verdict = found } → found ≡ None → course start ≡ after (before ++ events) (course next)
+pub course-next : (start s next : State) (before events : List Event) (found : Option Verdict) → course start ≡ after before (course s) → HasCost s.process.phase → turn s ≡ record { next = next; events = events; verdict = found } → found ≡ None → course start ≡ after (before ++ events) (course next)
 course-next start s next before events found whole live is over =
     whole ∙ ap (after before) (course-turn s live ∙ ap (λ t. go_on t t.verdict course) (is ∙ ap (λ v. record { next = next; events = events; verdict = v }) over))
     ∙ after-after before events (course next)
 
-pub left-next : (s next : State) (events : List Event) (found : Option Verdict) → IsLive s.process.phase → turn s ≡ record { next = next; events = events; verdict = found } → found ≡ None → next.left + 1 ≤ s.left
+pub left-next : (s next : State) (events : List Event) (found : Option Verdict) → HasCost s.process.phase → turn s ≡ record { next = next; events = events; verdict = found } → found ≡ None → next.left + 1 ≤ s.left
 left-next s next events found live is over =
     let on = turn-goes_on s live in
     subst (λ t. t.next.left + 1 ≤ s.left) is (on.cheaper (ap (λ t. t.verdict) is ∙ over))
 
-pub IsLive-next : (s next : State) (events : List Event) (found : Option Verdict) → IsLive s.process.phase → turn s ≡ record { next = next; events = events; verdict = found } → found ≡ None → IsLive next.process.phase
-IsLive-next s next events found live is over =
+pub HasCost-next : (s next : State) (events : List Event) (found : Option Verdict) → HasCost s.process.phase → turn s ≡ record { next = next; events = events; verdict = found } → found ≡ None → HasCost next.process.phase
+HasCost-next s next events found live is over =
     let on = turn-goes_on s live in
-    subst (λ t. IsLive t.next.process.phase) is (on.live (ap (λ t. t.verdict) is ∙ over))
+    subst (λ t. HasCost t.next.process.phase) is (on.live (ap (λ t. t.verdict) is ∙ over))

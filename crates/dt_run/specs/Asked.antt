@@ -8,7 +8,7 @@ use Rattle.dt_run.specs.declared.failure.Failure.{Failure}
 use Rattle.dt_run.specs.declared.failure.Failure.TheVariants.{Usage, Image}
 use Rattle.dt_run.specs.Options.{Request, request_of}
 use Rattle.dt_run.specs.ImageOf.{image_of}
-use Rattle.dt_run.specs.Run.{Outcome, run_of, report_of}
+use Rattle.dt_run.specs.Run.{Run, run_of, report_of}
 
 -- the seed and the budget of a run whose words give none
 abbrev pub default_seed : ℕ
@@ -18,20 +18,20 @@ abbrev pub default_budget : ℕ
 default_budget = 100000000
 
 -- a run on an image that was read, or the image's refusal
-abbrev pub run_on : Words → Result (List Entry) Refusal → Result Outcome Failure
+abbrev pub run_on : Words → Result (List Entry) Refusal → Result Run Failure
 run_on words (Err refusal) = Err (Image refusal)
 run_on words (Ok entries) = Ok (run_of entries words default_seed default_budget)
 
 -- a run of a request, or the words' refusal
-abbrev pub run_asked : Files → Option Request → Result Outcome Failure
+abbrev pub run_asked : Files → Option Request → Result Run Failure
 run_asked files None = Err Usage
 run_asked files (Some request) = run_on request.command (image_of files request.image)
 
 -- the run that the words ask for over a store's files, or the first refusal
-unfoldable pub asked : Files → List (List ℕ) → Result Outcome Failure
+unfoldable pub asked : Files → List (List ℕ) → Result Run Failure
 asked files words = run_asked files (request_of words)
 
 -- the report of what is asked; none where that is refused
-abbrev pub asked_report : Result Outcome Failure → List ℕ
+abbrev pub asked_report : Result Run Failure → List ℕ
 asked_report (Ok run) = report_of run
 asked_report (Err failure) = []

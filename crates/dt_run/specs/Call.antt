@@ -1,4 +1,4 @@
--- What a stop of a process asks for, and the system calls: one row for each number (syscall(2), riscv64).
+-- What a stop of a process asks for, and the system calls by their numbers (syscall(2), riscv64).
 use Rattle.std.specs.Prelude.{ℕ, ◌-◌, ◌%◌, ◌^◌, min, ◌||◌, ◌==◌, List, [], ◌∷◌, length, Result, Ok, Err, if◌then◌else◌}
 use Rattle.dt_base.specs.declared.limits.TheConstants.{TRANSFER_LIMIT}
 use Rattle.dt_base.specs.declared.errno.Errno.{Errno}
@@ -53,11 +53,11 @@ write_call m =
 unfoldable pub exit_call : Machine → Served
 exit_call m = quiet m (Ends (Code (register m 10 % 256)))
 
--- the row of a call's number
+-- what the call of a number does
 unfoldable pub call_of : ℕ → Machine → Served
 call_of number m = if number == 64 then write_call m else (if (number == 93) || (number == 94) then exit_call m else quiet m (Unsupported number))
 
--- a call is its number's row, a fault's signal ends the process, and at the end of a slice it goes on
+-- a call is served by its number, a fault's signal ends the process, and at the end of a slice it goes on
 unfoldable pub served : Machine → Stop → Served
 served m Call = call_of (register m 17) m
 served m (Fault signal) = quiet m (Ends (Signal signal))

@@ -32,8 +32,8 @@ turns (suc most) s = let t = turn s in go_on t t.verdict (turns most)
 unfoldable pub course : State → Course
 course s = turns (s.left + 1) s
 
--- a turn in this phase costs at least 1: a segment is owed, or one was run
-abbrev pub IsLive : Phase → Type 0
-IsLive Owes = Unit {0}
-IsLive (Ran seg) = 1 ≤ seg.count
-IsLive (Zombie end) = ⊥
+-- a turn that begins in this phase costs at least 1: a segment is owed, or one was run
+abbrev pub HasCost : Phase → Type 0
+HasCost Owes = Unit {0}
+HasCost (Ran seg) = 1 ≤ seg.count
+HasCost (Zombie end) = ⊥

@@ -5,7 +5,7 @@ use Rattle.std.specs.Str.{is_utf8}
 use Rattle.std.specs.FinMap.{get}
 use Rattle.serde_json.specs.Data.{Data}
 use Rattle.serde_json.specs.Read.{read}
-use Rattle.dt_base.specs.Path.{is_top}
+use Rattle.dt_run.specs.Flat.{is_root_file}
 use Rattle.dt_base.specs.declared.image.Entry.{Entry}
 use Rattle.dt_base.specs.declared.image.What.{What}
 use Rattle.dt_base.specs.declared.image.What.TheVariants.{File, Dir, Link}
@@ -57,12 +57,6 @@ abbrev pub fault_of : StoreErr → ImageErr
 fault_of store.Failed = Store
 fault_of store.NoMemory = NoMemory
 
--- it is a file
-abbrev pub is_file : What → Bool
-is_file (File bytes) = true
-is_file Dir = false
-is_file (Link target) = false
-
 -- the entry is one that an image of one file may have
 abbrev pub IsTopEntry : IndexEntry → Type 0
 IsTopEntry entry = IsTrue (is_top_path entry.path) × (entry.mode ≤ MODE_LIMIT)
@@ -70,5 +64,5 @@ IsTopEntry entry = IsTrue (is_top_path entry.path) × (entry.mode ≤ MODE_LIMIT
 -- there is one entry, a file in the root
 abbrev pub IsOneFile : List Entry → Type 0
 IsOneFile [] = ⊥
-IsOneFile (entry ∷ []) = IsTrue (is_file entry.what && is_top entry.path)
+IsOneFile (entry ∷ []) = IsTrue (is_root_file entry)
 IsOneFile (entry ∷ next ∷ rest) = ⊥

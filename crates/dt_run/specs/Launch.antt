@@ -1,4 +1,4 @@
--- How a run starts its program (execve(2)), while paths have one name.
+-- How a run starts its program (execve(2)), for paths of one name.
 use Rattle.std.specs.Prelude.{ℕ, ◌&&◌, ◌||◌, List, [], ◌∷◌, length, drop, take, codes, Bool, not, nat_lt, Option, Some, None, Result, Ok, Err, find, if◌then◌else◌}
 use Rattle.std.specs.List.{list_any}
 use Rattle.std.specs.Str.{bytes_eq}
@@ -30,7 +30,7 @@ loaded_as bytes (Ok elf) = within_limit (first elf bytes)
 unfoldable pub loaded : List ℕ → Result Machine Errno
 loaded bytes = loaded_as bytes (exe bytes)
 
--- what stands at a path is executed where it is a file
+-- what stands in the root is executed where it is a file
 abbrev pub executed : What → Result Machine Errno
 executed (File bytes) = loaded bytes
 executed Dir = Err Acces
@@ -45,7 +45,7 @@ executed_at (Some entry) = executed entry.what
 abbrev pub entry_named : List ℕ → List Entry → Option Entry
 entry_named name entries = find (λ entry. bytes_eq entry.path (47 ∷ name)) entries
 
--- the name that `.` and `..` lead to is the root's, and it is no file
+-- the name is `.` or `..`, which in the root lead to the root
 abbrev pub is_dots : List ℕ → Bool
 is_dots name = bytes_eq name (codes ".") || bytes_eq name (codes "..")
 

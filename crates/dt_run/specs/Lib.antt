@@ -1,6 +1,7 @@
 pub mod Options
 pub mod Index
 pub mod IndexView
+pub mod Flat
 pub mod ImageOf
 pub mod Errors
 pub mod Failure
@@ -23,4 +24,4 @@ pub mod Tree
 pub mod Report
 pub mod Run
 pub mod Asked
-pub mod Headline
+pub mod Statuses

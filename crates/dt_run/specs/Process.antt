@@ -23,7 +23,7 @@ ran_in p (Zombie end) = p
 unfoldable pub with_segment : Process → Process
 with_segment p = ran_in p p.phase
 
--- what a turn of a process in this phase costs: the steps of its segment
+-- what the rest of a turn costs: the steps of the segment that was run
 abbrev pub cost_of : Phase → ℕ
 cost_of Owes = 0
 cost_of (Ran seg) = seg.count

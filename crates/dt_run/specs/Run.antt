@@ -15,23 +15,23 @@ use Rattle.dt_run.specs.Launch.{launch}
 use Rattle.dt_run.specs.Report.{report}
 
 -- what a run gives: its events, its verdict, its status and its last tree
-pub record Outcome : Type 0 where
+pub record Run : Type 0 where
   pub events : List Event
   pub verdict : Verdict
   pub status : ℕ
   pub tree : List Entry
 
 -- where the program is started the run takes its course, and else it is over at once
-abbrev pub outcome_of : List Entry → ℕ → Result Machine Errno → Outcome
-outcome_of entries budget (Ok m) =
+abbrev pub run_from : List Entry → ℕ → Result Machine Errno → Run
+run_from entries budget (Ok m) =
     let c = course (record { process = record { machine = m; phase = Owes }; left = budget }) in
     record { events = c.events; verdict = c.verdict; status = status_of c.last.process.phase; tree = entries }
-outcome_of entries budget (Err errno) = record { events = []; verdict = NoStart errno; status = 10; tree = entries }
+run_from entries budget (Err errno) = record { events = []; verdict = NoStart errno; status = 10; tree = entries }
 
 -- the run of a command on an image
-unfoldable pub run_of : List Entry → Words → ℕ → ℕ → Outcome
-run_of entries words seed budget = outcome_of entries budget (launch entries words)
+unfoldable pub run_of : List Entry → Words → ℕ → ℕ → Run
+run_of entries words seed budget = run_from entries budget (launch entries words)
 
 -- the report of a run
-abbrev pub report_of : Outcome → List ℕ
+abbrev pub report_of : Run → List ℕ
 report_of run = report run.events run.verdict run.tree

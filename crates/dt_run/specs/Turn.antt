@@ -1,4 +1,4 @@
--- One turn of a run, while there is one process.
+-- One turn of a run with one process.
 use Rattle.std.specs.Prelude.{ℕ, ◌-◌, List, [], ◌∷◌, ◌++◌, Option, Some, None, nat_le, if◌then◌else◌}
 use Rattle.dt_base.specs.declared.event.Event.{Event}
 use Rattle.dt_base.specs.declared.event.Event.TheVariants.{Exit}
@@ -19,13 +19,13 @@ pub record Turn : Type 0 where
   pub events : List Event
   pub verdict : Option Verdict
 
--- after its stop was served the process owes a segment; or it has ended, and so has the run; or its call isn't known, and all is as it was
+-- after its stop was served the process owes a segment; or it has ended, and so has the run; or its call isn't known, and the turn has cost its steps and changed nothing else
 abbrev pub settled : Process → ℕ → Served → Outcome → Turn
 settled p left s Done = record { next = record { process = record { machine = s.machine; phase = Owes }; left = left }; events = s.events; verdict = None }
 settled p left s (Ends end) = record { next = record { process = record { machine = s.machine; phase = Zombie end }; left = left }; events = s.events ++ Exit 1 end ∷ []; verdict = Some Ended }
 settled p left s (Unsupported number) = record { next = record { process = p; left = left }; events = []; verdict = Some (UnsupportedCall 1 number) }
 
--- the rest of a turn that was paid for
+-- the rest of a turn that was paid for; a process in another phase than Ran takes none
 abbrev pub paid : Process → ℕ → Phase → Turn
 paid p left (Ran seg) = let s = served p.machine seg.stop in settled p left s s.outcome
 paid p left Owes = record { next = record { process = p; left = left }; events = []; verdict = Some Ended }

@@ -54,7 +54,7 @@ impl Answer {
     }
 }
 
-/// Serves a stop: a call by its row, a fault by the end of the process, the end of a slice by nothing.
+/// Serves a stop: a call by its number, a fault by the end of the process, the end of a slice by nothing.
 #[tactic(auto, unfolding(crate::specs::Call::served))]
 pub fn serve(alloc: Global, machine: &mut Machine, stop: Stop) -> Result<Answer, NoMemory>
     ensures served { IfOk result (λ a. served machine.old stop ≡ record { machine = machine.new; events = a.events.items; outcome = a.outcome }) }

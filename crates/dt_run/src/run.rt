@@ -10,7 +10,7 @@ ghost use Rattle.dt_run.specs.ImageOf.{IsOneFile};
 ghost use Rattle.dt_run.specs.Installed.{IsRootFile, HoldsEntry};
 ghost use Rattle.dt_run.specs.Launch.{launch, first_word};
 ghost use Rattle.dt_run.specs.Report.{report, header, events_text, verdict_text};
-ghost use Rattle.dt_run.specs.Run.{outcome_of, run_of, report_of};
+ghost use Rattle.dt_run.specs.Run.{run_from, run_of, report_of};
 
 use crate::error::RunErr;
 use crate::install::{install, read_file};
@@ -114,7 +114,7 @@ fn run_program<H: Host>(
 ) -> Result<Finished, RunErr>
     requires { (entry : Entry) × HoldsEntry (H.view host.old) entry }
     ensures ok { (entry : Entry) → HoldsEntry (H.view host.old) entry → IfOk result (λ run.
-        outcome_of (entry ∷ []) budget (launch (entry ∷ []) command.now) ≡ record { events = run.events.items; verdict = run.verdict; status = run.status; tree = entry ∷ [] }) }
+        run_from (entry ∷ []) budget (launch (entry ∷ []) command.now) ≡ record { events = run.events.items; verdict = run.verdict; status = run.status; tree = entry ∷ [] }) }
     ensures stays { H.view host.new ≡ H.view host.old }
     ensures cause { HasCause (H.count host.old) (H.count host.new) (IsErrOf result RunErr.Host) }
     ensures kinds { IsErrOf result RunErr.Sink → ⊥ }
@@ -133,7 +133,7 @@ fn program(args: &[Blob]) -> &Blob
 
 // The course of a program that was started, or the end of one that was not.
 fn finish(alloc: Global, started: Result<Machine, Errno>, budget: u64) -> Result<Finished, NoMemory>
-    ensures { (entries : _) → IfOk result (λ run. outcome_of entries budget started ≡ record { events = run.events.items; verdict = run.verdict; status = run.status; tree = entries }) }
+    ensures { (entries : _) → IfOk result (λ run. run_from entries budget started ≡ record { events = run.events.items; verdict = run.verdict; status = run.status; tree = entries }) }
 {
     match started {
         Ok(machine) => {

@@ -7,7 +7,7 @@ ghost use Rattle.dt_host.specs.World.{IsEmptyStart};
 ghost use Rattle.dt_run.specs.Failure.{failure_status, failure_line};
 ghost use Rattle.dt_run.specs.Options.{request_of};
 ghost use Rattle.dt_run.specs.Asked.{asked, run_on, asked_report};
-ghost use Rattle.dt_run.specs.Headline.{is_status, is_run_status, Completes, RefusesImage, precedes_run, line_of, TellsLine, TellsPart};
+ghost use Rattle.dt_run.specs.Statuses.{is_status, is_run_status, Completes, RefusesImage, precedes_run, line_of, TellsLine, TellsPart};
 ghost use Rattle.dt_run.specs.ImageOf.{image_of};
 
 use crate::failure::Failure;

@@ -1,7 +1,7 @@
 // One turn of a run, and turns until a verdict.
 ghost use Rattle.std.specs.Prelude.{◌≡◌, [], Some, IfOk};
 ghost use Rattle.dt_run.specs.Call.{served};
-ghost use Rattle.dt_run.specs.Course.{course, IsLive};
+ghost use Rattle.dt_run.specs.Course.{course, HasCost};
 ghost use Rattle.dt_run.specs.Turn.{turn, billed, settled};
 
 use crate::call::{Outcome, serve};
@@ -111,7 +111,7 @@ pub struct Played {
 
 /// Takes turns until a verdict.
 pub fn play(alloc: Global, mut state: State) -> Result<Played, NoMemory>
-    requires { IsLive state.process.phase }
+    requires { HasCost state.process.phase }
     ensures { IfOk result (λ p. course state ≡ record { events = p.events.items; verdict = p.verdict; last = p.last }) }
 {
     let mut events = Vec::new(alloc);

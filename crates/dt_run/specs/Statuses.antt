@@ -1,4 +1,4 @@
--- What the program's call promises: its status, what it writes, and why.
+-- What each status of the program says of what was written, and why it comes.
 use Rattle.std.specs.Prelude.{◌≡◌, ◌⊎◌, ◌||◌, ◌==◌, ℕ, Bool, List, [], Option, Result, Ok, Err, nat_le, if◌then◌else◌}
 use Rattle.dt_base.specs.declared.refusal.Refusal.{Refusal}
 use Rattle.dt_host.specs.Cause.{Rose}
@@ -6,7 +6,7 @@ use Rattle.dt_host.specs.Sink.{added, AddsPart}
 use Rattle.dt_run.specs.declared.failure.Failure.{Failure}
 use Rattle.dt_run.specs.declared.failure.Failure.TheVariants.{Usage, Image, Store, Host, Output, NoMemory}
 use Rattle.dt_run.specs.Failure.{failure_line}
-use Rattle.dt_run.specs.Run.{Outcome, report_of}
+use Rattle.dt_run.specs.Run.{Run, report_of}
 
 -- the status of a run that was completed
 abbrev pub is_run_status : ℕ → Bool
@@ -21,24 +21,24 @@ abbrev pub precedes_run : ℕ → Bool
 precedes_run status = (status == 2) || (status == 3) || (status == 4)
 
 -- the run that was asked for has this status, and its report was added
-pub record Completes (asked : Result Outcome Failure) (answer : ℕ) (old new : Option (List ℕ)) : Type 0 where
-  pub run : Outcome
+pub record Completes (asked : Result Run Failure) (answer : ℕ) (old new : Option (List ℕ)) : Type 0 where
+  pub run : Run
   pub accepted : asked ≡ Ok run
   pub status : answer ≡ run.status
   pub report : new ≡ added old (report_of run)
 
 -- the image that was asked for is refused
-pub record RefusesImage (asked : Result Outcome Failure) : Type 0 where
+pub record RefusesImage (asked : Result Run Failure) : Type 0 where
   pub refusal : Refusal
   pub refused : asked ≡ Err (Image refusal)
 
 -- the line of a refusal
-abbrev pub refused_line : Result Outcome Failure → List ℕ
+abbrev pub refused_line : Result Run Failure → List ℕ
 refused_line (Ok run) = []
 refused_line (Err failure) = failure_line failure
 
--- the line of a status: none at 0, 1 and 10
-abbrev pub line_of : Result Outcome Failure → ℕ → List ℕ
+-- the line of a status: none at 0, 1 and 10; at 7 it is any failure's (`TellsPart`)
+abbrev pub line_of : Result Run Failure → ℕ → List ℕ
 line_of asked status =
     if status == 2 then failure_line Usage
     else if status == 3 then refused_line asked
