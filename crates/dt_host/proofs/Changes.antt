@@ -65,6 +65,9 @@ module _ (old new : World) (n : ℕ) (made : MadeAt old File new n) where
   pub IsFile-made : IsFile new.forest n
   IsFile-made = subst (λ node. IsSome (option_and_then file_bytes node)) (sym node_at-made) refl
 
+  pub IsLive-made : IsLive new.forest n
+  IsLive-made = subst (λ node. IsSome node) (sym node_at-made) refl
+
   pub content-made : content new.forest n ≡ []
   unfolding content
   content-made = ap (λ node. unwrap_or (option_and_then file_bytes node) []) node_at-made
