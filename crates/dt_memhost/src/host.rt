@@ -1,4 +1,4 @@
-ghost use Rattle.std.specs.Prelude.{◌≡◌, ◌+◌, ◌<◌, ◌≤◌, None, length, IfOk, IsErrOf};
+ghost use Rattle.std.specs.Prelude.{◌≡◌, ◌+◌, ◌<◌, ◌≤◌, None, length, IfOk, OnErr, IsErrOf};
 ghost use Rattle.dt_host.specs.Cause.{HasCause};
 ghost use Rattle.dt_host.specs.World.{IsLive, IsFile, IsDir, entry, content, empty_world, IsEmptyStart};
 ghost use Rattle.dt_host.specs.Legal.{Makes, Binds, Reads, Writes};
@@ -120,6 +120,7 @@ impl Host for MemHost {
     fn read_at(&mut self, ino: u64, off: u64, buf: &mut [u8]) -> Result<usize, HostErr>
         requires { IsFile self.old.view.forest ino }
         ensures exact { ReadsBy self.old ino off buf.old buf.new result self.new }
+        ensures unread { OnErr result (buf.new ≡ buf.old) }
         ensures ok { IfOk result (Reads (content self.old.view.forest ino) off buf.old buf.new) }
         ensures stays { self.new.view ≡ self.old.view }
         ensures cause { HasCause self.old.script.faults self.new.script.faults

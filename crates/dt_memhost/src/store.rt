@@ -88,6 +88,7 @@ impl Store for MemStore {
         requires room { 0 < length buf.old }
         requires within { ReachesTo self.old.files name.now (off + length buf.old) }
         ensures exact { ReadsBy self.old name.now off buf.old buf.new result self.new }
+        ensures unread { OnErr result (buf.new ≡ buf.old) }
         ensures moved { IfOk result (MovesSome (length buf.old)) }
         ensures ok { IfOk result
             (λ n. buf.new ≡ take n (drop off (bytes_of self.old.files name.now))

@@ -19,7 +19,8 @@ pub enum Words {
 /// One call of the program.
 #[derive(Clone, Copy)]
 pub struct Call<'a> {
-    pub words: &'a [&'a str],
+    /// The words after the program's name, each ended by a line's end.
+    pub words: &'a str,
     pub files: &'a [(&'a str, &'a [u8])],
     pub choices: Words,
     pub store_fails: &'a [u64],
@@ -38,7 +39,7 @@ pub struct Came {
 
 impl<'a> Call<'a> {
     /// These words on these files, with the choices of stream 1 and no faults.
-    pub fn new(words: &'a [&'a str], files: &'a [(&'a str, &'a [u8])]) -> Self {
+    pub fn new(words: &'a str, files: &'a [(&'a str, &'a [u8])]) -> Self {
         Call {
             words,
             files,
@@ -86,17 +87,13 @@ fn picker(alloc: Global, words: Words) -> Result<Picker, AllocError> {
 }
 
 fn sink(alloc: Global, words: Words, room: Option<u64>) -> Result<MemSink, Fail> {
-    Ok(MemSink::new(
-        alloc,
-        picker(alloc, words)?,
-        Vec::new(alloc),
-        room,
-    )?)
+    Ok(MemSink::new(alloc, picker(alloc, words)?, Vec::new(alloc), room)?)
 }
 
-fn strings(alloc: Global, words: &[&str]) -> Result<Vec<String>, AllocError> {
+/// The lines of a text, as the words that the program is given.
+pub fn strings(alloc: Global, words: &str) -> Result<Vec<String>, AllocError> {
     let mut strings = Vec::new(alloc);
-    for word in words {
+    for word in words.lines() {
         strings.push(String::from_str(alloc, word)?)?;
     }
     Ok(strings)

@@ -1,17 +1,10 @@
 // Budgets of `hello`, whose two segments cost 6 and 3.
-use crate::guests::{HELLO_DIGEST, hello, report};
-use dt_base::{Blob, Command, Entry, Image, What};
+use crate::bench::strings;
+use crate::guests::{HELLO_DIGEST, HELLO_INDEX, hello, report};
 use dt_host::NoGate;
-use dt_memhost::{MemHost, MemSink, Picker};
-use dt_run::run_container;
-use std::alloc::{AllocError, Global};
+use dt_memhost::{MemHost, MemSink, MemStore, Picker};
+use dt_run::{read_image, read_options, run_container};
 use std::test::Fail;
-
-fn blob(alloc: Global, bytes: &[u8]) -> Result<Blob, AllocError>
-    ensures { IfOk result (λ blob. blob ≡ bytes.now) }
-{
-    Ok(Blob::new(Vec::from_slice(alloc, bytes)?))
-}
 
 #[test]
 fn a_turn_that_costs_more_than_is_left_is_not_taken(rt: HostRuntime) -> Result<(), Fail> {
@@ -23,18 +16,21 @@ fn a_turn_that_costs_more_than_is_left_is_not_taken(rt: HostRuntime) -> Result<(
         (5, 10, "verdict budget"),
         (1, 10, "verdict budget"),
     ];
-    let file = hello(alloc)?;
-    let mut entries = Vec::new(alloc);
-    let path = blob(alloc, b"/hello")?;
-    entries.push(Entry { path, mode: 0o755, what: What::File(Blob::new(file)) })?;
-    let image = Image::new(entries);
-    let mut args = Vec::new(alloc);
-    args.push(blob(alloc, b"/hello")?)?;
-    let command = Command::new(args, Vec::new(alloc));
+    let mut store = MemStore::new(alloc, Picker::new(Vec::new(alloc), 1), Vec::new(alloc))?;
+    store.put("img/image.json", HELLO_INDEX)?;
+    store.put("img/hello", &hello(alloc)?)?;
+    let image = read_image(alloc, &mut store, "img")?;
+    let words = strings(alloc, "run\nimg\n--\n/hello")?;
+    let command = read_options(alloc, &words)?.command;
     for (budget, status, shown) in runs {
-        let mut host = MemHost::new(alloc, Picker::new(Vec::new(alloc), budget), Vec::new(alloc))?;
-        let picker = Picker::new(Vec::new(alloc), budget);
-        let mut out = MemSink::new(alloc, picker, Vec::new(alloc), None)?;
+        assert!(rt; 1 <= budget && budget <= 1_000_000_000);
+        let mut host = MemHost::new(alloc, Picker::new(Vec::new(alloc), 2), Vec::new(alloc))?;
+        let mut out = MemSink::new(
+            alloc,
+            Picker::new(Vec::new(alloc), 3),
+            Vec::new(alloc),
+            None,
+        )?;
         let came = run_container(
             alloc, &image, &command, 0, budget, 1, &mut host, &mut out, &NoGate,
         )?;

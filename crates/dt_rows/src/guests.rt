@@ -3,8 +3,15 @@ use std::alloc::{AllocError, Global};
 
 /// Writes `hello` and a line's end to standard output, and ends with code 0.
 pub const HELLO: [u32; 9] = [
-    0x0010_0513, 0x0001_05b7, 0x09c5_8593, 0x0060_0613, 0x0400_0893, 0x0000_0073, 0x0000_0513,
-    0x05d0_0893, 0x0000_0073,
+    0x0010_0513,
+    0x0001_05b7,
+    0x09c5_8593,
+    0x0060_0613,
+    0x0400_0893,
+    0x0000_0073,
+    0x0000_0513,
+    0x05d0_0893,
+    0x0000_0073,
 ];
 
 /// The digest of `hello`'s file, of 162 bytes.
@@ -47,11 +54,6 @@ pub fn hello(alloc: Global) -> Result<Vec<u8>, AllocError> {
 }
 
 /// A report of one file `/hello`: what showed, the verdict, and the line of a file of so many bytes with that digest.
-pub fn report(
-    alloc: Global,
-    shown: &str,
-    size: usize,
-    digest: &str,
-) -> Result<String, AllocError> {
+pub fn report(alloc: Global, shown: &str, size: usize, digest: &str) -> Result<String, AllocError> {
     format!(in alloc; "dettrace 1\n{shown}\ntree 1\nfile 2 0755 0 {size} {digest} /hello\n")
 }

@@ -5,22 +5,33 @@ use std::alloc::Global;
 use std::test::Fail;
 
 const LI_A0_1: u32 = 0x0010_0513;
+
 const LI_A0_3: u32 = 0x0030_0513;
+
 const LI_A1_PAGE: u32 = 0x0001_05b7;
+
 const LI_A1_0: u32 = 0x0000_0593;
+
 const LI_A2_6: u32 = 0x0060_0613;
+
 const LI_A2_0: u32 = 0x0000_0613;
+
 const LI_A7_WRITE: u32 = 0x0400_0893;
+
 const LI_A7_EXIT: u32 = 0x05d0_0893;
+
 const LI_A7_SOCKET: u32 = 0x0c60_0893;
+
 const ECALL: u32 = 0x0000_0073;
+
 const EBREAK: u32 = 0x0010_0073;
+
 const NOP: u32 = 0x0000_0013;
 
 // What a report of this program shows before its tree.
 fn shown(alloc: Global, file: &[u8]) -> Result<(u8, Vec<u8>), Fail> {
     let files = [("img/image.json", HELLO_INDEX), ("img/hello", file)];
-    let came = Call::new(&["run", "img", "--", "/hello"], &files).make(alloc)?;
+    let came = Call::new("run\nimg\n--\n/hello", &files).make(alloc)?;
     let mut front = Vec::new(alloc);
     for line in came.out.split_inclusive(|b| *b == b'\n') {
         if line.starts_with(b"tree ") {
@@ -80,19 +91,43 @@ fn ends_and_answers_of_calls(rt: HostRuntime) -> Result<(), Fail> {
         ),
         (
             "nothing is mapped at 0: minus 14",
-            &[LI_A0_1, LI_A1_0, LI_A2_6, LI_A7_WRITE, ECALL, LI_A7_EXIT, ECALL],
+            &[
+                LI_A0_1,
+                LI_A1_0,
+                LI_A2_6,
+                LI_A7_WRITE,
+                ECALL,
+                LI_A7_EXIT,
+                ECALL,
+            ],
             1,
             "exit 1 code 242\nverdict ended\n",
         ),
         (
             "no byte is no event, whatever the address",
-            &[LI_A0_1, LI_A1_0, LI_A2_0, LI_A7_WRITE, ECALL, LI_A7_EXIT, ECALL],
+            &[
+                LI_A0_1,
+                LI_A1_0,
+                LI_A2_0,
+                LI_A7_WRITE,
+                ECALL,
+                LI_A7_EXIT,
+                ECALL,
+            ],
             0,
             "exit 1 code 0\nverdict ended\n",
         ),
         (
             "a write answers its count",
-            &[LI_A0_1, LI_A1_PAGE, LI_A2_6, LI_A7_WRITE, ECALL, LI_A7_EXIT, ECALL],
+            &[
+                LI_A0_1,
+                LI_A1_PAGE,
+                LI_A2_6,
+                LI_A7_WRITE,
+                ECALL,
+                LI_A7_EXIT,
+                ECALL,
+            ],
             1,
             "out 1 6\n\x7fELF\x02\x01\nexit 1 code 6\nverdict ended\n",
         ),
@@ -113,7 +148,10 @@ fn a_program_goes_on_after_a_slice(rt: HostRuntime) -> Result<(), Fail> {
     let mut code = vec![in alloc; NOP; 70_000]?;
     code.extend_from_slice(&[LI_A0_3, LI_A7_EXIT, ECALL])?;
     let (status, front) = shown(alloc, &elf(alloc, &code, b"")?)?;
-    assert_eq!(rt; front.as_slice(), b"dettrace 1\nexit 1 code 3\nverdict ended\n".as_slice());
+    assert_eq!(rt;
+        front.as_slice(),
+        b"dettrace 1\nexit 1 code 3\nverdict ended\n".as_slice()
+    );
     assert_eq!(rt; status, 1);
     Ok(())
 }
@@ -153,7 +191,11 @@ fn files_that_are_no_executables(rt: HostRuntime) -> Result<(), Fail> {
     for length in [0, 63, 100, 119] {
         assert!(rt; length < good.len());
         let (_, front) = shown(alloc, &good[..length])?;
-        assert_eq!(rt; front.as_slice(), b"dettrace 1\nverdict nostart 8\n".as_slice(), "{length}");
+        assert_eq!(rt;
+            front.as_slice(),
+            b"dettrace 1\nverdict nostart 8\n".as_slice(),
+            "{length}"
+        );
     }
     Ok(())
 }

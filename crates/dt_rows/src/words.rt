@@ -21,7 +21,7 @@ fn hello_gives_the_same_bytes_whatever_the_host_chooses(rt: HostRuntime) -> Resu
         Words::Stream(2),
         Words::Stream(u64::MAX),
     ] {
-        let mut call = Call::new(&["run", "img", "--", "/hello"], &files);
+        let mut call = Call::new("run\nimg\n--\n/hello", &files);
         call.choices = choices;
         let came = call.make(alloc)?;
         assert_eq!(rt; came.status, 0, "{choices:?}");
@@ -39,20 +39,20 @@ fn words_that_are_no_run_are_refused(rt: HostRuntime) -> Result<(), Fail> {
         ("img/image.json", HELLO_INDEX),
         ("img/hello", hello.as_slice()),
     ];
-    let refused: [&[&str]; 13] = [
-        &[],
-        &["run"],
-        &["run", "img"],
-        &["run", "img", "--"],
-        &["run", "img", "--", "A=1"],
-        &["run", "img", "--", "_=/hello"],
-        &["run", "img", "--", "/he\0llo"],
-        &["run", "img", "/hello"],
-        &["run", "-img", "--", "/hello"],
-        &["run", "--budget", "0", "img", "--", "/hello"],
-        &["walk", "img", "--", "/hello"],
-        &["--help"],
-        &["--version"],
+    let refused = [
+        "",
+        "run",
+        "run\nimg",
+        "run\nimg\n--",
+        "run\nimg\n--\nA=1",
+        "run\nimg\n--\n_=/hello",
+        "run\nimg\n--\n/he\0llo",
+        "run\nimg\n/hello",
+        "run\n-img\n--\n/hello",
+        "run\n--budget\n0\nimg\n--\n/hello",
+        "walk\nimg\n--\n/hello",
+        "--help",
+        "--version",
     ];
     for words in refused {
         let came = Call::new(words, &files).make(alloc)?;
@@ -92,7 +92,8 @@ fn a_program_that_cannot_start_has_its_errno_in_the_verdict(rt: HostRuntime) -> 
         (long_path.as_str(), 36),
     ];
     for (program, errno) in programs {
-        let came = Call::new(&["run", "img", "--", program], &files).make(alloc)?;
+        let words = format!(in alloc; "run\nimg\n--\n{program}\n")?;
+        let came = Call::new(words.as_str(), &files).make(alloc)?;
         let shown = format!(in alloc; "verdict nostart {errno}")?;
         let want = report(alloc, shown.as_str(), 162, HELLO_DIGEST)?;
         assert_eq!(rt; came.status, 10, "{program}");
