@@ -15,3 +15,5 @@ pub mod Completed
 pub mod Askings
 pub mod Escapes
 pub mod Trees
+pub mod Fronts
+pub mod Requests
