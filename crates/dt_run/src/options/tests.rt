@@ -1,7 +1,7 @@
 use super::*;
 use std::test::Fail;
 
-// The words of a line, which has a blank between two of them.
+// The words of a line, of which each two have one blank between them.
 fn words(alloc: Global, line: &str) -> Result<Vec<String>, AllocError> {
     let mut words = Vec::new(alloc);
     for word in line.split(' ') {
@@ -10,50 +10,35 @@ fn words(alloc: Global, line: &str) -> Result<Vec<String>, AllocError> {
     Ok(words)
 }
 
-const TAKEN: [&str; 7] = [
-    "run img -- /hello",
-    "run img --seed 18446744073709551615 --budget=1 -- /p",
-    "run --budget 1000000000 --host +7 img -- A=1 _b= A=2 /p A=3 --",
-    "run - -- --",
-    "run img -- ",
-    "run img --host 0 -- 1A=1",
-    "run img -- -A=1 x",
+// Each line, and whether it is taken.
+const LINES: [(&str, bool); 14] = [
+    ("run img --seed 18446744073709551615 --budget=1 -- /p", true),
+    (
+        "run --budget 1000000000 --host +7 - -- A=1 _b= /p A=3 --",
+        true,
+    ),
+    ("run img -- ", true),
+    ("run img -- 1A=1", true),
+    ("", false),
+    ("run img", false),
+    ("run -- /p", false),
+    ("run img -- A=1", false),
+    ("run img -- /p \0", false),
+    ("run img --budget 1000000001 -- /p", false),
+    ("run img --seed 18446744073709551616 -- /p", false),
+    ("run img --seed 1 --seed 1 -- /p", false),
+    ("run img --workers 1 -- /p", false),
+    ("run --help -- /p", false),
 ];
 
 #[test]
-fn lines_are_taken(rt: HostRuntime) -> Result<(), Fail> {
-    for line in TAKEN {
+fn lines_are_taken_or_refused(rt: HostRuntime) -> Result<(), Fail> {
+    for (line, taken) in LINES {
         let words = words(rt.alloc(), line)?;
-        read_options(rt.alloc(), &words)?;
-    }
-    Ok(())
-}
-
-const REFUSED: [&str; 16] = [
-    "",
-    "run",
-    "run img",
-    "run img --",
-    "run -- /p",
-    "run img -- A=1",
-    "run img --budget 0 -- /p",
-    "run img --budget 1000000001 -- /p",
-    "run img --seed 18446744073709551616 -- /p",
-    "run img --seed -1 -- /p",
-    "run img --seed x -- /p",
-    "run img --seed 1 --seed 1 -- /p",
-    "run img --workers 1 -- /p",
-    "run --help -- /p",
-    "run img two -- /p",
-    "run img -- /p \0",
-];
-
-#[test]
-fn lines_are_refused(rt: HostRuntime) -> Result<(), Fail> {
-    for line in REFUSED {
-        let words = words(rt.alloc(), line)?;
-        let refused = matches!(read_options(rt.alloc(), &words), Err(UsageErr::Refused));
-        assert!(rt; refused);
+        match read_options(rt.alloc(), &words) {
+            Ok(_) => assert!(rt; taken),
+            Err(e) => assert!(rt; !taken && e == UsageErr::Refused),
+        }
     }
     Ok(())
 }
