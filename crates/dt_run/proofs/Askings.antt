@@ -1,9 +1,8 @@
 -- What is asked for, by the words and the image, and which line tells of a failure.
-use Rattle.std.proofs.Common.{◌≡◌, ◌≢◌, ℕ, Bool, true, false, cond, List, [], ◌∷◌, Option, Some, None, Result, Ok, Err, refl, sym, ap, subst, ◌∙◌, eqb}
+use Rattle.std.proofs.Common.{◌≡◌, ◌≢◌, ℕ, Bool, true, false, cond, List, Option, Some, None, Result, Ok, Err, refl, sym, ap, subst, ◌∙◌, eqb}
 use Rattle.std.specs.Prelude.{IsTrue, IfSome, IfOk, ◌⊎◌}
 use Rattle.std.proofs.Common.{⊎_elim}
 use Rattle.dt_base.specs.declared.image.Entry.{Entry}
-use Rattle.dt_base.specs.declared.event.End.{End}
 use Rattle.dt_base.specs.declared.event.End.TheVariants.{Code, Signal}
 use Rattle.dt_base.specs.declared.errno.Errno.{Errno}
 use Rattle.dt_base.specs.declared.refusal.Refusal.{Refusal}
@@ -15,14 +14,14 @@ use Rattle.dt_run.specs.declared.process.Phase.{Phase}
 use Rattle.dt_run.specs.declared.process.Phase.TheVariants.{Owes, Ran, Zombie}
 use Rattle.dt_run.specs.declared.failure.Failure.{Failure}
 use Rattle.dt_run.specs.declared.failure.Failure.TheVariants.{Usage, Image, Store, Host, Output, NoMemory}
-use Rattle.dt_run.specs.Process.{status_of, ended_status}
+use Rattle.dt_run.specs.Process.{status_of}
 use Rattle.dt_run.specs.Course.{course}
 use Rattle.dt_run.specs.Options.{Request, request_of}
 use Rattle.dt_run.specs.ImageOf.{image_of}
 use Rattle.dt_run.specs.Failure.{failure_status, failure_line}
 use Rattle.dt_run.specs.Launch.{launch}
 use Rattle.dt_run.specs.Run.{Run, run_from, run_of, report_of}
-use Rattle.dt_run.specs.Asked.{asked, run_asked, run_on, asked_report, default_seed, default_budget}
+use Rattle.dt_run.specs.Asked.{asked, run_asked, run_on, asked_report}
 use Rattle.dt_run.specs.Statuses.{is_run_status, Completes, RefusesImage, line_of, TellsLine}
 
 code_status : (b : Bool) → IsTrue (is_run_status (cond b 0 1))
@@ -45,26 +44,26 @@ unfolding run_of
 run_of-status entries words seed budget status is = subst (λ s. IsTrue (is_run_status s)) (sym is) (run_from-status entries budget (launch entries words))
 
 -- what was added is a part of the report of the run on the image that was read
-pub part_on : (told : Option Files) (folder at : List ℕ) (image : List Entry) (words : Words) (old new : Option (List ℕ)) → folder ≡ at → IfSome told (λ files. image_of files folder ≡ Ok image) → AddsPart old new (report_of (run_of image words default_seed default_budget)) → IfSome told (λ files. AddsPart old new (asked_report (run_on words (image_of files at))))
-part_on None folder at image words old new same read part = tt
-part_on (Some files) folder at image words old new same read part = subst (λ found. AddsPart old new (asked_report (run_on words found))) (sym (ap (image_of files) (sym same) ∙ read)) part
+pub part_on : (told : Option Files) (folder at : List ℕ) (image : List Entry) (words : Words) (seed budget : ℕ) (old new : Option (List ℕ)) → folder ≡ at → IfSome told (λ files. image_of files folder ≡ Ok image) → AddsPart old new (report_of (run_of image words seed budget)) → IfSome told (λ files. AddsPart old new (asked_report (run_on words seed budget (image_of files at))))
+part_on None folder at image words seed budget old new same read part = tt
+part_on (Some files) folder at image words seed budget old new same read part = subst (λ found. AddsPart old new (asked_report (run_on words seed budget found))) (sym (ap (image_of files) (sym same) ∙ read)) part
 
 -- what is asked for is the run of the words' request
-asked-request : (files : Files) (words : List (List ℕ)) (request : Request) → request_of words ≡ Some request → asked files words ≡ run_on request.command (image_of files request.image)
+asked-request : (files : Files) (words : List (List ℕ)) (request : Request) → request_of words ≡ Some request → asked files words ≡ run_on request.command request.seed request.budget (image_of files request.image)
 unfolding asked
 asked-request files words request is = ap (run_asked files) is
 
-pub completes_asked : {E : Type 0} (r : Result ℕ E) (told : Option Files) (words : List (List ℕ)) (request : Request) (old new : Option (List ℕ)) → request_of words ≡ Some request → IfOk r (λ status. IfSome told (λ files. Completes (run_on request.command (image_of files request.image)) status old new)) → IfOk r (λ status. IfSome told (λ files. Completes (asked files words) status old new))
+pub completes_asked : {E : Type 0} (r : Result ℕ E) (told : Option Files) (words : List (List ℕ)) (request : Request) (old new : Option (List ℕ)) → request_of words ≡ Some request → IfOk r (λ status. IfSome told (λ files. Completes (run_on request.command request.seed request.budget (image_of files request.image)) status old new)) → IfOk r (λ status. IfSome told (λ files. Completes (asked files words) status old new))
 completes_asked (Ok status) (Some files) words request old new is h = subst (λ run. Completes run status old new) (sym (asked-request files words request is)) h
 completes_asked (Ok status) None words request old new is h = tt
 completes_asked (Err e) told words request old new is h = tt
 
-pub part_asked : (told : Option Files) (words : List (List ℕ)) (request : Request) (old new : Option (List ℕ)) → request_of words ≡ Some request → IfSome told (λ files. AddsPart old new (asked_report (run_on request.command (image_of files request.image)))) → IfSome told (λ files. AddsPart old new (asked_report (asked files words)))
+pub part_asked : (told : Option Files) (words : List (List ℕ)) (request : Request) (old new : Option (List ℕ)) → request_of words ≡ Some request → IfSome told (λ files. AddsPart old new (asked_report (run_on request.command request.seed request.budget (image_of files request.image)))) → IfSome told (λ files. AddsPart old new (asked_report (asked files words)))
 part_asked (Some files) words request old new is h = subst (λ run. AddsPart old new (asked_report run)) (sym (asked-request files words request is)) h
 part_asked None words request old new is h = tt
 
 pub refused_asked : (told : Option Files) (words : List (List ℕ)) (request : Request) (refusal : Refusal) → request_of words ≡ Some request → IfSome told (λ files. image_of files request.image ≡ Err refusal) → IfSome told (λ files. asked files words ≡ Err (Image refusal))
-refused_asked (Some files) words request refusal is h = asked-request files words request is ∙ ap (run_on request.command) h
+refused_asked (Some files) words request refusal is h = asked-request files words request is ∙ ap (run_on request.command request.seed request.budget) h
 refused_asked None words request refusal is h = tt
 
 -- the failure with status 3 is an image's

@@ -17,3 +17,5 @@ pub mod Completed
 pub mod Askings
 pub mod Escapes
 pub mod Trees
+pub mod Fronts
+pub mod Requests

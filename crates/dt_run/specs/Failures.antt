@@ -1,4 +1,6 @@
 -- The failure that an error of a part stands for.
+use Rattle.clap.specs.declared.error.kind.ErrorKind.{ErrorKind}
+use Rattle.clap.specs.declared.error.kind.ErrorKind.TheVariants.{OutOfMemory}
 use Rattle.dt_base.specs.declared.refusal.ImageErr.{ImageErr}
 use Rattle.dt_base.specs.declared.refusal.ImageErr.TheVariants.{Refused as ImageRefused, Store as StoreFailed, NoMemory as NoImageMemory}
 use Rattle.dt_run.specs.declared.options.UsageErr.{UsageErr}
@@ -24,3 +26,8 @@ abbrev pub of_run : RunErr → Failure
 of_run HostFailed = Host
 of_run SinkFailed = Output
 of_run NoRunMemory = NoMemory
+
+-- of what clap says of the words before `--`
+abbrev pub of_kind : ErrorKind → UsageErr
+of_kind OutOfMemory = NoWordsMemory
+of_kind _ = WordsRefused

@@ -44,7 +44,8 @@ impl Failure {
         ensures { result.now ≡ failure_line self }
     {
         match self {
-            Failure::Usage => "dettrace: usage: dettrace run IMAGE -- PROGRAM\n",
+            Failure::Usage =>
+                "dettrace: usage: dettrace run IMAGE [--seed N] [--budget N] [--host N] -- [NAME=VALUE ..] PROGRAM [ARG ..]\n",
             Failure::Image(refusal) => image_line(refusal),
             Failure::Store => "dettrace: store fault\n",
             Failure::Host => "dettrace: host fault\n",

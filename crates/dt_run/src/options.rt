@@ -1,11 +1,16 @@
-// The command line, read by hand.
-ghost use Rattle.std.specs.Prelude.{◌≡◌, ℕ, List, [], ◌∷◌, length, map, string_bytes, Some, None, IfSome, IfOk, Err, IsTrue, ◌<◌, ◌==◌};
-ghost use Rattle.dt_base.specs.Path.{has_no_nul};
-ghost use Rattle.dt_run.specs.Options.{request, request_of, is_run, is_image, is_program, is_assignment, is_variable, is_variable_start, is_variable_byte};
+// The command line.
+ghost use Rattle.std.specs.Prelude.{◌≡◌, ◌≤◌, ℕ, List, [], ◌∷◌, length, map, string_bytes, codes, not, Some, None, IfSome, IfOk, Err, IsTrue, ◌<◌, ◌==◌};
 ghost use Rattle.std.specs.List.{list_all, position};
+ghost use Rattle.std.specs.Str.{bytes_eq};
+ghost use Rattle.dt_base.specs.Path.{has_no_nul};
+ghost use Rattle.dt_run.specs.Options.{request_of, request_round, command_in, is_assignment, is_variable, is_variable_start, is_variable_byte};
 ghost use Rattle.dt_run.specs.declared.options.UsageErr.TheVariants.{NoMemory as OutOfMemory};
 
+mod front;
+
+use clap::error::ErrorKind;
 use dt_base::{Blob, Command, NoMemory, Text};
+use front::{SEED, budget, image, number, read_front};
 use std::alloc::{AllocError, AllocFailed, Global};
 use thiserror::Error;
 
@@ -16,12 +21,18 @@ pub struct Options {
     pub image: Text,
     /// What runs in it.
     pub command: Command,
+    /// The key of what looks random to the command.
+    pub seed: u64,
+    /// How many steps the run may take, from 1 to 1,000,000,000.
+    pub budget: u64,
+    /// What the host's choices start from, where the words say so.
+    pub host: Option<u64>,
 }
 
 /// Why there are no options.
 #[derive(Clone, Copy, Debug, PartialEq, Eq, Error)]
 pub enum UsageErr {
-    #[error("the words are not `run IMAGE -- PROGRAM`")]
+    #[error("the words are no run of a program on an image")]
     Refused,
     #[error("out of memory")]
     NoMemory,
@@ -43,44 +54,101 @@ impl From<AllocError> for UsageErr {
     }
 }
 
-/// Reads the words after the program's name, which are to be `run IMAGE -- PROGRAM`.
+impl From<clap::Error> for UsageErr {
+    ghost use Rattle.dt_run.specs.Failures.{of_kind};
+    ghost use Rattle.clap.specs.Words.{kind_of};
+
+    ghost from_gives = { λ c e. e ≡ of_kind (kind_of c) };
+
+    fn from(e: clap::Error) -> Self {
+        match e.kind() {
+            ErrorKind::OutOfMemory => UsageErr::NoMemory,
+            _ => UsageErr::Refused,
+        }
+    }
+}
+
+/// Reads the words after the program's name, which are to be
+/// `run IMAGE [--seed N] [--budget N] [--host N] -- [NAME=VALUE ..] PROGRAM [ARG ..]`.
 pub fn read_options(alloc: Global, words: &[String]) -> Result<Options, UsageErr>
-    ensures ok { IfOk result (λ o. request_of (map string_bytes words.now) ≡ Some (record { image = o.image; command = o.command })) }
+    ensures ok { IfOk result (λ o. request_of (map string_bytes words.now) ≡ Some (record { image = o.image; command = o.command; seed = o.seed; budget = o.budget; host = o.host })) }
     ensures refused { result ≡ Err UsageErr.Refused → request_of (map string_bytes words.now) ≡ None }
+    ensures ranges { IfOk result (λ o. (1 ≤ o.budget) × (o.budget ≤ 1000000000)) }
 {
-    let [verb, image, dashes, program] = words else {
+    match dashes(words) {
+        Some(place) => read_parts(alloc, &words[..place], &words[place + 1..]),
+        None => Err(UsageErr::Refused),
+    }
+}
+
+// The place of the first `--`.
+fn dashes(words: &[String]) -> Option<usize>
+    ensures value { result ≡ position (λ word. bytes_eq (string_bytes word) (codes "--")) words.now }
+    ensures within { IfSome result (λ place. place < length words.now) }
+{
+    words.iter().position(|word| word.as_str() == "--")
+}
+
+// Reads the words on both sides of `--`.
+fn read_parts(alloc: Global, front: &[String], rest: &[String]) -> Result<Options, UsageErr>
+    ensures ok { IfOk result (λ o. request_round (map string_bytes front.now) (map string_bytes rest.now) ≡ Some (record { image = o.image; command = o.command; seed = o.seed; budget = o.budget; host = o.host })) }
+    ensures refused { result ≡ Err UsageErr.Refused → request_round (map string_bytes front.now) (map string_bytes rest.now) ≡ None }
+    ensures ranges { IfOk result (λ o. (1 ≤ o.budget) × (o.budget ≤ 1000000000)) }
+{
+    let matches = read_front(alloc, front)?;
+    let Some((_, run)) = matches.subcommand() else {
         return Err(UsageErr::Refused);
     };
-    if !is_run(
-        verb.as_str(),
-        image.as_str(),
-        dashes.as_str(),
-        program.as_str(),
-    ) {
-        return Err(UsageErr::Refused);
-    }
+    let command = read_command(alloc, rest)?;
     Ok(Options {
-        image: Text::new(image.clone()?),
-        command: command(alloc, program.as_str())?,
+        image: Text::new(String::from_str(alloc, image(run))?),
+        command,
+        seed: number(run, "seed").unwrap_or(SEED),
+        budget: budget(run),
+        host: number(run, "host"),
     })
 }
 
-fn is_run(verb: &str, image: &str, dashes: &str, program: &str) -> bool
-    ensures { result ≡ is_run verb.now image.now dashes.now program.now }
+// Reads the words after `--`.
+fn read_command(alloc: Global, words: &[String]) -> Result<Command, UsageErr>
+    ensures ok { IfOk result (λ command. command_in (map string_bytes words.now) ≡ Some command) }
+    ensures refused { result ≡ Err UsageErr.Refused → command_in (map string_bytes words.now) ≡ None }
 {
-    verb == "run" && is_image(image.as_bytes()) && dashes == "--" && is_program(program.as_bytes())
+    if !have_no_nul(words) {
+        return Err(UsageErr::Refused);
+    }
+    let Some(program) = program(words) else {
+        return Err(UsageErr::Refused);
+    };
+    let (env, args) = words.split_at(program);
+    Ok(Command::new(blobs(alloc, args)?, blobs(alloc, env)?))
 }
 
-fn is_image(word: &[u8]) -> bool
-    ensures { result ≡ is_image word.now }
+fn have_no_nul(words: &[String]) -> bool
+    ensures { result ≡ list_all (λ word. has_no_nul (string_bytes word)) words.now }
 {
-    word.first() != Some(&b'-')
+    words.iter().all(|word| has_no_nul(word.as_bytes()))
 }
 
-fn is_program(word: &[u8]) -> bool
-    ensures { result ≡ is_program word.now }
+// The place of the first word that sets no variable.
+fn program(words: &[String]) -> Option<usize>
+    ensures value { result ≡ position (λ word. not (is_assignment (string_bytes word))) words.now }
+    ensures within { IfSome result (λ place. place < length words.now) }
 {
-    has_no_nul(word) && !is_assignment(word)
+    words
+        .iter()
+        .position(|word| !is_assignment(word.as_bytes()))
+}
+
+// The bytes of words, in memory of their own.
+fn blobs(alloc: Global, words: &[String]) -> Result<Vec<Blob>, NoMemory>
+    ensures { IfOk result (λ blobs. blobs.items ≡ map string_bytes words.now) }
+{
+    let mut blobs = Vec::new(alloc);
+    for word in words {
+        blobs.push(Blob::new(Vec::from_slice(alloc, word.as_bytes())?))?;
+    }
+    Ok(blobs)
 }
 
 fn has_no_nul(word: &[u8]) -> bool
@@ -132,34 +200,5 @@ fn is_variable_byte(byte: u8) -> bool
     byte.is_ascii_alphanumeric() || byte == b'_'
 }
 
-// The command of a program that is given no further argument and no environment.
-fn command(alloc: Global, program: &str) -> Result<Command, NoMemory>
-    requires { IsTrue (has_no_nul program.now) }
-    ensures { IfOk result (λ command. command ≡ record { args = program.now ∷ []; env = [] }) }
-{
-    let word = Blob::new(Vec::from_slice(alloc, program.as_bytes())?);
-    let mut args = Vec::new(alloc);
-    args.push(word)?;
-    Ok(Command::new(args, Vec::new(alloc)))
-}
-
 #[cfg(test)]
-mod tests {
-    use super::*;
-    use std::test::Fail;
-
-    #[test]
-    fn four_words_are_a_run(rt: HostRuntime) -> Result<(), Fail> {
-        let mut words = Vec::new(rt.alloc());
-        for word in ["run", "img", "--", "/hello"] {
-            words.push(String::from_str(rt.alloc(), word)?)?;
-        }
-        let options = read_options(rt.alloc(), &words)?;
-        assert_eq!(rt; options.image.as_str(), "img");
-        let args = options.command.args();
-        assert_eq!(rt; args.len(), 1);
-        assert_eq!(rt; args[0].as_slice(), b"/hello".as_slice());
-        assert_eq!(rt; options.command.env().len(), 0);
-        Ok(())
-    }
-}
+mod tests;

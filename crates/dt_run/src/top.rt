@@ -1,5 +1,5 @@
 // The call that the program makes.
-ghost use Rattle.std.specs.Prelude.{◌≡◌, ◌≢◌, ◌⊎◌, ℕ, Some, None, Ok, Err, map, string_bytes, IsTrue, IfSome, IfOk, IsErrOf};
+ghost use Rattle.std.specs.Prelude.{◌≡◌, ◌≢◌, ◌≤◌, ◌⊎◌, ℕ, Some, None, Ok, Err, map, string_bytes, IsTrue, IfSome, IfOk, IsErrOf};
 ghost use Rattle.dt_base.specs.declared.refusal.Refusal.{Refusal};
 ghost use Rattle.dt_host.specs.Cause.{HasCause};
 ghost use Rattle.dt_host.specs.Sink.{AddsPart};
@@ -17,11 +17,7 @@ use crate::run::run_container;
 use dt_host::{Gate, Host, Sink, SinkErr, Store, sink_all};
 use std::alloc::Global;
 
-// What a run has whose words give no other: a seed, a budget in steps, and so many workers.
-const SEED: u64 = 0;
-
-const BUDGET: u64 = 100_000_000;
-
+// How many workers a run has.
 const WORKERS: usize = 1;
 
 /// Runs what the words ask for, on the image that the store holds, at a host that holds nothing.
@@ -113,12 +109,13 @@ fn run_options<S: Store, H: Host, O: Sink, G: Gate>(
     out: &mut O,
     gate: &G,
 ) -> Result<u8, Failure>
-    requires { IsEmptyStart (H.view host.old) }
+    requires empty { IsEmptyStart (H.view host.old) }
+    requires budget { (1 ≤ options.now.budget) × (options.now.budget ≤ 1000000000) }
     ensures completed { IfOk result (λ status. IfSome (S.told store.old)
-        (λ files. Completes (run_on options.now.command (image_of files options.now.image)) status (O.told out.old) (O.told out.new))) }
+        (λ files. Completes (run_on options.now.command options.now.seed options.now.budget (image_of files options.now.image)) status (O.told out.old) (O.told out.new))) }
     ensures statuses { IfOk result (λ status. IsTrue (is_run_status status)) }
     ensures part { IfSome (S.told store.old)
-        (λ files. AddsPart (O.told out.old) (O.told out.new) (asked_report (run_on options.now.command (image_of files options.now.image)))) }
+        (λ files. AddsPart (O.told out.old) (O.told out.new) (asked_report (run_on options.now.command options.now.seed options.now.budget (image_of files options.now.image)))) }
     ensures nothing { (f : Failure) → result ≡ Err f → IsTrue (precedes_run (failure_status f)) → O.told out.new ≡ O.told out.old }
     ensures usage { result ≢ Err Failure.Usage }
     ensures image { (r : Refusal) → result ≡ Err (Failure.Image r) → IfSome (S.told store.old) (λ files. image_of files options.now.image ≡ Err r) }
@@ -131,8 +128,8 @@ fn run_options<S: Store, H: Host, O: Sink, G: Gate>(
         alloc,
         &image,
         &options.command,
-        SEED,
-        BUDGET,
+        options.seed,
+        options.budget,
         WORKERS,
         host,
         out,
