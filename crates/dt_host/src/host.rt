@@ -67,4 +67,9 @@ pub trait Host {
         ensures legal { Writes (view self.old) ino off bytes.now result (view self.new) }
         ensures cause { HasCause (count self.old) (count self.new)
             (IsErrOf result HostErr.Failed) };
+
+    /// Makes its choices otherwise from now on, by this number. What it keeps stays.
+    fn disturb(&mut self, n: u64) -> Result<(), HostErr>
+        ensures stays { view self.new ≡ view self.old }
+        ensures cause { HasCause (count self.old) (count self.new) (IsErrOf result HostErr.Failed) };
 }

@@ -6,7 +6,7 @@ use Rattle.dt_host.specs.declared.error.HostErr.TheVariants.{Failed, NoMemory}
 use Rattle.dt_host.specs.World.{World, with_forest, with_node, with_entry, entry, content}
 use Rattle.dt_host.specs.Legal.{new_node, written}
 use Rattle.dt_memhost.specs.Picks.{length_by}
-use Rattle.dt_memhost.specs.Script.{Script, fails_next, counted, failed, picked, word_of}
+use Rattle.dt_memhost.specs.Script.{Script, fails_next, counted, failed, picked, restarted, word_of}
 use Rattle.dt_memhost.specs.Number.{Numbers}
 
 -- what the host keeps, and the script
@@ -64,6 +64,15 @@ abbrev pub BindsBy : {A : Type 0} → HostState → ℕ → List ℕ → ℕ →
 BindsBy old d name n result new =
     UnlessListed old result new
     (MatchResult result (λ _. BindsEntry old d name n new) (Starves old (counted old.script) new))
+
+-- its choices begin anew
+pub record Restarts {A : Type 0} (old : HostState) (number : ℕ) (answer : A) (result : Result A HostErr) (new : HostState) : Type 0 where
+  pub told : result ≡ Ok answer
+  pub script : new ≡ record old { script = restarted (counted old.script) number }
+
+-- how it answers `disturb`: the words that are left are dropped, and the stream of the number begins
+abbrev pub DisturbsBy : {A : Type 0} → HostState → ℕ → A → Result A HostErr → HostState → Type 0
+DisturbsBy old number answer result new = UnlessListed old result new (Restarts old number answer result new)
 
 -- the greatest length of a read
 abbrev pub most_read : List ℕ → ℕ → List ℕ → ℕ

@@ -1,7 +1,7 @@
 -- What a host, a store or a sink in memory goes by: the words of its choices and the calls that fail.
-use Rattle.std.specs.Prelude.{ℕ, ◌+◌, ◌-◌, ◌^◌, ◌==◌, min, Bool, List}
+use Rattle.std.specs.Prelude.{ℕ, ◌+◌, ◌-◌, ◌^◌, ◌==◌, min, Bool, List, []}
 use Rattle.std.specs.List.{list_any}
-use Rattle.dt_memhost.specs.Picks.{Picks, next_of}
+use Rattle.dt_memhost.specs.Picks.{Picks, picks_of, next_of}
 
 -- the words, the numbers of the calls that fail, and how many calls were made and how many failed
 pub record Script : Type 0 where
@@ -29,6 +29,10 @@ failed s = record s { calls = one_more s.calls; faults = one_more s.faults }
 -- the script once a word was taken
 abbrev pub picked : Script → Script
 picked s = record s { picks = (next_of s.picks).1 }
+
+-- the script whose words are those of the stream of a number
+abbrev pub restarted : Script → ℕ → Script
+restarted s number = record s { picks = picks_of [] number }
 
 -- the next word
 abbrev pub word_of : Script → ℕ

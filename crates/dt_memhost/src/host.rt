@@ -3,7 +3,7 @@ ghost use Rattle.dt_host.specs.Cause.{HasCause};
 ghost use Rattle.dt_host.specs.World.{IsLive, IsFile, IsDir, entry, content, empty_world, IsEmptyStart};
 ghost use Rattle.dt_host.specs.Legal.{Makes, Binds, Reads, Writes};
 ghost use Rattle.dt_memhost.specs.Script.{script_of};
-ghost use Rattle.dt_memhost.specs.Host.{RootsBy, FindsBy, MakesBy, BindsBy, ReadsBy, WritesBy};
+ghost use Rattle.dt_memhost.specs.Host.{RootsBy, FindsBy, MakesBy, BindsBy, ReadsBy, WritesBy, DisturbsBy};
 
 use crate::forest::MemForest;
 use crate::picker::Picker;
@@ -17,6 +17,7 @@ use std::marker::Model;
 /// A host in memory, which chooses numbers and lengths by words.
 #[derive(Drop)]
 pub struct MemHost {
+    alloc: Global,
     forest: MemForest,
     script: Script,
 }
@@ -41,6 +42,7 @@ impl MemHost {
         ensures start { IfOk result (λ h. IsEmptyStart h.view) }
     {
         Ok(MemHost {
+            alloc,
             forest: MemForest::new(alloc)?,
             script: Script::new(picker, fails),
         })
@@ -161,5 +163,19 @@ impl Host for MemHost {
         let (front, _) = bytes.split_at(count);
         self.forest.write(ino, off as usize, front)?;
         Ok(count)
+    }
+
+    fn disturb(&mut self, n: u64) -> Result<(), HostErr>
+        ensures exact { DisturbsBy self.old n tt result self.new }
+        ensures stays { self.new.view ≡ self.old.view }
+        ensures cause { HasCause self.old.script.faults self.new.script.faults
+            (IsErrOf result HostErr.Failed) }
+    {
+        let _before = self.faults();
+        if self.script.fails(false) {
+            return Err(HostErr::Failed);
+        }
+        self.script.restart(self.alloc, n);
+        Ok(())
     }
 }

@@ -1,8 +1,9 @@
 ghost use Rattle.std.specs.Prelude.{◌≡◌, ◌<◌, ◌^◌, ◌||◌, if◌then◌else◌};
 ghost use Rattle.dt_memhost.specs.Picks.{length_by};
-ghost use Rattle.dt_memhost.specs.Script.{script_of, fails_next, counted, failed, picked, word_of};
+ghost use Rattle.dt_memhost.specs.Script.{script_of, fails_next, counted, failed, picked, restarted, word_of};
 
 use crate::picker::Picker;
+use std::alloc::Global;
 use std::marker::Model;
 
 /// The words of the choices and the calls that fail.
@@ -55,6 +56,13 @@ impl Script {
             self.faults = self.faults.saturating_add(1);
         }
         fails
+    }
+
+    // Begins the stream of a number, and drops the words that are left.
+    pub(crate) fn restart(&mut self, alloc: Global, number: u64)
+        ensures { self.new ≡ restarted self.old number }
+    {
+        self.picker = Picker::new(Vec::new(alloc), number);
     }
 
     // A word.

@@ -29,8 +29,8 @@ const FIRST_INODE: u64 = 2;
 
 /// Runs a command on an image of one file, and writes the run's report to `out`. The answer is the status.
 ///
-/// `budget` is counted in steps. The command is given no further words, nothing in it is random and one process
-/// takes no second worker, so `seed`, `workers` and `gate` have no effect.
+/// `budget` is counted in steps. The command's further words are not put on its stack, nothing in it is random and one
+/// process takes no second worker, so those words, `seed`, `workers` and `gate` have no effect.
 pub fn run_container<H: Host, O: Sink, G: Gate>(
     alloc: Global,
     image: &Image,

@@ -10,6 +10,7 @@ ghost use Rattle.dt_run.specs.Asked.{asked, run_on, asked_report};
 ghost use Rattle.dt_run.specs.Statuses.{is_status, is_run_status, Completes, RefusesImage, precedes_run, line_of, TellsLine, TellsPart};
 ghost use Rattle.dt_run.specs.ImageOf.{image_of};
 
+use crate::error::RunErr;
 use crate::failure::Failure;
 use crate::image::read_image;
 use crate::options::{Options, read_options};
@@ -124,6 +125,7 @@ fn run_options<S: Store, H: Host, O: Sink, G: Gate>(
     ensures output { HasCause (O.count out.old) (O.count out.new) (IsErrOf result Failure.Output) }
 {
     let image = read_image(alloc, store, options.image.as_str())?;
+    disturb(options.host, host)?;
     let status = run_container(
         alloc,
         &image,
@@ -136,4 +138,16 @@ fn run_options<S: Store, H: Host, O: Sink, G: Gate>(
         gate,
     )?;
     Ok(status)
+}
+
+// Has the host choose otherwise, where a number for that is given.
+fn disturb<H: Host>(number: Option<u64>, host: &mut H) -> Result<(), RunErr>
+    ensures stays { H.view host.new ≡ H.view host.old }
+    ensures cause { HasCause (H.count host.old) (H.count host.new) (IsErrOf result RunErr.Host) }
+    ensures kinds { IsErrOf result RunErr.Sink → ⊥ }
+{
+    match number {
+        Some(number) => Ok(host.disturb(number)?),
+        None => Ok(()),
+    }
 }
