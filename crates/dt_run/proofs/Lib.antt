@@ -1,3 +1,4 @@
+pub mod Flats
 pub mod Installing
 pub mod Launching
 pub mod Pages
@@ -14,4 +15,3 @@ pub mod Images
 pub mod Completed
 pub mod Askings
 pub mod Escapes
-pub mod Trees
