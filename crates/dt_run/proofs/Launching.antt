@@ -5,7 +5,8 @@ use Rattle.dt_base.specs.declared.image.Entry.{Entry}
 use Rattle.dt_base.specs.declared.errno.Errno.TheVariants.{NoEnt}
 use Rattle.dt_base.specs.Image.{IsImage}
 use Rattle.dt_host.specs.World.{World, file_at, IsFile, content, entry as entry_at}
-use Rattle.dt_run.specs.Installed.{HoldsImage, HoldsEntry, number_under, bytes_of}
+use Rattle.dt_run.specs.Installed.{HoldsImage, number_under, bytes_of}
+use Rattle.dt_run.specs.RootFile.{HoldsEntry}
 use Rattle.dt_run.specs.Launch.{loaded, executed, executed_at, launched}
 use Rattle.dt_run.proofs.Flats.{named_at, root_file_at}
 use Rattle.dt_run.proofs.Installing.{finds, unnamed_in_image}

@@ -14,4 +14,5 @@ pub mod Items
 pub mod Images
 pub mod Completed
 pub mod Askings
+pub mod Completing
 pub mod Escapes

@@ -1,11 +1,9 @@
 -- How a host holds an image of files that all stand in the root.
-use Rattle.std.specs.Prelude.{◌≡◌, ℕ, ◌≤◌, List, ◌∷◌, length, Option, Some, None, option_map}
-use Rattle.dt_base.specs.declared.limits.TheConstants.{FILE_LIMIT}
+use Rattle.std.specs.Prelude.{◌≡◌, ℕ, List, Option, Some, None, option_map}
 use Rattle.dt_base.specs.declared.image.Entry.{Entry}
 use Rattle.dt_base.specs.declared.image.What.{What}
 use Rattle.dt_base.specs.declared.image.What.TheVariants.{File, Dir, Link}
-use Rattle.dt_host.specs.World.{World, node_at, file_at, dir_at, entry, names_at, IsDir}
-use Rattle.std.specs.FinMap.{insert}
+use Rattle.dt_host.specs.World.{World, file_at, entry, IsDir}
 use Rattle.dt_run.specs.Flat.{IsFlat}
 use Rattle.dt_run.specs.Launch.{entry_named}
 
@@ -34,31 +32,3 @@ pub record HoldsImage (w : World) (entries : List Entry) : Type 0 where
   pub root : IsDir w.forest w.forest.root
   pub files : (name : List ℕ) → host_file w name ≡ image_file entries name
   pub apart : (a b : List ℕ) (n : ℕ) → number_under w a ≡ Some n → number_under w b ≡ Some n → a ≡ b
-
--- the entry is a file that stands in the root, within the limit
-pub record IsRootFile (entry : Entry) : Type 0 where
-  pub name : List ℕ
-  pub bytes : List ℕ
-  pub path : entry.path ≡ 47 ∷ name
-  pub what : entry.what ≡ File bytes
-  pub fits : length bytes ≤ FILE_LIMIT
-
--- a new file with these bytes was named in the root, and all else is as it was
-pub record AddsFile (old new : World) (name bytes : List ℕ) : Type 0 where
-  pub number : ℕ
-  pub free : node_at old.forest number ≡ None
-  pub root : new.forest.root ≡ old.forest.root
-  pub names : dir_at new.forest new.forest.root ≡ Some (insert (names_at old.forest old.forest.root) name number)
-  pub file : file_at new.forest number ≡ Some bytes
-  pub others : (q : ℕ) → ¬ (q ≡ number) → ¬ (q ≡ old.forest.root) → node_at new.forest q ≡ node_at old.forest q
-
--- under the entry's name stands a file with the entry's bytes
-pub record HoldsEntry (w : World) (entry : Entry) : Type 0 where
-  pub name : List ℕ
-  pub bytes : List ℕ
-  pub number : ℕ
-  pub path : entry.path ≡ 47 ∷ name
-  pub what : entry.what ≡ File bytes
-  pub root : IsDir w.forest w.forest.root
-  pub named : number_under w name ≡ Some number
-  pub file : file_at w.forest number ≡ Some bytes

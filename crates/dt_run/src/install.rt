@@ -5,7 +5,8 @@ ghost use Rattle.dt_base.specs.Image.{IsImage};
 ghost use Rattle.dt_host.specs.Cause.{HasCause};
 ghost use Rattle.dt_host.specs.World.{IsEmptyStart, IsDir, IsFile, content};
 ghost use Rattle.dt_run.specs.Flat.{IsFlat};
-ghost use Rattle.dt_run.specs.Installed.{IsRootFile, HoldsImage, HoldsEntry, AddsFile, number_under};
+ghost use Rattle.dt_run.specs.Installed.{HoldsImage, number_under};
+ghost use Rattle.dt_run.specs.RootFile.{IsRootFile, HoldsEntry, AddsFile};
 
 use dt_base::{Entry, FILE_LIMIT, What};
 use dt_host::{Host, HostErr, NodeKind, read_whole, write_whole};

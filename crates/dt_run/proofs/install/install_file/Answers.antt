@@ -1,7 +1,7 @@
 use Rattle.std.proofs.Common.{◌≡◌, ℕ, Ok, Err, Result, subst, List, OnOk}
 use Rattle.dt_host.specs.World.{World, IsDir}
 use Rattle.dt_host.specs.Legal.{written, WritesAll}
-use Rattle.dt_run.specs.Installed.{AddsFile}
+use Rattle.dt_run.specs.RootFile.{AddsFile}
 use Rattle.dt_run.proofs.Installing.{bound, IsDir-made, entry-made, IsLive-made, IsFile-bound, AddsFile-written}
 use Rattle.dt_run.proofs.install.install_file.Goals as goal
 

@@ -3,7 +3,8 @@ use Rattle.std.specs.Prelude.{IfOk, unwrap_or}
 use Rattle.dt_base.specs.declared.image.Entry.{Entry}
 use Rattle.dt_base.specs.declared.image.What.TheVariants.{File}
 use Rattle.dt_host.specs.World.{World, content}
-use Rattle.dt_run.specs.Installed.{HoldsEntry, number_under}
+use Rattle.dt_run.specs.Installed.{number_under}
+use Rattle.dt_run.specs.RootFile.{HoldsEntry}
 use Rattle.dt_run.proofs.Launching.{asked}
 use Rattle.dt_run.proofs.install.read_entry.Goals as goal
 

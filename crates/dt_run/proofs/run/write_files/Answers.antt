@@ -1,5 +1,5 @@
 use Rattle.std.proofs.Common.{subst, sym}
-use Rattle.dt_run.specs.Installed.{HoldsEntry}
+use Rattle.dt_run.specs.RootFile.{HoldsEntry}
 use Rattle.dt_run.proofs.Launching.{HoldsEntry-at}
 use Rattle.dt_run.proofs.run.write_files.Goals as goal
 
