@@ -13,6 +13,8 @@ mod index;
 mod install;
 mod launch;
 mod machine;
+#[cfg(test)]
+mod machine_tests;
 mod options;
 mod process;
 mod report;
