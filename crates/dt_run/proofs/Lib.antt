@@ -1,3 +1,4 @@
+pub mod Flats
 pub mod Installing
 pub mod Launching
 pub mod Pages
@@ -15,7 +16,7 @@ pub mod Items
 pub mod Images
 pub mod Completed
 pub mod Askings
+pub mod Completing
 pub mod Escapes
-pub mod Trees
 pub mod Fronts
 pub mod Requests
