@@ -8,8 +8,12 @@ pub mod Following
 pub mod Placed
 pub mod Courses
 pub mod Modes
-pub mod TopPaths
-pub mod Items
+pub mod Pieces
+pub mod Indexes
+pub mod Sorting
+pub mod Measures
+pub mod Rising
+pub mod Indexed
 pub mod Images
 pub mod Completed
 pub mod Askings

@@ -4,16 +4,20 @@
 //! function of the image, the command, the seed and the budget, whatever the host chooses.
 #![tactic(auto)]
 
+mod blobs;
 mod call;
 mod elf;
 mod error;
 mod failure;
+mod folder;
 mod image;
 mod index;
 mod install;
 mod launch;
 mod machine;
 mod options;
+mod order;
+mod path;
 mod process;
 mod report;
 mod run;
