@@ -1,3 +1,4 @@
+pub mod Flats
 pub mod Installing
 pub mod Launching
 pub mod Pages
@@ -17,5 +18,5 @@ pub mod Indexed
 pub mod Images
 pub mod Completed
 pub mod Askings
+pub mod Completing
 pub mod Escapes
-pub mod Trees

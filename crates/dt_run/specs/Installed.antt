@@ -1,29 +1,34 @@
--- How a host holds the image of one file.
-use Rattle.std.specs.Prelude.{◌≡◌, ℕ, ◌≤◌, List, ◌∷◌, length, Some}
-use Rattle.std.specs.FinMap.{empty, insert}
-use Rattle.dt_base.specs.declared.limits.TheConstants.{FILE_LIMIT}
+-- How a host holds an image of files that all stand in the root.
+use Rattle.std.specs.Prelude.{◌≡◌, ℕ, List, Option, Some, None, option_map}
 use Rattle.dt_base.specs.declared.image.Entry.{Entry}
-use Rattle.dt_base.specs.declared.image.What.TheVariants.{File}
-use Rattle.dt_host.specs.World.{World, dir_at, file_at}
+use Rattle.dt_base.specs.declared.image.What.{What}
+use Rattle.dt_base.specs.declared.image.What.TheVariants.{File, Dir, Link}
+use Rattle.dt_host.specs.World.{World, file_at, entry, IsDir}
+use Rattle.dt_run.specs.Flat.{IsFlat}
+use Rattle.dt_run.specs.Launch.{entry_named}
 
--- the entry is a file that stands in the root, within the limit
-pub record IsRootFile (entry : Entry) : Type 0 where
-  pub name : List ℕ
-  pub bytes : List ℕ
-  pub path : entry.path ≡ 47 ∷ name
-  pub what : entry.what ≡ File bytes
-  pub fits : length bytes ≤ FILE_LIMIT
+-- the bytes of what is a file
+abbrev pub bytes_of : What → Option (List ℕ)
+bytes_of (File bytes) = Some bytes
+bytes_of Dir = None
+bytes_of (Link target) = None
 
--- the root has one entry, and under its name stands a file of these bytes
-pub record HoldsFile (w : World) (name bytes : List ℕ) : Type 0 where
-  pub number : ℕ
-  pub root : dir_at w.forest w.forest.root ≡ Some (insert empty name number)
-  pub file : file_at w.forest number ≡ Some bytes
+-- the number that the host's root has under a name
+abbrev pub number_under : World → List ℕ → Option ℕ
+number_under w name = entry w.forest w.forest.root name
 
--- the root has one entry, under the name that an image's entry has there, and there stands its file
-pub record HoldsEntry (w : World) (entry : Entry) : Type 0 where
-  pub name : List ℕ
-  pub bytes : List ℕ
-  pub path : entry.path ≡ 47 ∷ name
-  pub what : entry.what ≡ File bytes
-  pub held : HoldsFile w name bytes
+-- what a name in the host's root leads to, if it leads to anything: the bytes of a file, or something that is none
+abbrev pub host_file : World → List ℕ → Option (Option (List ℕ))
+host_file w name = option_map (file_at w.forest) (number_under w name)
+
+-- the same in the root of an image
+abbrev pub image_file : List Entry → List ℕ → Option (Option (List ℕ))
+image_file entries name = option_map (λ found. bytes_of found.what) (entry_named name entries)
+
+-- the host, read by names from its root, is the image, read by names: under each name stands the same file in both,
+-- or nothing; and two names lead to one number only where they are one, as each entry of an image is a file of its own
+pub record HoldsImage (w : World) (entries : List Entry) : Type 0 where
+  pub flat : IsFlat entries
+  pub root : IsDir w.forest w.forest.root
+  pub files : (name : List ℕ) → host_file w name ≡ image_file entries name
+  pub apart : (a b : List ℕ) (n : ℕ) → number_under w a ≡ Some n → number_under w b ≡ Some n → a ≡ b

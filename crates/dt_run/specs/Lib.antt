@@ -7,6 +7,7 @@ pub mod Errors
 pub mod Failure
 pub mod Failures
 pub mod Installed
+pub mod RootFile
 pub mod Space
 pub mod Piece
 pub mod Pages

@@ -3,9 +3,11 @@ use Rattle.std.specs.Prelude.{◌≡◌, ◌⊎◌, ◌||◌, ◌==◌, ℕ, Boo
 use Rattle.dt_base.specs.declared.refusal.Refusal.{Refusal}
 use Rattle.dt_host.specs.Cause.{Rose}
 use Rattle.dt_host.specs.Sink.{added, AddsPart}
+use Rattle.dt_host.specs.World.{World}
 use Rattle.dt_run.specs.declared.failure.Failure.{Failure}
-use Rattle.dt_run.specs.declared.failure.Failure.TheVariants.{Usage, Image, Store, Host, Output, NoMemory}
+use Rattle.dt_run.specs.declared.failure.Failure.TheVariants.{Usage, Image, Store, Host, Output}
 use Rattle.dt_run.specs.Failure.{failure_line}
+use Rattle.dt_run.specs.Installed.{HoldsImage}
 use Rattle.dt_run.specs.Run.{Run, report_of}
 
 -- the status of a run that was completed
@@ -20,12 +22,26 @@ is_status status = nat_le status 7 || (status == 10)
 abbrev pub precedes_run : ℕ → Bool
 precedes_run status = (status == 2) || (status == 3) || (status == 4)
 
+-- a status at which a run was begun and not completed: the host or the sink failed
+abbrev pub fails_run : ℕ → Bool
+fails_run status = (status == 5) || (status == 6)
+
+-- the count is not known to have risen, so no call failed
+abbrev pub Stayed : ℕ → ℕ → Type 0
+Stayed before now = ¬ Rose before now
+
 -- the run that was asked for has this status, and its report was added
 pub record Completes (asked : Result Run Failure) (answer : ℕ) (old new : Option (List ℕ)) : Type 0 where
   pub run : Run
   pub accepted : asked ≡ Ok run
   pub status : answer ≡ run.status
   pub report : new ≡ added old (report_of run)
+
+-- the host holds the last tree of the run that was asked for
+pub record HoldsTree (asked : Result Run Failure) (w : World) : Type 0 where
+  pub run : Run
+  pub accepted : asked ≡ Ok run
+  pub held : HoldsImage w run.tree
 
 -- the image that was asked for is refused
 pub record RefusesImage (asked : Result Run Failure) : Type 0 where

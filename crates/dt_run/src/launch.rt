@@ -1,8 +1,8 @@
 // The start of a run's program.
-ghost use Rattle.std.specs.Prelude.{◌≡◌, [], ◌∷◌, Ok, Err, IfOk, IfErr, IsErrOf};
+ghost use Rattle.std.specs.Prelude.{◌≡◌, List, Ok, Err, IfOk, IfErr, IsErrOf};
 ghost use Rattle.dt_base.specs.declared.image.Entry.{Entry};
 ghost use Rattle.dt_host.specs.Cause.{HasCause};
-ghost use Rattle.dt_run.specs.Installed.{HoldsEntry};
+ghost use Rattle.dt_run.specs.Installed.{HoldsImage};
 ghost use Rattle.dt_run.specs.Launch.{launched, program_name, looked_up, loaded};
 
 use crate::elf::{StartErr, read_elf, start};
@@ -19,8 +19,8 @@ pub fn launch<H: Host>(
     host: &mut H,
     path: &[u8],
 ) -> Result<Result<Machine, Errno>, RunErr>
-    requires { (entry : Entry) × HoldsEntry (H.view host.old) entry }
-    ensures ok { (entry : Entry) → HoldsEntry (H.view host.old) entry → IfOk result (λ started. started ≡ launched (entry ∷ []) (program_name path.now)) }
+    requires { (entries : List Entry) × HoldsImage (H.view host.old) entries }
+    ensures ok { (entries : List Entry) → HoldsImage (H.view host.old) entries → IfOk result (λ started. started ≡ launched entries (program_name path.now)) }
     ensures stays { H.view host.new ≡ H.view host.old }
     ensures cause { HasCause (H.count host.old) (H.count host.new) (IsErrOf result RunErr.Host) }
     ensures kinds { IsErrOf result RunErr.Sink → ⊥ }

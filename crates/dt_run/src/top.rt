@@ -1,5 +1,5 @@
 // The call that the program makes.
-ghost use Rattle.std.specs.Prelude.{◌≡◌, ◌≢◌, ◌⊎◌, ℕ, Some, None, Ok, Err, map, string_bytes, IsTrue, IfSome, IfOk, IsErrOf};
+ghost use Rattle.std.specs.Prelude.{◌≡◌, ◌≢◌, ◌⊎◌, ℕ, Some, None, Ok, Err, map, string_bytes, IsTrue, IsSome, IsOk, IfSome, IfOk, IsErrOf};
 ghost use Rattle.dt_base.specs.declared.refusal.Refusal.{Refusal};
 ghost use Rattle.dt_host.specs.Cause.{HasCause};
 ghost use Rattle.dt_host.specs.Sink.{AddsPart};
@@ -7,7 +7,7 @@ ghost use Rattle.dt_host.specs.World.{IsEmptyStart};
 ghost use Rattle.dt_run.specs.Failure.{failure_status, failure_line};
 ghost use Rattle.dt_run.specs.Options.{request_of};
 ghost use Rattle.dt_run.specs.Asked.{asked, run_on, asked_report};
-ghost use Rattle.dt_run.specs.Statuses.{is_status, is_run_status, Completes, RefusesImage, precedes_run, line_of, TellsLine, TellsPart};
+ghost use Rattle.dt_run.specs.Statuses.{is_status, is_run_status, Completes, HoldsTree, RefusesImage, precedes_run, fails_run, Stayed, line_of, TellsLine, TellsPart};
 ghost use Rattle.dt_run.specs.ImageOf.{image_of};
 
 use crate::failure::Failure;
@@ -42,6 +42,9 @@ pub fn dettrace<S: Store, H: Host, O: Sink, E: Sink, G: Gate>(
     ensures completed { IsTrue (is_run_status result) → IfSome (S.told store.old)
         (λ files. Completes (asked files (map string_bytes words.now)) result (O.told out.old) (O.told out.new)) }
 
+    // The host, read by names from its root, is then that run's last tree, read by names.
+    ensures tree { IsTrue (is_run_status result) → IfSome (S.told store.old) (λ files. HoldsTree (asked files (map string_bytes words.now)) (H.view host.new)) }
+
     // Whatever fails, what was written is a front of that report; nothing where words or image are refused.
     ensures part { IfSome (S.told store.old)
         (λ files. AddsPart (O.told out.old) (O.told out.new) (asked_report (asked files (map string_bytes words.now)))) }
@@ -53,6 +56,18 @@ pub fn dettrace<S: Store, H: Host, O: Sink, E: Sink, G: Gate>(
     ensures store { HasCause (S.count store.old) (S.count store.new) (result ≡ 4) }
     ensures host { HasCause (H.count host.old) (H.count host.new) (result ≡ 5) }
     ensures output { HasCause (O.count out.old) (O.count out.new) (result ≡ 6) }
+
+    // A fault comes only after what precedes that part was accepted: the words, or words and image.
+    ensures accepted_words { result ≡ 4 → IsSome (request_of (map string_bytes words.now)) }
+    ensures accepted { IsTrue (fails_run result) → IfSome (S.told store.old) (λ files. IsOk (asked files (map string_bytes words.now))) }
+
+    // Where no call failed, the answer is the run's with its report, or the refusal's, unless memory was wanting.
+    ensures complete { Stayed (S.count store.old) (S.count store.new) → Stayed (H.count host.old) (H.count host.new) → Stayed (O.count out.old) (O.count out.new)
+        → IfSome (S.told store.old) (λ files. IsOk (asked files (map string_bytes words.now))
+        → (Completes (asked files (map string_bytes words.now)) result (O.told out.old) (O.told out.new)) ⊎ (result ≡ 7)) }
+    ensures refused_words { request_of (map string_bytes words.now) ≡ None → (result ≡ 2) ⊎ (result ≡ 7) }
+    ensures refused_image { Stayed (S.count store.old) (S.count store.new)
+        → IfSome (S.told store.old) (λ files. RefusesImage (asked files (map string_bytes words.now)) → (result ≡ 3) ⊎ (result ≡ 7)) }
 
     // The error stream gets the status's line, with the refusal's number; where that stream fails, a front of it.
     ensures line { result ≢ 7 → IfSome (S.told store.old) (λ files.
@@ -90,12 +105,15 @@ fn run_words<S: Store, H: Host, O: Sink, G: Gate>(
     requires { IsEmptyStart (H.view host.old) }
     ensures completed { IfOk result (λ status. IfSome (S.told store.old)
         (λ files. Completes (asked files (map string_bytes words.now)) status (O.told out.old) (O.told out.new))) }
+    ensures tree { IfOk result (λ status. IfSome (S.told store.old) (λ files. HoldsTree (asked files (map string_bytes words.now)) (H.view host.new))) }
     ensures statuses { IfOk result (λ status. IsTrue (is_run_status status)) }
     ensures part { IfSome (S.told store.old)
         (λ files. AddsPart (O.told out.old) (O.told out.new) (asked_report (asked files (map string_bytes words.now)))) }
     ensures nothing { (f : Failure) → result ≡ Err f → IsTrue (precedes_run (failure_status f)) → O.told out.new ≡ O.told out.old }
     ensures usage { result ≡ Err Failure.Usage → request_of (map string_bytes words.now) ≡ None }
     ensures image { (r : Refusal) → result ≡ Err (Failure.Image r) → IfSome (S.told store.old) (λ files. asked files (map string_bytes words.now) ≡ Err (Failure.Image r)) }
+    ensures refused { request_of (map string_bytes words.now) ≡ None → (IsErrOf result Failure.Usage) ⊎ (IsErrOf result Failure.NoMemory) }
+    ensures accepted { (f : Failure) → result ≡ Err f → IsTrue (fails_run (failure_status f)) → IfSome (S.told store.old) (λ files. IsOk (asked files (map string_bytes words.now))) }
     ensures store { HasCause (S.count store.old) (S.count store.new) (IsErrOf result Failure.Store) }
     ensures host { HasCause (H.count host.old) (H.count host.new) (IsErrOf result Failure.Host) }
     ensures output { HasCause (O.count out.old) (O.count out.new) (IsErrOf result Failure.Output) }
@@ -116,12 +134,16 @@ fn run_options<S: Store, H: Host, O: Sink, G: Gate>(
     requires { IsEmptyStart (H.view host.old) }
     ensures completed { IfOk result (λ status. IfSome (S.told store.old)
         (λ files. Completes (run_on options.now.command (image_of files options.now.image)) status (O.told out.old) (O.told out.new))) }
+    ensures tree { IfOk result (λ status. IfSome (S.told store.old)
+        (λ files. HoldsTree (run_on options.now.command (image_of files options.now.image)) (H.view host.new))) }
     ensures statuses { IfOk result (λ status. IsTrue (is_run_status status)) }
     ensures part { IfSome (S.told store.old)
         (λ files. AddsPart (O.told out.old) (O.told out.new) (asked_report (run_on options.now.command (image_of files options.now.image)))) }
     ensures nothing { (f : Failure) → result ≡ Err f → IsTrue (precedes_run (failure_status f)) → O.told out.new ≡ O.told out.old }
     ensures usage { result ≢ Err Failure.Usage }
     ensures image { (r : Refusal) → result ≡ Err (Failure.Image r) → IfSome (S.told store.old) (λ files. image_of files options.now.image ≡ Err r) }
+    ensures accepted { (f : Failure) → result ≡ Err f → IsTrue (fails_run (failure_status f)) → IfSome (S.told store.old)
+        (λ files. IsOk (run_on options.now.command (image_of files options.now.image))) }
     ensures store { HasCause (S.count store.old) (S.count store.new) (IsErrOf result Failure.Store) }
     ensures host { HasCause (H.count host.old) (H.count host.new) (IsErrOf result Failure.Host) }
     ensures output { HasCause (O.count out.old) (O.count out.new) (IsErrOf result Failure.Output) }

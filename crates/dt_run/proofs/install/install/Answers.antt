@@ -1,48 +1,41 @@
-use Rattle.std.proofs.Common.{◌≡◌, ℕ, None, Ok, Err, Result, sym, ap, subst, ◌∙◌, List, OnOk}
-use Rattle.dt_host.specs.World.{World, node_at}
-use Rattle.dt_host.specs.Legal.{MadeAt, written, WritesAll}
-use Rattle.dt_host.specs.declared.kind.NodeKind.TheVariants.{File}
-use Rattle.dt_run.specs.Installed.{HoldsFile}
-use Rattle.dt_run.proofs.Installing.{made, bound, IsDir-root, entry_after_make, IsLive-made, IsFile-bound, content-bound, HoldsFile-written}
+use Rattle.std.proofs.Common.{◌≡◌, ℕ, ◌<◌, ◌+◌, List, [], ◌∷◌, length, take, get_or, sym, ap, subst, ◌∙◌, arith}
+use Rattle.dt_base.specs.declared.image.Entry.{Entry}
+use Rattle.dt_base.specs.declared.image.What.TheVariants.{File}
+use Rattle.dt_base.specs.Image.{IsImage}
+use Rattle.dt_host.specs.World.{World}
+use Rattle.dt_run.specs.Flat.{IsFlat}
+use Rattle.dt_run.specs.Installed.{HoldsImage}
+use Rattle.dt_run.specs.RootFile.{AddsFile}
+use Rattle.dt_run.proofs.Flats.{root_file_at, is_root_file_at, unnamed_before, take_next}
+use Rattle.dt_run.proofs.Installing.{HoldsImage-empty, HoldsImage-added, unnamed_at_host}
 use Rattle.dt_run.proofs.install.install.Goals as goal
 
-now_made : (w w1 w2 : World) (n : ℕ) → w1 ≡ w → MadeAt w1 File w2 n → w2 ≡ made w n
-now_made w w1 w2 n s m = m.made ∙ ap (λ u. made u n) s
+pub loop-entry-init : goal.loop-entry-init
+loop-entry-init g c = record {
+  later = c.root.ensures.cause.later;
+  root = c.in_ok-root.ensures.ok ∙ ap (λ w. w.forest.root) (sym c.root.ensures.stays);
+  held = subst (λ w. HoldsImage w []) (sym c.root.ensures.stays) (HoldsImage-empty _ c.requires.empty);
+}
 
-free_at : (w w1 w2 : World) (n : ℕ) → w1 ≡ w → MadeAt w1 File w2 n → node_at w.forest n ≡ None
-free_at w w1 w2 n s m = ap (λ u. node_at u.forest n) (sym s) ∙ m.free
+pub install_entry-requires-clause-file : goal.install_entry-requires-clause-file
+install_entry-requires-clause-file g c = root_file_at _ _ _ c.requires.flat c.requires.image c.loop-entry-test.true c.entry-item.is
 
--- src/install.rt:24:5
-pub bind-requires-clause-directory : goal.bind-requires-clause-directory
-bind-requires-clause-directory g c =
-    let placed = now_made _ _ _ _ c.root.ensures.stays c.in_ok-file.ensures.legal in
-    let free = free_at _ _ _ _ c.root.ensures.stays c.in_ok-file.ensures.legal in
-    rw (placed, c.in_ok-root.ensures.ok) (IsDir-root _ _ c.requires.empty free)
+pub install_entry-requires-clause-unnamed : goal.install_entry-requires-clause-unnamed
+install_entry-requires-clause-unnamed g c = λ name path.
+    unnamed_at_host _ _ name c.loop-entry.invariant.held (unnamed_before _ _ _ name c.requires.image c.loop-entry-test.true c.entry-item.is path)
 
-pub bind-requires-clause-unnamed : goal.bind-requires-clause-unnamed
-bind-requires-clause-unnamed g c =
-    let placed = now_made _ _ _ _ c.root.ensures.stays c.in_ok-file.ensures.legal in
-    let free = free_at _ _ _ _ c.root.ensures.stays c.in_ok-file.ensures.legal in
-    rw (placed, c.in_ok-root.ensures.ok) (entry_after_make _ _ _ c.requires.empty free)
+-- one entry more is installed
+one_more : (old new : World) (entries : List Entry) (i : ℕ) (e : Entry) (name bytes : List ℕ) → IsFlat entries → IsImage entries → i < length entries → e ≡ get_or entries i e → e.path ≡ 47 ∷ name → e.what ≡ File bytes → AddsFile old new name bytes → HoldsImage old (take i entries) → HoldsImage new (take (i + 1) entries)
+one_more old new entries i e name bytes flat good lt at path what adds h =
+    subst (λ xs. HoldsImage new xs) (sym (take_next entries i e lt at))
+    (HoldsImage-added old new (take i entries) e name bytes h adds path what (unnamed_before entries i e name good lt at path) (is_root_file_at entries i e flat lt at))
 
-pub bind-requires-clause-live : goal.bind-requires-clause-live
-bind-requires-clause-live g c =
-    let placed = now_made _ _ _ _ c.root.ensures.stays c.in_ok-file.ensures.legal in
-    rw placed (IsLive-made (g.H.Host.view c.args.host.now) c.in_ok-file.file)
-
-pub write_whole-requires-clause-file : goal.write_whole-requires-clause-file
-write_whole-requires-clause-file g c =
-    let placed = now_made _ _ _ _ c.root.ensures.stays c.in_ok-file.ensures.legal in
-    let free = free_at _ _ _ _ c.root.ensures.stays c.in_ok-file.ensures.legal in
-    rw (c.in_ok-bind.ensures.legal, placed, c.in_ok-root.ensures.ok) (IsFile-bound _ _ _ c.requires.empty free)
-
-holds : {A E : Type 0} (r : Result A E) (w u v : World) (n : ℕ) (name bytes : List ℕ) → u ≡ bound w n name → HoldsFile (written (bound w n name) n 0 bytes) name bytes → WritesAll u n 0 bytes r v → OnOk r (HoldsFile v name bytes)
-holds (Ok _) w u v n name bytes at h writes = rw (writes, at) h
-holds (Err e) w u v n name bytes at h writes = tt
-
-pub returns-clause-ok : goal.returns-clause-ok
-returns-clause-ok g c =
-    let placed = now_made _ _ _ _ c.root.ensures.stays c.in_ok-file.ensures.legal in
-    let free = free_at _ _ _ _ c.root.ensures.stays c.in_ok-file.ensures.legal in
-    let at = rw (placed, c.in_ok-root.ensures.ok) at c.in_ok-bind.ensures.legal in
-    holds _ _ _ _ _ _ _ at (HoldsFile-written _ _ _ _ c.requires.empty free) c.write_whole.ensures.legal
+pub loop-entry-preserved : goal.loop-entry-preserved
+loop-entry-preserved g c =
+    let is = root_file_at _ _ _ c.requires.flat c.requires.image c.loop-entry-test.true c.entry-item.is in
+    let adds = c.in_ok-install_entry.ensures.ok is.name is.bytes is.path is.what in
+    record {
+      later = omega (arith, c.loop-entry.invariant.later, c.install_entry.ensures.cause.later);
+      root = c.loop-entry.invariant.root ∙ sym adds.root;
+      held = one_more _ _ _ _ _ _ _ c.requires.flat c.requires.image c.loop-entry-test.true c.entry-item.is is.path is.what adds c.loop-entry.invariant.held;
+    }
