@@ -11,6 +11,7 @@ use Rattle.std.specs.Prelude.{codes}
 use Rattle.std.specs.FinMap.{get}
 use Rattle.serde_json.specs.Data.{Data}
 use Rattle.dt_host.specs.Store.{Files}
+use Rattle.dt_run.proofs.Conjuncts.{both, left_true, right_true}
 use Rattle.dt_run.specs.Index.{IndexEntry, is_listed, is_good_file, is_blob_name, index_of}
 use Rattle.dt_run.specs.ImageOf.{has_twice, sorted, filled, image_from, image_listed, image_by, image_of, value_of, name_in, is_root_entry}
 use Rattle.dt_run.proofs.Sorting.{list_all-sorted}
@@ -19,18 +20,6 @@ root_by : (path top mode blob : Bool) → (not (path && not top) && mode) ≡ tr
 root_by true true mode blob listed good = listed
 root_by true false mode blob listed good = absurd (cc)
 root_by false top mode blob listed good = absurd (cc)
-
-left_true : (a b : Bool) → (a && b) ≡ true → a ≡ true
-left_true true b e = refl
-left_true false b e = absurd (cc)
-
-right_true : (a b : Bool) → (a && b) ≡ true → b ≡ true
-right_true true b e = e
-right_true false b e = absurd (cc)
-
-both : (a b : Bool) → a ≡ true → b ≡ true → (a && b) ≡ true
-both true b e f = f
-both false b e f = absurd (cc)
 
 root_listed : (files : List IndexEntry) → list_all is_listed files ≡ true → list_all is_good_file files ≡ true → list_all is_root_entry files ≡ true
 root_listed [] listed good = refl

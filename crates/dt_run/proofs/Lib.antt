@@ -10,6 +10,7 @@ pub mod Placed
 pub mod Courses
 pub mod Modes
 pub mod Pieces
+pub mod Conjuncts
 pub mod Indexes
 pub mod Sorting
 pub mod Measures

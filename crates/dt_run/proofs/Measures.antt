@@ -3,7 +3,6 @@ use Rattle.std.proofs.Common.{◌≡◌, ℕ, ◌<◌, ◌≤◌, Bool, true, fa
 use Rattle.std.specs.Prelude.{IfSome, is_some, unwrap_or, option_map}
 use Rattle.std.specs.Result.{IsErrAnd}
 use Rattle.std.specs.List.{list_all, All}
-use Rattle.std.specs.FinMap.{get}
 use Rattle.std.proofs.lemmas.List.Elements.{All-nil, All-cons, All-head, All-tail}
 use Rattle.std.proofs.lemmas.List.Folds.{list_all-map, list_all_at}
 use Rattle.std.proofs.lemmas.List.{length-map}
@@ -13,7 +12,8 @@ use Rattle.dt_base.specs.declared.refusal.ImageErr.{ImageErr}
 use Rattle.dt_base.specs.declared.refusal.Refusal.{Refusal}
 use Rattle.dt_base.specs.declared.refusal.Refusal.TheVariants.{NoBlob, TooBig, TooMany}
 use Rattle.dt_base.specs.declared.limits.TheConstants.{FILE_LIMIT, ENTRY_LIMIT}
-use Rattle.dt_host.specs.Store.{Files, size_of, bytes_of}
+use Rattle.dt_host.specs.Store.{Files}
+use Rattle.dt_run.proofs.Conjuncts.{left_true, right_true}
 use Rattle.dt_run.specs.declared.index.FileEntry.{FileEntry}
 use Rattle.dt_run.specs.declared.blobs.Measured.{Measured}
 use Rattle.dt_run.specs.ImageOf.{has_blob, fits, entry_with, filled, is_root_entry}
@@ -74,12 +74,6 @@ module _ (held : Files) (folder : List ℕ) where
   unfolding filled
   filled_missing order missing = ap (λ all. chosen all (list_all (fits held folder) (map entry_of order)) (nat_le (length (map entry_of order)) ENTRY_LIMIT) (map (entry_with held folder) (map entry_of order))) missing
 
-few_true : (n : ℕ) → n ≤ ENTRY_LIMIT → nat_le n ENTRY_LIMIT ≡ true
-few_true n few = grind (arith, nat_tests)
-
-few_false : (n : ℕ) → ENTRY_LIMIT < n → nat_le n ENTRY_LIMIT ≡ false
-few_false n many = grind (arith, nat_tests)
-
 -- a blob that a file lacks
 pub missing_at : (told now : Option Files) (folder : List ℕ) (files : List FileEntry) (i : ℕ) (d : FileEntry) → i < length files → now ≡ told
     → IfSome now (λ held. has_blob held folder (entry_of (get_or files i d)) ≡ false) → IfSome told (λ held. list_all (has_blob held folder) (map entry_of files) ≡ false)
@@ -102,16 +96,16 @@ told_big (Some held) folder blobs files same sizes big =
     ∙ ap (λ small. chosen held folder true small (nat_le (length blobs) ENTRY_LIMIT) (map (λ blob. entry_with held folder (entry_of blob.file)) blobs)) big
 
 pub told_many : (told : Option Files) (folder : List ℕ) (blobs : List Measured) (files : List FileEntry) → files_of blobs ≡ files
-    → IfSome told (λ held. All (HasSize held folder) blobs) → list_all is_small blobs ≡ true → ENTRY_LIMIT < length blobs → IfSome told (λ held. filled held folder (map entry_of files) ≡ Err TooMany)
+    → IfSome told (λ held. All (HasSize held folder) blobs) → list_all is_small blobs ≡ true → nat_le (length blobs) ENTRY_LIMIT ≡ false → IfSome told (λ held. filled held folder (map entry_of files) ≡ Err TooMany)
 told_many None folder blobs files same sizes small many = tt
 told_many (Some held) folder blobs files same sizes small many =
     ap (λ order. filled held folder (map entry_of order)) (sym same)
     ∙ filled_by held folder blobs sizes
     ∙ ap (λ b. chosen held folder true b (nat_le (length blobs) ENTRY_LIMIT) (map (λ blob. entry_with held folder (entry_of blob.file)) blobs)) small
-    ∙ ap (λ few. chosen held folder true true few (map (λ blob. entry_with held folder (entry_of blob.file)) blobs)) (few_false (length blobs) many)
+    ∙ ap (λ few. chosen held folder true true few (map (λ blob. entry_with held folder (entry_of blob.file)) blobs)) many
 
 pub told_filled : (told now : Option Files) (folder : List ℕ) (blobs read : List Measured) (files : List FileEntry) (image entries : List Entry) → files_of blobs ≡ files
-    → IfSome told (λ held. All (HasSize held folder) blobs) → list_all is_small blobs ≡ true → length blobs ≤ ENTRY_LIMIT
+    → IfSome told (λ held. All (HasSize held folder) blobs) → list_all is_small blobs ≡ true → nat_le (length blobs) ENTRY_LIMIT ≡ true
     → now ≡ told → read ≡ blobs → image ≡ entries → IfSome now (λ held. entries ≡ map (λ blob. entry_with held folder (entry_of blob.file)) read)
     → IfSome told (λ held. filled held folder (map entry_of files) ≡ Ok image)
 told_filled None now folder blobs read files image entries same sizes small few stays all is made = tt
@@ -120,7 +114,7 @@ told_filled (Some held) now folder blobs read files image entries same sizes sma
     ap (λ order. filled held folder (map entry_of order)) (sym same)
     ∙ filled_by held folder blobs sizes
     ∙ ap (λ b. chosen held folder true b (nat_le (length blobs) ENTRY_LIMIT) (map (λ blob. entry_with held folder (entry_of blob.file)) blobs)) small
-    ∙ ap (λ b. chosen held folder true true b (map (λ blob. entry_with held folder (entry_of blob.file)) blobs)) (few_true (length blobs) few)
+    ∙ ap (λ b. chosen held folder true true b (map (λ blob. entry_with held folder (entry_of blob.file)) blobs)) few
     ∙ ap Ok (sym (is ∙ from ∙ ap (map (λ blob. entry_with held folder (entry_of blob.file))) all))
 
 -- what a `?` passes on
@@ -131,13 +125,8 @@ passed_on (Err y) e x from is = cc
 at_most : (n : ℕ) → nat_le n FILE_LIMIT ≡ true → n ≤ FILE_LIMIT
 at_most n e = grind (arith, nat_tests)
 
-left_true : (a b : Bool) → (a && b) ≡ true → a ≡ true
-left_true true b e = refl
-left_true false b e = absurd (cc)
-
-right_true : (a b : Bool) → (a && b) ≡ true → b ≡ true
-right_true true b e = e
-right_true false b e = absurd (cc)
+pub few_blobs : (n : ℕ) → nat_le n ENTRY_LIMIT ≡ true → n ≤ ENTRY_LIMIT
+few_blobs n e = grind (arith, nat_tests)
 
 pub small_all : (blobs : List Measured) → list_all is_small blobs ≡ true → All (λ blob. blob.size ≤ FILE_LIMIT) blobs
 small_all [] small = All-nil (λ blob. blob.size ≤ FILE_LIMIT)

@@ -1,6 +1,6 @@
 -- Entries that stand in the root in order make an image.
 use Rattle.std.proofs.Common.{◌≡◌, ℕ, ◌≤◌, Bool, true, false, ◌&&◌, ◌||◌, List, [], ◌∷◌, length, map, IsTrue, refl, sym, ap, ◌∙◌, arith}
-use Rattle.std.specs.List.{list_all, list_any, AllByRecursion}
+use Rattle.std.specs.List.{list_all, list_any}
 use Rattle.std.specs.List.Sorted.{IsStrictlySortedBy}
 use Rattle.std.specs.Ordering.{nat_cmp, is_lt}
 use Rattle.std.specs.Cmp.Lexicographic.{slice_cmp}
@@ -9,6 +9,7 @@ use Rattle.dt_base.specs.declared.image.Entry.{Entry}
 use Rattle.dt_base.specs.declared.limits.TheConstants.{ENTRY_LIMIT}
 use Rattle.dt_base.specs.Image.{IsImage, is_good_entry, is_rising, has_parent, is_dir_at}
 use Rattle.dt_base.specs.Path.{is_top, parent_of}
+use Rattle.dt_run.proofs.Conjuncts.{both, left_true, right_true}
 use Rattle.dt_run.specs.declared.index.FileEntry.{FileEntry}
 use Rattle.dt_run.specs.declared.blobs.Measured.{Measured}
 use Rattle.dt_run.specs.Flat.{is_file, is_root_file, IsFlat}
@@ -23,10 +24,6 @@ rise-entries : (entries : List Entry) → is_rising entries ≡ rise (map (λ en
 rise-entries [] = refl
 rise-entries (first ∷ []) = refl
 rise-entries (first ∷ second ∷ rest) = ap (λ more. is_lt (slice_cmp nat_cmp first.path second.path) && more) (rise-entries (second ∷ rest))
-
-both : (a b : Bool) → a ≡ true → b ≡ true → (a && b) ≡ true
-both true b e f = f
-both false b e f = absurd (cc)
 
 rise-files : (files : List FileEntry) → IsStrictlySortedBy (λ a b. slice_cmp nat_cmp a.path.now b.path.now) files → rise (map (λ file. file.path.now) files) ≡ true
 unfolding IsStrictlySortedBy
@@ -43,14 +40,6 @@ top_of : (a b c : Bool) → (a && b) ≡ true → (b || c) ≡ true
 top_of true true c e = refl
 top_of true false c e = absurd (cc)
 top_of false b c e = absurd (cc)
-
-left_true : (a b : Bool) → (a && b) ≡ true → a ≡ true
-left_true true b e = refl
-left_true false b e = absurd (cc)
-
-right_true : (a b : Bool) → (a && b) ≡ true → b ≡ true
-right_true true b e = e
-right_true false b e = absurd (cc)
 
 parents : (all entries : List Entry) → list_all is_root_file entries ≡ true → list_all (has_parent all) entries ≡ true
 parents all [] flat = refl

@@ -1,5 +1,5 @@
 -- The image of a folder: what its index and its blobs say.
-use Rattle.std.specs.Prelude.{ℕ, ◌≤◌, Bool, true, false, not, ◌&&◌, ◌||◌, List, [], ◌∷◌, ◌++◌, length, map, fold, codes, nat_le, is_some, IsTrue, Option, Some, None, option_and_then, Result, Ok, Err, if◌then◌else◌}
+use Rattle.std.specs.Prelude.{ℕ, Bool, false, not, ◌&&◌, ◌||◌, List, [], ◌∷◌, ◌++◌, length, map, fold, codes, nat_le, is_some, Option, Some, None, option_and_then, Result, Ok, Err, if◌then◌else◌}
 use Rattle.std.specs.List.{list_all, list_any}
 use Rattle.std.specs.Str.{is_utf8, bytes_eq}
 use Rattle.std.specs.Ordering.{nat_cmp, is_lt}
@@ -9,7 +9,6 @@ use Rattle.serde_json.specs.Data.{Data}
 use Rattle.serde_json.specs.Read.{read}
 use Rattle.dt_base.specs.Path.{is_path, is_top}
 use Rattle.dt_base.specs.declared.image.Entry.{Entry}
-use Rattle.dt_base.specs.declared.image.What.{What}
 use Rattle.dt_base.specs.declared.image.What.TheVariants.{File}
 use Rattle.dt_base.specs.declared.refusal.Refusal.{Refusal}
 use Rattle.dt_base.specs.declared.refusal.Refusal.TheVariants.{NoIndex, BadIndex, BadPath, Twice, NoBlob, TooBig, TooMany}
@@ -19,7 +18,6 @@ use Rattle.dt_base.specs.declared.refusal.ImageErr.TheVariants.{Store, NoMemory}
 use Rattle.dt_host.specs.Store.{Files, bytes_of}
 use Rattle.dt_host.specs.declared.error.StoreErr.{StoreErr}
 use Rattle.dt_host.specs.declared.error.StoreErr.TheVariants as store
-use Rattle.dt_run.specs.Flat.{is_root_file}
 use Rattle.dt_run.specs.Index.{IndexEntry, index_of, is_good_file}
 
 -- a store's name of a file in a folder
@@ -71,16 +69,16 @@ entry_with files folder file = record { path = file.path; mode = file.mode; what
 -- the image of files in order, or the first that holds: a blob is missing, one is too long, or there are too many files
 unfoldable pub filled : Files → List ℕ → List IndexEntry → Result (List Entry) Refusal
 filled files folder order =
-  if not (list_all (has_blob files folder) order) then Err NoBlob
-  else (if not (list_all (fits files folder) order) then Err TooBig
-  else (if nat_le (length order) ENTRY_LIMIT then Ok (map (entry_with files folder) order) else Err TooMany))
+    if not (list_all (has_blob files folder) order) then Err NoBlob
+    else (if not (list_all (fits files folder) order) then Err TooBig
+    else (if nat_le (length order) ENTRY_LIMIT then Ok (map (entry_with files folder) order) else Err TooMany))
 
 -- the image of the files of an index, or the first that holds: a name is not good, a path stands twice, or as above
 unfoldable pub image_from : Files → List ℕ → List IndexEntry → Result (List Entry) Refusal
 image_from files folder index =
-  if not (list_all is_good_file index) then Err BadPath
-  else (if has_twice index then Err Twice
-  else filled files folder (sorted index))
+    if not (list_all is_good_file index) then Err BadPath
+    else (if has_twice index then Err Twice
+    else filled files folder (sorted index))
 
 -- the image of a list of files, if an index gave one
 abbrev pub image_listed : Files → List ℕ → Option (List IndexEntry) → Result (List Entry) Refusal
@@ -104,9 +102,3 @@ fault_of store.NoMemory = NoMemory
 -- the file is one that an image may have in its root
 abbrev pub is_root_entry : IndexEntry → Bool
 is_root_entry file = is_path file.path && is_top file.path && nat_le file.mode MODE_LIMIT
-
--- there is one entry, a file in the root
-abbrev pub IsOneFile : List Entry → Type 0
-IsOneFile [] = ⊥
-IsOneFile (entry ∷ []) = IsTrue (is_root_file entry)
-IsOneFile (entry ∷ next ∷ rest) = ⊥

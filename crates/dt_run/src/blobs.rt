@@ -18,14 +18,14 @@ use dt_base::{Blob, ENTRY_LIMIT, Entry, FILE_LIMIT, Image, ImageErr, Refusal, Wh
 use dt_host::Store;
 use std::alloc::Global;
 
-/// A file of an index, and the bytes of its blob.
+// A file of an index, and the size of its blob in bytes.
 #[derive(Clone, Copy, Debug)]
-pub struct Measured<'v> {
+struct Measured<'v> {
     file: FileEntry<'v>,
     size: u64,
 }
 
-/// The image of files that stand in order. No blob is read before each is found good.
+/// The image of files that stand in order. No blob is read before the sizes of all are known and within the limit.
 pub fn fill<S: Store>(
     alloc: Global,
     store: &mut S,
@@ -44,7 +44,7 @@ pub fn fill<S: Store>(
     if !fit(&blobs) {
         return Err(ImageErr::Refused(Refusal::TooBig));
     }
-    if blobs.len() as u64 > ENTRY_LIMIT {
+    if !are_few(&blobs) {
         return Err(ImageErr::Refused(Refusal::TooMany));
     }
     Ok(Image::new(read(alloc, store, folder, &blobs)?))
@@ -96,6 +96,13 @@ fn fit(blobs: &[Measured<'_>]) -> bool
     ensures { result ≡ list_all (λ blob. nat_le blob.size FILE_LIMIT) blobs.now }
 {
     blobs.iter().all(|blob| blob.size <= FILE_LIMIT)
+}
+
+// There are no more than an image may have.
+fn are_few(blobs: &[Measured<'_>]) -> bool
+    ensures { result ≡ nat_le (length blobs.now) ENTRY_LIMIT }
+{
+    blobs.len() as u64 <= ENTRY_LIMIT
 }
 
 // The entries of all files.
