@@ -11,7 +11,6 @@ pub mod Courses
 pub mod Modes
 pub mod Pieces
 pub mod Conjuncts
-pub mod Indexes
 pub mod Sorting
 pub mod Measures
 pub mod Rising

@@ -51,7 +51,7 @@ is_blob_name name = nat_le 1 (length name) && nat_le (length name) NAME_LIMIT &&
 abbrev pub is_nested : List ℕ → Bool
 is_nested path = is_path path && not (is_top path)
 
--- an entry of this type and path is a file, and in no directory but the root
+-- an entry of this type and path is a file, and its path leads through no directory
 abbrev pub is_flat_file : List ℕ → List ℕ → Bool
 is_flat_file kind path = bytes_eq kind (codes "file") && not (is_nested path)
 
@@ -59,7 +59,7 @@ is_flat_file kind path = bytes_eq kind (codes "file") && not (is_nested path)
 abbrev pub if_flat_file : List ℕ → List ℕ → ℕ → List ℕ → Option IndexEntry
 if_flat_file kind path mode blob = if is_flat_file kind path then Some (record { path = path; mode = mode; blob = blob }) else None
 
--- the file that an entry of an index is, if it is one in the root
+-- the file that an entry of an index is, if it is one and has no good path of more than one name
 unfoldable pub file_of : Data → Option IndexEntry
 file_of value = do
   kind ← text_at (codes "type") value
@@ -68,7 +68,7 @@ file_of value = do
   blob ← text_at (codes "blob") value
   if_flat_file kind path mode blob
 
--- the files that these are, if each is one
+-- the files that these entries are, if each is one
 abbrev pub files_of : Items → Option (List IndexEntry)
 files_of no_items = Some []
 files_of (item value values) = do
@@ -83,7 +83,7 @@ versioned_items value = do
   entries ← items_at (codes "entries") value
   if version == 1 then Some entries else None
 
--- the files of an index of version 1, if it lists files in the root and nothing else
+-- the files of an index of version 1, if each entry is a file and none has a good path of more than one name
 unfoldable pub index_of : Data → Option (List IndexEntry)
 index_of value = option_and_then files_of (versioned_items value)
 
