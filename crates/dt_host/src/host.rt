@@ -22,12 +22,14 @@ pub trait Host {
     fn root(&mut self) -> Result<u64, HostErr>
         ensures ok { IfOk result (λ n. n ≡ (view self.old).forest.root) }
         ensures stays { view self.new ≡ view self.old }
-        ensures cause { HasCause (count self.old) (count self.new) (IsErrOf result HostErr.Failed) };
+        ensures cause { HasCause (count self.old) (count self.new)
+            (IsErrOf result HostErr.Failed) };
 
     /// Makes a node that no directory names, under a number that was not live.
     fn make(&mut self, kind: NodeKind) -> Result<u64, HostErr>
         ensures legal { Makes (view self.old) kind result (view self.new) }
-        ensures cause { HasCause (count self.old) (count self.new) (IsErrOf result HostErr.Failed) };
+        ensures cause { HasCause (count self.old) (count self.new)
+            (IsErrOf result HostErr.Failed) };
 
     /// Names the node `ino` in the directory `dir`.
     fn bind(&mut self, dir: u64, name: &[u8], ino: u64) -> Result<(), HostErr>
@@ -35,14 +37,16 @@ pub trait Host {
         requires unnamed { entry (view self.old).forest dir name.now ≡ None }
         requires live { IsLive (view self.old).forest ino }
         ensures legal { Binds (view self.old) dir name.now ino result (view self.new) }
-        ensures cause { HasCause (count self.old) (count self.new) (IsErrOf result HostErr.Failed) };
+        ensures cause { HasCause (count self.old) (count self.new)
+            (IsErrOf result HostErr.Failed) };
 
     /// The number of the node of that name; None exactly where the directory has no such entry.
     fn find(&mut self, dir: u64, name: &[u8]) -> Result<Option<u64>, HostErr>
         requires { IsDir (view self.old).forest dir }
         ensures ok { IfOk result (λ found. found ≡ entry (view self.old).forest dir name.now) }
         ensures stays { view self.new ≡ view self.old }
-        ensures cause { HasCause (count self.old) (count self.new) (IsErrOf result HostErr.Failed) };
+        ensures cause { HasCause (count self.old) (count self.new)
+            (IsErrOf result HostErr.Failed) };
 
     /// Reads bytes of a file from `off` on into the front of `buf`, and answers how many.
     /// It is 0 exactly where the buffer is empty or nothing stands from `off` on.
@@ -50,7 +54,8 @@ pub trait Host {
         requires { IsFile (view self.old).forest ino }
         ensures ok { IfOk result (Reads (content (view self.old).forest ino) off buf.old buf.new) }
         ensures stays { view self.new ≡ view self.old }
-        ensures cause { HasCause (count self.old) (count self.new) (IsErrOf result HostErr.Failed) };
+        ensures cause { HasCause (count self.old) (count self.new)
+            (IsErrOf result HostErr.Failed) };
 
     /// Writes the first bytes of `bytes` at `off`, at least one, and answers how many.
     /// After an error some of them may have been written.
@@ -60,5 +65,6 @@ pub trait Host {
         requires some { 0 < length bytes.now }
         requires fits { off + length bytes.now ≤ FILE_LIMIT }
         ensures legal { Writes (view self.old) ino off bytes.now result (view self.new) }
-        ensures cause { HasCause (count self.old) (count self.new) (IsErrOf result HostErr.Failed) };
+        ensures cause { HasCause (count self.old) (count self.new)
+            (IsErrOf result HostErr.Failed) };
 }

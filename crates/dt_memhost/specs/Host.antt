@@ -29,30 +29,41 @@ pub record Tells {A : Type 0} (old : HostState) (answer : A) (result : Result A 
   pub told : result ≡ Ok answer
   pub counts : new ≡ record old { script = counted old.script }
 
+-- a call fails where it is listed, and else answers as said
+abbrev pub UnlessListed : {A : Type 0} → HostState → Result A HostErr → HostState → Type 0 → Type 0
+UnlessListed old result new said = MatchBool (fails_next old.script) (Fails old result new) said
+
 -- how a host in memory answers `root`
 abbrev pub RootsBy : HostState → Result ℕ HostErr → HostState → Type 0
-RootsBy old result new = MatchBool (fails_next old.script) (Fails old result new) (Tells old old.view.forest.root result new)
+RootsBy old result new = UnlessListed old result new (Tells old old.view.forest.root result new)
 
 -- how it answers `find`
 abbrev pub FindsBy : HostState → ℕ → List ℕ → Result (Option ℕ) HostErr → HostState → Type 0
 FindsBy old d name result new =
-    MatchBool (fails_next old.script) (Fails old result new) (Tells old (entry old.view.forest d name) result new)
+    UnlessListed old result new (Tells old (entry old.view.forest d name) result new)
 
 -- a word chooses the number of the new node
 pub record MakesNumber (old : HostState) (kind : NodeKind) (new : HostState) (n : ℕ) : Type 0 where
   pub chosen : Numbers old.view.forest.nodes (word_of old.script) n
-  pub made : new
-      ≡ record { view = with_forest old.view (with_node old.view.forest n (new_node kind)); script = picked (counted old.script) }
+  pub view : new.view ≡ with_forest old.view (with_node old.view.forest n (new_node kind))
+  pub script : new.script ≡ picked (counted old.script)
 
 -- how it answers `make`
 abbrev pub MakesBy : HostState → NodeKind → Result ℕ HostErr → HostState → Type 0
 MakesBy old kind result new =
-    MatchBool (fails_next old.script) (Fails old result new) (MatchResult result (MakesNumber old kind new) (Starves old (picked (counted old.script)) new))
+    UnlessListed old result new
+    (MatchResult result (MakesNumber old kind new) (Starves old (picked (counted old.script)) new))
+
+-- the entry is added
+pub record BindsEntry (old : HostState) (d : ℕ) (name : List ℕ) (n : ℕ) (new : HostState) : Type 0 where
+  pub view : new.view ≡ with_forest old.view (with_entry old.view.forest d name n)
+  pub script : new.script ≡ counted old.script
 
 -- how it answers `bind`
 abbrev pub BindsBy : {A : Type 0} → HostState → ℕ → List ℕ → ℕ → Result A HostErr → HostState → Type 0
 BindsBy old d name n result new =
-    MatchBool (fails_next old.script) (Fails old result new) (MatchResult result (λ _. new ≡ record { view = with_forest old.view (with_entry old.view.forest d name n); script = counted old.script }) (Starves old (counted old.script) new))
+    UnlessListed old result new
+    (MatchResult result (λ _. BindsEntry old d name n new) (Starves old (counted old.script) new))
 
 -- the greatest length of a read
 abbrev pub most_read : List ℕ → ℕ → List ℕ → ℕ
@@ -79,15 +90,16 @@ pub record ReadsCount (old : HostState) (n off : ℕ) (before after : List ℕ) 
 -- how it answers `read_at`
 abbrev pub ReadsBy : HostState → ℕ → ℕ → List ℕ → List ℕ → Result ℕ HostErr → HostState → Type 0
 ReadsBy old n off before after result new =
-    MatchBool (fails_next old.script) (Fails old result new) (ReadsCount old n off before after result new)
+    UnlessListed old result new (ReadsCount old n off before after result new)
 
 -- so much is written as a word chooses
 pub record WritesCount (old : HostState) (n off : ℕ) (bytes : List ℕ) (new : HostState) (count : ℕ) : Type 0 where
   pub chosen : count ≡ length_by (word_of old.script) (length bytes)
-  pub put : new
-      ≡ record { view = written old.view n off (take count bytes); script = picked (counted old.script) }
+  pub view : new.view ≡ written old.view n off (take count bytes)
+  pub script : new.script ≡ picked (counted old.script)
 
 -- how it answers `write_at`
 abbrev pub WritesBy : HostState → ℕ → ℕ → List ℕ → Result ℕ HostErr → HostState → Type 0
 WritesBy old n off bytes result new =
-    MatchBool (fails_next old.script) (Fails old result new) (MatchResult result (WritesCount old n off bytes new) (Starves old (picked (counted old.script)) new))
+    UnlessListed old result new
+    (MatchResult result (WritesCount old n off bytes new) (Starves old (picked (counted old.script)) new))

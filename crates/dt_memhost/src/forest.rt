@@ -107,7 +107,8 @@ impl MemForest {
     pub(crate) fn write(&mut self, number: u64, off: usize, piece: &[u8]) -> Result<(), NoMemory>
         requires file { IsFile self.old number }
         requires joined { off ≤ length (content self.old number) }
-        ensures ok { OnOk result (self.new ≡ with_bytes self.old number (overwritten (content self.old number) off piece.now)) }
+        ensures ok { OnOk result (self.new
+            ≡ with_bytes self.old number (overwritten (content self.old number) off piece.now)) }
         ensures err { OnErr result (self.new ≡ self.old) }
     {
         nodes::write(&mut self.nodes, number, off, piece)

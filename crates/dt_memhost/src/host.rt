@@ -36,7 +36,8 @@ impl MemHost {
     /// A host of nothing but a root without entries, whose number is 1. It fails at the calls of
     /// `fails`, numbers below 2^64 - 1 counted from 1.
     pub fn new(alloc: Global, picker: Picker, fails: Vec<u64>) -> Result<MemHost, NoMemory>
-        ensures exact { IfOk result (λ h. h ≡ record { view = empty_world 1; script = script_of picker fails.items }) }
+        ensures exact { IfOk result
+            (λ h. h ≡ record { view = empty_world 1; script = script_of picker fails.items }) }
         ensures start { IfOk result (λ h. IsEmptyStart h.view) }
     {
         Ok(MemHost {
@@ -59,7 +60,8 @@ impl Host for MemHost {
         ensures exact { RootsBy self.old result self.new }
         ensures ok { IfOk result (λ n. n ≡ self.old.view.forest.root) }
         ensures stays { self.new.view ≡ self.old.view }
-        ensures cause { HasCause self.old.script.faults self.new.script.faults (IsErrOf result HostErr.Failed) }
+        ensures cause { HasCause self.old.script.faults self.new.script.faults
+            (IsErrOf result HostErr.Failed) }
     {
         let _before = self.faults();
         if self.script.fails(false) {
@@ -71,7 +73,8 @@ impl Host for MemHost {
     fn make(&mut self, kind: NodeKind) -> Result<u64, HostErr>
         ensures exact { MakesBy self.old kind result self.new }
         ensures legal { Makes self.old.view kind result self.new.view }
-        ensures cause { HasCause self.old.script.faults self.new.script.faults (IsErrOf result HostErr.Failed) }
+        ensures cause { HasCause self.old.script.faults self.new.script.faults
+            (IsErrOf result HostErr.Failed) }
     {
         let _before = self.faults();
         if self.script.fails(false) {
@@ -88,7 +91,8 @@ impl Host for MemHost {
         requires live { IsLive self.old.view.forest ino }
         ensures exact { BindsBy self.old dir name.now ino result self.new }
         ensures legal { Binds self.old.view dir name.now ino result self.new.view }
-        ensures cause { HasCause self.old.script.faults self.new.script.faults (IsErrOf result HostErr.Failed) }
+        ensures cause { HasCause self.old.script.faults self.new.script.faults
+            (IsErrOf result HostErr.Failed) }
     {
         let _before = self.faults();
         if self.script.fails(false) {
@@ -103,7 +107,8 @@ impl Host for MemHost {
         ensures exact { FindsBy self.old dir name.now result self.new }
         ensures ok { IfOk result (λ found. found ≡ entry self.old.view.forest dir name.now) }
         ensures stays { self.new.view ≡ self.old.view }
-        ensures cause { HasCause self.old.script.faults self.new.script.faults (IsErrOf result HostErr.Failed) }
+        ensures cause { HasCause self.old.script.faults self.new.script.faults
+            (IsErrOf result HostErr.Failed) }
     {
         let _before = self.faults();
         if self.script.fails(false) {
@@ -117,7 +122,8 @@ impl Host for MemHost {
         ensures exact { ReadsBy self.old ino off buf.old buf.new result self.new }
         ensures ok { IfOk result (Reads (content self.old.view.forest ino) off buf.old buf.new) }
         ensures stays { self.new.view ≡ self.old.view }
-        ensures cause { HasCause self.old.script.faults self.new.script.faults (IsErrOf result HostErr.Failed) }
+        ensures cause { HasCause self.old.script.faults self.new.script.faults
+            (IsErrOf result HostErr.Failed) }
     {
         let _before = self.faults();
         if self.script.fails(false) {
@@ -143,7 +149,8 @@ impl Host for MemHost {
         requires fits { off + length bytes.now ≤ FILE_LIMIT }
         ensures exact { WritesBy self.old ino off bytes.now result self.new }
         ensures legal { Writes self.old.view ino off bytes.now result self.new.view }
-        ensures cause { HasCause self.old.script.faults self.new.script.faults (IsErrOf result HostErr.Failed) }
+        ensures cause { HasCause self.old.script.faults self.new.script.faults
+            (IsErrOf result HostErr.Failed) }
     {
         let _before = self.faults();
         if self.script.fails(false) {

@@ -11,6 +11,8 @@ mod picker;
 mod script;
 mod sink;
 mod store;
+#[cfg(test)]
+mod tests;
 mod transfer;
 
 pub use host::MemHost;

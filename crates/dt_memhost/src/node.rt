@@ -41,7 +41,8 @@ impl MemNode {
 
     // The number that a directory has under a name.
     pub(crate) fn find(&self, name: &[u8]) -> Option<u64>
-        ensures { result ≡ option_and_then (λ names. get names name.now) (dir_names (node_of self.now)) }
+        ensures { result
+            ≡ option_and_then (λ names. get names name.now) (dir_names (node_of self.now)) }
     {
         match self {
             MemNode::File(_) => None,
@@ -52,7 +53,9 @@ impl MemNode {
     // Writes over a file from a place in it on; a directory stays.
     pub(crate) fn write(&mut self, off: usize, piece: &[u8]) -> Result<(), NoMemory>
         requires { off ≤ length (unwrap_or (file_bytes (node_of self.old)) []) }
-        ensures ok { OnOk result (IfSome (file_bytes (node_of self.old)) (λ old. node_of self.new ≡ file (overwritten old off piece.now))) }
+        ensures ok { OnOk result
+            (IfSome (file_bytes (node_of self.old))
+            (λ old. node_of self.new ≡ file (overwritten old off piece.now))) }
         ensures err { OnErr result (node_of self.new ≡ node_of self.old) }
     {
         match self {
@@ -63,8 +66,11 @@ impl MemNode {
 
     // Adds an entry to a directory, whose name isn't there; a file stays.
     pub(crate) fn bind(&mut self, name: Vec<u8>, number: u64) -> Result<(), NoMemory>
-        requires { option_and_then (λ names. get names name.items) (dir_names (node_of self.old)) ≡ None }
-        ensures ok { OnOk result (IfSome (dir_names (node_of self.old)) (λ old. node_of self.new ≡ dir (insert old name.items number))) }
+        requires { option_and_then (λ names. get names name.items) (dir_names (node_of self.old))
+            ≡ None }
+        ensures ok { OnOk result
+            (IfSome (dir_names (node_of self.old))
+            (λ old. node_of self.new ≡ dir (insert old name.items number))) }
         ensures err { OnErr result (node_of self.new ≡ node_of self.old) }
     {
         match self {

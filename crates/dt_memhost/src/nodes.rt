@@ -12,7 +12,8 @@ pub(crate) type Nodes = BTreeMap<u64, MemNode>;
 
 // The bytes of the file of that number.
 pub(crate) fn bytes_at(nodes: &Nodes, number: u64) -> Option<&Vec<u8>>
-    ensures { option_map vec_items (option_copied result) ≡ option_and_then file_bytes (node_in nodes.now number) }
+    ensures { option_map vec_items (option_copied result)
+        ≡ option_and_then file_bytes (node_in nodes.now number) }
 {
     match nodes.get(&number) {
         Some(node) => node.bytes(),
@@ -22,7 +23,9 @@ pub(crate) fn bytes_at(nodes: &Nodes, number: u64) -> Option<&Vec<u8>>
 
 // The number that a directory has under a name.
 pub(crate) fn find(nodes: &Nodes, number: u64, name: &[u8]) -> Option<u64>
-    ensures { result ≡ option_and_then (λ names. get names name.now) (option_and_then dir_names (node_in nodes.now number)) }
+    ensures { result
+        ≡ option_and_then
+        (λ names. get names name.now) (option_and_then dir_names (node_in nodes.now number)) }
 {
     match nodes.get(&number) {
         Some(node) => node.find(name),
@@ -38,7 +41,9 @@ pub(crate) fn write(
     piece: &[u8],
 ) -> Result<(), NoMemory>
     requires { off ≤ length (unwrap_or (option_and_then file_bytes (node_in nodes.old number)) []) }
-    ensures ok { OnOk result (IfSome (option_and_then file_bytes (node_in nodes.old number)) (λ old. node_in nodes.new number ≡ Some (file (overwritten old off piece.now)))) }
+    ensures ok { OnOk result
+        (IfSome (option_and_then file_bytes (node_in nodes.old number))
+        (λ old. node_in nodes.new number ≡ Some (file (overwritten old off piece.now)))) }
     ensures err { OnErr result (node_in nodes.new number ≡ node_in nodes.old number) }
     ensures others { (q : ℕ) → q ≢ number → node_in nodes.new q ≡ node_in nodes.old q }
 {
@@ -50,8 +55,12 @@ pub(crate) fn write(
 
 // Adds an entry to the directory of that number.
 pub(crate) fn bind(nodes: &mut Nodes, number: u64, name: Vec<u8>, to: u64) -> Result<(), NoMemory>
-    requires { option_and_then (λ names. get names name.items) (option_and_then dir_names (node_in nodes.old number)) ≡ None }
-    ensures ok { OnOk result (IfSome (option_and_then dir_names (node_in nodes.old number)) (λ old. node_in nodes.new number ≡ Some (dir (insert old name.items to)))) }
+    requires { option_and_then
+        (λ names. get names name.items) (option_and_then dir_names (node_in nodes.old number))
+        ≡ None }
+    ensures ok { OnOk result
+        (IfSome (option_and_then dir_names (node_in nodes.old number))
+        (λ old. node_in nodes.new number ≡ Some (dir (insert old name.items to)))) }
     ensures err { OnErr result (node_in nodes.new number ≡ node_in nodes.old number) }
     ensures others { (q : ℕ) → q ≢ number → node_in nodes.new q ≡ node_in nodes.old q }
 {

@@ -36,7 +36,8 @@ impl MemSink {
         fails: Vec<u64>,
         room: Option<u64>,
     ) -> Result<MemSink, NoMemory>
-        ensures { result ≡ Ok record { bytes = []; room = room; script = script_of picker fails.items } }
+        ensures { result
+            ≡ Ok record { bytes = []; room = room; script = script_of picker fails.items } }
     {
         Ok(MemSink {
             bytes: Vec::new(alloc),
@@ -88,9 +89,11 @@ impl Sink for MemSink {
         requires { 0 < length piece.now }
         ensures exact { WritesBy self.old piece.now result self.new }
         ensures moved { IfOk result (MovesSome (length piece.now)) }
-        ensures ok { IfOk result (λ n. Some self.new.bytes ≡ added (Some self.old.bytes) (take n piece.now)) }
+        ensures ok { IfOk result
+            (λ n. Some self.new.bytes ≡ added (Some self.old.bytes) (take n piece.now)) }
         ensures err { OnErr result (self.new.bytes ≡ self.old.bytes) }
-        ensures cause { HasCause self.old.script.faults self.new.script.faults (IsErrOf result SinkErr.Failed) }
+        ensures cause { HasCause self.old.script.faults self.new.script.faults
+            (IsErrOf result SinkErr.Failed) }
     {
         let _before = self.faults();
         let full = self.is_full();

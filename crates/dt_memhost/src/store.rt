@@ -48,7 +48,8 @@ impl MemStore {
 
     /// Puts a file there, in the place of one of that name. This is no call that is counted.
     pub fn put(&mut self, name: &str, bytes: &[u8]) -> Result<(), NoMemory>
-        ensures ok { OnOk result (self.new ≡ record self.old { files = insert self.old.files name.now bytes.now }) }
+        ensures ok { OnOk result (self.new
+            ≡ record self.old { files = insert self.old.files name.now bytes.now }) }
         ensures err { OnErr result (self.new ≡ self.old) }
     {
         let name = String::from_str(self.alloc, name)?;
@@ -73,7 +74,8 @@ impl Store for MemStore {
         ensures exact { SizesBy self.old name.now result self.new }
         ensures ok { IfOk result (λ size. size ≡ size_of self.old.files name.now) }
         ensures stays { Some self.new.files ≡ Some self.old.files }
-        ensures cause { HasCause self.old.script.faults self.new.script.faults (IsErrOf result StoreErr.Failed) }
+        ensures cause { HasCause self.old.script.faults self.new.script.faults
+            (IsErrOf result StoreErr.Failed) }
     {
         let _before = self.faults();
         if self.script.fails(false) {
@@ -87,9 +89,12 @@ impl Store for MemStore {
         requires within { ReachesTo self.old.files name.now (off + length buf.old) }
         ensures exact { ReadsBy self.old name.now off buf.old buf.new result self.new }
         ensures moved { IfOk result (MovesSome (length buf.old)) }
-        ensures ok { IfOk result (λ n. buf.new ≡ take n (drop off (bytes_of self.old.files name.now)) ++ drop n buf.old) }
+        ensures ok { IfOk result
+            (λ n. buf.new ≡ take n (drop off (bytes_of self.old.files name.now))
+            ++ drop n buf.old) }
         ensures stays { Some self.new.files ≡ Some self.old.files }
-        ensures cause { HasCause self.old.script.faults self.new.script.faults (IsErrOf result StoreErr.Failed) }
+        ensures cause { HasCause self.old.script.faults self.new.script.faults
+            (IsErrOf result StoreErr.Failed) }
     {
         let _before = self.faults();
         if self.script.fails(false) {
@@ -106,7 +111,8 @@ impl Store for MemStore {
 
 // The bytes of the file of that name.
 fn file_named<'a>(files: &'a BTreeMap<String, Vec<u8>>, name: &str) -> Option<&'a Vec<u8>>
-    ensures { option_map vec_items (option_copied result) ≡ get (files_of files.now.entries) name.now }
+    ensures { option_map vec_items (option_copied result)
+        ≡ get (files_of files.now.entries) name.now }
 {
     files.get(name)
 }

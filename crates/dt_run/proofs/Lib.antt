@@ -7,6 +7,8 @@ pub mod Runs
 pub mod Headers
 pub mod Following
 pub mod Placed
+pub mod Kept
+pub mod Starts
 pub mod Courses
 pub mod Modes
 pub mod Pieces

@@ -21,7 +21,7 @@ number_under w name = entry w.forest w.forest.root name
 abbrev pub host_file : World → List ℕ → Option (Option (List ℕ))
 host_file w name = option_map (file_at w.forest) (number_under w name)
 
--- the same in the root of an image
+-- what a name in the root of an image leads to, told in the same way
 abbrev pub image_file : List Entry → List ℕ → Option (Option (List ℕ))
 image_file entries name = option_map (λ found. bytes_of found.what) (entry_named name entries)
 

@@ -16,6 +16,7 @@ pub mod Machine
 pub mod Segment
 pub mod Executable
 pub mod FirstMachine
+pub mod Valid
 pub mod Launch
 pub mod Process
 pub mod Call

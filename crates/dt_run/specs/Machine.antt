@@ -24,7 +24,7 @@ with_register m index value = if index == 0 then m else record m { regs = slice_
 abbrev pub advanced : Machine → Machine
 advanced m = record m { pc = (m.pc + 4) % 2 ^ 64 }
 
--- the 64-bit word of a signed number
+-- the 64-bit word of a signed number of 64 bits
 abbrev pub word_of : ℤ → ℕ
 word_of z = cast_unsigned w64 z
 

@@ -1,5 +1,5 @@
 -- A process's memory: pages sorted by number, and what an access to a range of addresses finds.
-use Rattle.std.specs.Prelude.{ℕ, ◌+◌, ◌/◌, ◌%◌, ◌^◌, ◌<◌, ◌≤◌, suc, zero, List, [], ◌∷◌, length, Bool, ◌==◌, bit_and, slice_index_or, slice_get, Option, Some, None, Result, Ok, Err, if◌then◌else◌}
+use Rattle.std.specs.Prelude.{◌≡◌, ℕ, ◌+◌, ◌/◌, ◌%◌, ◌^◌, ◌<◌, ◌≤◌, suc, zero, List, [], ◌∷◌, length, Bool, ◌==◌, bit_and, slice_index_or, slice_get, Option, Some, None, Result, Ok, Err, if◌then◌else◌}
 use Rattle.dt_base.specs.declared.limits.TheConstants.{PAGE_SIZE, PAGE_LIMIT}
 use Rattle.dt_base.specs.Fields.{little_endian}
 use Rattle.dt_run.specs.declared.space.Miss.{Miss}
@@ -14,10 +14,15 @@ pub record PageView : Type 0 where
 abbrev pub number_at : List PageView → ℕ → ℕ
 number_at pages i = let page = slice_index_or pages i (record { number = 0; rights = 0; bytes = [] }) in page.number
 
--- what each space keeps: the numbers rise and are below 2^26, and there are no more pages than the limit
+-- how many bytes the page at place i has
+abbrev pub size_at : List PageView → ℕ → ℕ
+size_at pages i = let page = slice_index_or pages i (record { number = 0; rights = 0; bytes = [] }) in length page.bytes
+
+-- what each space keeps: the numbers rise and are below 2^26, each page is whole, and there are no more pages than the limit
 pub record IsSpace (pages : List PageView) : Type 0 where
   pub rising : (i j : ℕ) → i < j → j < length pages → number_at pages i < number_at pages j
   pub low : (i : ℕ) → i < length pages → number_at pages i < 2 ^ 26
+  pub whole : (i : ℕ) → i < length pages → size_at pages i ≡ PAGE_SIZE
   pub few : length pages ≤ PAGE_LIMIT
 
 -- these rights have this right among them

@@ -5,7 +5,7 @@ use Rattle.dt_host.specs.Cause.{Rose}
 use Rattle.dt_host.specs.Sink.{added, AddsPart}
 use Rattle.dt_host.specs.World.{World}
 use Rattle.dt_run.specs.declared.failure.Failure.{Failure}
-use Rattle.dt_run.specs.declared.failure.Failure.TheVariants.{Usage, Image, Store, Host, Output}
+use Rattle.dt_run.specs.declared.failure.Failure.TheVariants.{Usage, Image, Store, Host, Output, NoMemory}
 use Rattle.dt_run.specs.Failure.{failure_line}
 use Rattle.dt_run.specs.Installed.{HoldsImage}
 use Rattle.dt_run.specs.Run.{Run, report_of}
@@ -26,7 +26,7 @@ precedes_run status = (status == 2) || (status == 3) || (status == 4)
 abbrev pub fails_run : ℕ → Bool
 fails_run status = (status == 5) || (status == 6)
 
--- the count is not known to have risen, so no call failed
+-- no call failed, as far as the count tells: it did not rise, and doesn't stand at its last value
 abbrev pub Stayed : ℕ → ℕ → Type 0
 Stayed before now = ¬ Rose before now
 

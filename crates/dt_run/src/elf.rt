@@ -1,6 +1,7 @@
 // Executables: reading an ELF file, and the machine that runs it.
 ghost use Rattle.std.specs.Prelude.{◌≡◌, ◌+◌, ◌*◌, ◌≤◌, ◌<◌, length, nat_lt, nat_le, filter, ◌++◌, ◌↔◌, IfOk, Ok, Err, Some, None};
 ghost use Rattle.std.specs.List.{list_any};
+ghost use Rattle.dt_run.specs.Valid.{IsMachine};
 ghost use Rattle.dt_run.specs.FirstMachine.{page_count, contents_of, segment_pages, stack_pages, first};
 ghost use Rattle.dt_run.specs.Executable.{number, e_phoff, e_phnum, program_header, program_headers, header_refusal, is_short, is_bad_header, is_load, is_interp, is_placed, rights_of, segment_at, only, only_segment, exe_after, exe, IsPlaced};
 
@@ -348,6 +349,7 @@ fn double(bytes: &[u8], at: usize) -> u64
 pub fn start(alloc: Global, elf: &Elf, bytes: &[u8]) -> Result<Machine, StartErr>
     requires { exe bytes.now ≡ Ok elf.now }
     ensures machine { IfOk result (λ machine. first elf.now bytes.now ≡ Some machine) }
+    ensures sound { IfOk result IsMachine }
     ensures too_big { (result ≡ Err StartErr.TooBig) ↔ (first elf.now bytes.now ≡ None) }
 {
     if PAGE_LIMIT < elf.segment.pages() + STACK_PAGES {

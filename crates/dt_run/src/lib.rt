@@ -15,6 +15,8 @@ mod index;
 mod install;
 mod launch;
 mod machine;
+#[cfg(test)]
+mod machine_tests;
 mod options;
 mod order;
 mod path;

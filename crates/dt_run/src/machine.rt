@@ -1,8 +1,9 @@
 // The machine: registers, a program counter and a space, and the steps it takes.
-ghost use Rattle.std.specs.Prelude.{◌≡◌, ◌<◌, ◌≤◌, IfOk};
+ghost use Rattle.std.specs.Prelude.{◌≡◌, ◌<◌, ◌≤◌, IfOk, OnOk};
 ghost use Rattle.dt_run.specs.Instruction.{instr, op_imm_of, system_of, i_immediate, u_immediate, rd, rs1};
 ghost use Rattle.dt_run.specs.Machine.{register, with_register, executed, exec, answered};
-ghost use Rattle.dt_run.specs.Segment.{segment_of};
+ghost use Rattle.dt_run.specs.Valid.{IsMachine};
+ghost use Rattle.dt_run.specs.Segment.{segment_of, IsSegment};
 
 use crate::space::Space;
 use dt_base::{NoMemory, SEGMENT_LIMIT};
@@ -167,7 +168,7 @@ impl Machine {
         self.pc = self.pc.wrapping_add(4);
     }
 
-    /// Takes one step.
+    /// Takes one step. At any answer but `Ran` the machine stays.
     #[tactic(auto, unfolding(crate::specs::Machine::exec))]
     pub fn step(&mut self) -> Step
         ensures { exec self.old ≡ record { step = result; machine = self.new } }
@@ -203,6 +204,8 @@ impl Machine {
 /// Takes steps until one does not run, at most 65,536.
 pub fn segment(machine: &mut Machine) -> Result<Seg, NoMemory>
     ensures run { IfOk result (λ seg. segment_of machine.old ≡ record { count = seg.count; stop = seg.stop; machine = machine.new }) }
+    ensures law { IfOk result (λ seg. IsSegment machine.old (record { count = seg.count; stop = seg.stop; machine = machine.new })) }
+    ensures sound { OnOk result (IsMachine machine.old → IsMachine machine.new) }
     ensures least { IfOk result (λ seg. 1 ≤ seg.count) }
     ensures most { IfOk result (λ seg. seg.count ≤ SEGMENT_LIMIT) }
 {

@@ -1,7 +1,7 @@
 // A process's memory: a sorted list of pages.
 ghost use Rattle.std.specs.Prelude.{◌≡◌, ◌<◌, ◌≤◌, ◌+◌, ◌^◌, ◌++◌, [], IfOk, true, false, drop, length, MatchOption, MatchResult, OnOk, OnSome, OnErr, IsOk, Ok, Err};
 ghost use Rattle.std.specs.Option.{option_copied};
-ghost use Rattle.dt_run.specs.Space.{has, page_at, load, loaded};
+ghost use Rattle.dt_run.specs.Space.{IsSpace, has, page_at, load, loaded};
 ghost use Rattle.dt_run.specs.Pages.{filled, pages_from, EndsBelow};
 ghost use Rattle.dt_run.specs.Piece.{IsRest, IsPiece};
 
@@ -123,7 +123,8 @@ impl Space {
 
     /// How many pages there are.
     pub fn pages(&self) -> usize
-        ensures { result ≡ length self.now }
+        ensures count { result ≡ length self.now }
+        ensures sound { IsSpace self.now }
     {
         self.pages.len()
     }

@@ -1,6 +1,9 @@
-use Rattle.std.proofs.Common.{◌≡◌, ◌∙◌, ◌-◌, ◌+◌, refl, arith}
+use Rattle.std.proofs.Common.{subst, ◌≡◌, ◌∙◌, ◌-◌, ◌+◌, refl, arith}
 use Rattle.dt_base.specs.declared.limits.TheConstants.{SEGMENT_LIMIT}
-use Rattle.dt_run.proofs.Runs.{run-step, run-end, segment-starts}
+use Rattle.dt_run.specs.Segment.{SegmentRun, IsSegment}
+use Rattle.dt_run.specs.Valid.{IsMachine}
+use Rattle.dt_run.proofs.Kept.{segment-keeps}
+use Rattle.dt_run.proofs.Runs.{segment-is, run-step, run-end, segment-starts}
 use Rattle.dt_run.proofs.machine.segment.Goals as goal
 use Rattle.dt_run.proofs.machine.segment.Goals.{in-Call, in-Fault}
 
@@ -23,3 +26,17 @@ pub returns-clause-run : goal.returns-clause-run
 returns-clause-run c =
     let made : c.loop-made.made ≡ SEGMENT_LIMIT = omega arith in
     c.loop-made.invariant ∙ run-end _ _ _ (omega arith) ∙ rw made refl
+
+-- and a segment is what its steps make it
+pub returns-in-loop-made-clause-law : goal.returns-in-loop-made-clause-law
+returns-in-loop-made-clause-law c = subst (λ run. IsSegment c.args.machine.now run) (returns-in-loop-made-clause-run c) (segment-is c.args.machine.now)
+
+pub returns-clause-law : goal.returns-clause-law
+returns-clause-law c = subst (λ run. IsSegment c.args.machine.now run) (returns-clause-run c) (segment-is c.args.machine.now)
+
+-- and leaves a machine
+pub returns-in-loop-made-clause-sound : goal.returns-in-loop-made-clause-sound
+returns-in-loop-made-clause-sound c is = subst (λ (run : SegmentRun). IsMachine run.machine) (returns-in-loop-made-clause-run c) (segment-keeps c.args.machine.now is)
+
+pub returns-clause-sound : goal.returns-clause-sound
+returns-clause-sound c is = subst (λ (run : SegmentRun). IsMachine run.machine) (returns-clause-run c) (segment-keeps c.args.machine.now is)

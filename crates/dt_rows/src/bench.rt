@@ -1,0 +1,103 @@
+// What a test starts: a store with an image, a host and sinks, each with its choices and its faults.
+ghost use Rattle.std.specs.Prelude.{◌≡◌, ◌≢◌};
+
+use dt_host::NoGate;
+use dt_memhost::{MemHost, MemSink, MemStore, Picker};
+use dt_run::dettrace;
+use std::alloc::{AllocError, Global};
+use std::test::Fail;
+
+/// Which words a picker gives.
+#[derive(Clone, Copy, Debug)]
+pub enum Words {
+    /// Zeros, so that each transfer moves one byte.
+    Zeros,
+    /// Those of the stream of this number.
+    Stream(u64),
+}
+
+/// One call of the program.
+#[derive(Clone, Copy)]
+pub struct Call<'a> {
+    pub words: &'a [&'a str],
+    pub files: &'a [(&'a str, &'a [u8])],
+    pub choices: Words,
+    pub store_fails: &'a [u64],
+    pub host_fails: &'a [u64],
+    pub out_room: Option<u64>,
+    pub err_room: Option<u64>,
+}
+
+/// What came of it.
+#[derive(Drop)]
+pub struct Came {
+    pub status: u8,
+    pub out: Vec<u8>,
+    pub err: Vec<u8>,
+}
+
+impl<'a> Call<'a> {
+    /// These words on these files, with the choices of stream 1 and no faults.
+    pub fn new(words: &'a [&'a str], files: &'a [(&'a str, &'a [u8])]) -> Self {
+        Call {
+            words,
+            files,
+            choices: Words::Stream(1),
+            store_fails: &[],
+            host_fails: &[],
+            out_room: None,
+            err_room: None,
+        }
+    }
+
+    /// Makes the call.
+    pub fn make(&self, alloc: Global) -> Result<Came, Fail> {
+        let words = strings(alloc, self.words)?;
+        let mut store = self.store(alloc)?;
+        let picker = picker(alloc, self.choices)?;
+        let mut host = MemHost::new(alloc, picker, Vec::from_slice(alloc, self.host_fails)?)?;
+        let mut out = sink(alloc, self.choices, self.out_room)?;
+        let mut err = sink(alloc, self.choices, self.err_room)?;
+        let status = dettrace(
+            alloc, &words, &mut store, &mut host, &mut out, &mut err, &NoGate,
+        );
+        Ok(Came {
+            status,
+            out: Vec::from_slice(alloc, out.bytes())?,
+            err: Vec::from_slice(alloc, err.bytes())?,
+        })
+    }
+
+    fn store(&self, alloc: Global) -> Result<MemStore, Fail> {
+        let picker = picker(alloc, self.choices)?;
+        let mut store = MemStore::new(alloc, picker, Vec::from_slice(alloc, self.store_fails)?)?;
+        for (name, bytes) in self.files {
+            store.put(name, bytes)?;
+        }
+        Ok(store)
+    }
+}
+
+fn picker(alloc: Global, words: Words) -> Result<Picker, AllocError> {
+    match words {
+        Words::Zeros => Ok(Picker::new(vec![in alloc; 0; 8_000]?, 0)),
+        Words::Stream(number) => Ok(Picker::new(Vec::new(alloc), number)),
+    }
+}
+
+fn sink(alloc: Global, words: Words, room: Option<u64>) -> Result<MemSink, Fail> {
+    Ok(MemSink::new(
+        alloc,
+        picker(alloc, words)?,
+        Vec::new(alloc),
+        room,
+    )?)
+}
+
+fn strings(alloc: Global, words: &[&str]) -> Result<Vec<String>, AllocError> {
+    let mut strings = Vec::new(alloc);
+    for word in words {
+        strings.push(String::from_str(alloc, word)?)?;
+    }
+    Ok(strings)
+}

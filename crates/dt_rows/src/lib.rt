@@ -1,0 +1,17 @@
+//! Tests of whole calls of the program, over a store, a host and sinks in memory.
+#![tactic(auto)]
+
+#[cfg(test)]
+mod bench;
+#[cfg(test)]
+mod budgets;
+#[cfg(test)]
+mod faults;
+#[cfg(test)]
+mod guests;
+#[cfg(test)]
+mod memory;
+#[cfg(test)]
+mod programs;
+#[cfg(test)]
+mod words;
