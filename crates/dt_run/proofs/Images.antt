@@ -9,7 +9,6 @@ use Rattle.dt_base.specs.declared.limits.TheConstants.{INDEX_LIMIT}
 use Rattle.dt_base.specs.declared.refusal.Refusal.TheVariants.{BadIndex}
 use Rattle.dt_base.specs.declared.refusal.Refusal.{Refusal}
 use Rattle.dt_host.specs.Store.{Files, size_of}
-use Rattle.dt_run.specs.Index.{is_top_path, is_top_file}
 use Rattle.dt_run.specs.ImageOf.{value_of, image_by, image_of, name_in}
 
 within_true : (n m : ℕ) → n ≤ m → nat_le n m ≡ true
@@ -53,11 +52,3 @@ pub by_name : (told : Option Files) (name folder : List ℕ) (r : Refusal) → n
     → IfSome told (λ files. (any : List ℕ) → image_by files any (get files name) ≡ Err r) → IfSome told (λ files. image_of files folder ≡ Err r)
 by_name None name folder r e h = tt
 by_name (Some files) name folder r e h = rw e at (h folder)
-
-middle : (a b c : Bool) → ((a && b) && c) ≡ true → IsTrue b
-middle true true c h = refl
-middle true false c h = absurd (cc)
-middle false b c h = absurd (cc)
-
-pub top_of_file : (kind path blob : List ℕ) → is_top_file kind path blob ≡ true → IsTrue (is_top_path path)
-top_of_file kind path blob h = middle _ (is_top_path path) _ h

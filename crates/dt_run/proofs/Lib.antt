@@ -11,8 +11,12 @@ pub mod Kept
 pub mod Starts
 pub mod Courses
 pub mod Modes
-pub mod TopPaths
-pub mod Items
+pub mod Pieces
+pub mod Conjuncts
+pub mod Sorting
+pub mod Measures
+pub mod Rising
+pub mod Indexed
 pub mod Images
 pub mod Completed
 pub mod Askings

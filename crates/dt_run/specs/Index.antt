@@ -1,5 +1,5 @@
 -- An image's index: a JSON value that lists what the image holds.
-use Rattle.std.specs.Prelude.{ℕ, Bool, not, ◌&&◌, ◌||◌, ◌==◌, List, length, take, codes, nat_le, Option, Some, None, option_and_then, if◌then◌else◌}
+use Rattle.std.specs.Prelude.{ℕ, Bool, not, ◌&&◌, ◌||◌, ◌==◌, List, [], ◌∷◌, length, take, codes, nat_le, Option, Some, None, option_and_then, if◌then◌else◌}
 use Rattle.std.specs.List.{list_all}
 use Rattle.std.specs.Str.{bytes_eq}
 use Rattle.std.specs.Char.{is_ascii_alphanumeric}
@@ -31,12 +31,6 @@ number_at name value = option_and_then as_u64 (option_and_then as_number (get na
 abbrev pub items_at : List ℕ → Data → Option Items
 items_at name value = option_and_then as_array (get name value)
 
--- the item of an array that has no other
-abbrev pub only_item : Items → Option Data
-only_item no_items = None
-only_item (item value no_items) = Some value
-only_item (item value (item next rest)) = None
-
 -- the number, if it is a mode
 abbrev pub if_mode : ℕ → Option ℕ
 if_mode mode = if nat_le mode MODE_LIMIT then Some mode else None
@@ -53,35 +47,50 @@ is_blob_byte b = is_ascii_alphanumeric b || (b == 46) || (b == 95) || (b == 45)
 abbrev pub is_blob_name : List ℕ → Bool
 is_blob_name name = nat_le 1 (length name) && nat_le (length name) NAME_LIMIT && not (bytes_eq (take 1 name) (codes ".")) && list_all is_blob_byte name
 
--- neither `/` nor a NUL
-abbrev pub is_plain_byte : ℕ → Bool
-is_plain_byte b = not (b == 47) && not (b == 0)
+-- a good path of more than one name
+abbrev pub is_nested : List ℕ → Bool
+is_nested path = is_path path && not (is_top path)
 
--- a path of one name
-abbrev pub is_top_path : List ℕ → Bool
-is_top_path path = is_path path && is_top path
-
--- an entry of this type, path and blob is a file in the root
-abbrev pub is_top_file : List ℕ → List ℕ → List ℕ → Bool
-is_top_file kind path blob = bytes_eq kind (codes "file") && is_top_path path && is_blob_name blob
+-- an entry of this type and path is a file, and its path leads through no directory
+abbrev pub is_flat_file : List ℕ → List ℕ → Bool
+is_flat_file kind path = bytes_eq kind (codes "file") && not (is_nested path)
 
 -- the entry, if that is so
-abbrev pub if_top_file : List ℕ → List ℕ → ℕ → List ℕ → Option IndexEntry
-if_top_file kind path mode blob = if is_top_file kind path blob then Some (record { path = path; mode = mode; blob = blob }) else None
+abbrev pub if_flat_file : List ℕ → List ℕ → ℕ → List ℕ → Option IndexEntry
+if_flat_file kind path mode blob = if is_flat_file kind path then Some (record { path = path; mode = mode; blob = blob }) else None
 
--- the file in the root that an entry of an index is, if it is one
+-- the file that an entry of an index is, if it is one and has no good path of more than one name
 unfoldable pub file_of : Data → Option IndexEntry
 file_of value = do
   kind ← text_at (codes "type") value
   path ← text_at (codes "path") value
   mode ← mode_of value
   blob ← text_at (codes "blob") value
-  if_top_file kind path mode blob
+  if_flat_file kind path mode blob
 
--- the one file of an index of version 1, if it has one and nothing else
-unfoldable pub index_of : Data → Option IndexEntry
-index_of value = do
+-- the files that these entries are, if each is one
+abbrev pub files_of : Items → Option (List IndexEntry)
+files_of no_items = Some []
+files_of (item value values) = do
+  file ← file_of value
+  files ← files_of values
+  Some (file ∷ files)
+
+-- the entries of an index of version 1
+unfoldable pub versioned_items : Data → Option Items
+versioned_items value = do
   version ← number_at (codes "version") value
   entries ← items_at (codes "entries") value
-  entry ← only_item entries
-  if version == 1 then file_of entry else None
+  if version == 1 then Some entries else None
+
+-- the files of an index of version 1, if each entry is a file and none has a good path of more than one name
+unfoldable pub index_of : Data → Option (List IndexEntry)
+index_of value = option_and_then files_of (versioned_items value)
+
+-- what holds of each file of an index: its path is not nested, and its mode is one
+abbrev pub is_listed : IndexEntry → Bool
+is_listed file = not (is_nested file.path) && nat_le file.mode MODE_LIMIT
+
+-- its path and its blob's name are good
+abbrev pub is_good_file : IndexEntry → Bool
+is_good_file file = is_path file.path && is_blob_name file.blob

@@ -1,46 +1,80 @@
 // The index of an image, read from its JSON value.
-ghost use Rattle.std.specs.Prelude.{◌≡◌, ◌==◌, ◌&&◌, ℕ, List, Some, IfSome, ◌≤◌, option_map, codes, take, length};
+ghost use Rattle.std.specs.Prelude.{◌≡◌, ◌&&◌, ℕ, Some, IfOk, IfSome, ◌≤◌, option_map, codes, map, length, IsTrue};
 ghost use Rattle.std.specs.List.{list_all};
-ghost use Rattle.dt_base.specs.Path.{is_name};
 ghost use Rattle.serde_json.specs.View.{view, items_view};
-ghost use Rattle.dt_run.specs.Index.{is_plain_byte, text_at, number_at, mode_of, items_at, only_item, is_blob_byte, is_blob_name, is_top_path, is_top_file, file_of, index_of};
+ghost use Rattle.dt_run.specs.Index.{text_at, number_at, mode_of, items_at, is_blob_byte, is_blob_name, is_flat_file, is_listed, is_good_file, file_of, files_of, index_of, versioned_items};
 ghost use Rattle.dt_run.specs.IndexView.{entry_of};
-ghost use Rattle.dt_run.specs.ImageOf.{IsTopEntry};
 
-use dt_base::{MODE_LIMIT, NAME_LIMIT};
+use crate::path::{is_nested, is_path};
+use dt_base::{MODE_LIMIT, NAME_LIMIT, NoMemory};
 use serde_json::Value;
+use std::alloc::Global;
 
-/// A file of an index: its path in the image, its mode, and the name of the blob with its bytes.
+/// What a file of an image is made from: its mode, and the name of the blob with its bytes.
 #[derive(Clone, Copy, Debug)]
-pub struct FileEntry<'v> {
-    pub path: &'v str,
+pub struct Source<'v> {
     pub mode: u32,
     pub blob: &'v str,
 }
 
+/// A file of an index: its path in the image, and what it is made from.
+#[derive(Clone, Copy, Debug)]
+pub struct FileEntry<'v> {
+    pub path: &'v str,
+    pub source: Source<'v>,
+}
+
 #[tactic(auto, unfolding(crate::specs::Index::index_of))]
-/// The one file of an index of version 1; None where it is no such index.
-pub fn index_of(index: &Value) -> Option<FileEntry<'_>>
-    ensures value { option_map entry_of result ≡ index_of (view index.now) }
-    ensures top { IfSome result (λ entry. IsTopEntry (entry_of entry)) }
+/// The files of an index of version 1, in its order; None where it is no such index.
+pub fn index_of(alloc: Global, index: &Value) -> Result<Option<Vec<FileEntry<'_>>>, NoMemory>
+    ensures value { IfOk result (λ found. option_map (λ files. map entry_of files.items) found ≡ index_of (view index.now)) }
+    ensures listed { IfOk result (λ found. IfSome found (λ files. IsTrue (list_all is_listed (map entry_of files.items)))) }
+{
+    match versioned_items(index) {
+        Some(items) => files_of(alloc, items),
+        None => Ok(None),
+    }
+}
+
+#[tactic(auto, unfolding(crate::specs::Index::versioned_items))]
+// The entries of an index of version 1.
+fn versioned_items(index: &Value) -> Option<&[Value]>
+    ensures { option_map (λ items. items_view items.now) result ≡ versioned_items (view index.now) }
 {
     let version = number_at(index, "version")?;
-    let entries = items_at(index, "entries")?;
-    let entry = only_item(entries)?;
-    if version == 1 { file_of(entry) } else { None }
+    let items = items_at(index, "entries")?;
+    if version == 1 { Some(items) } else { None }
+}
+
+// The files that all of these are.
+fn files_of(alloc: Global, items: &[Value]) -> Result<Option<Vec<FileEntry<'_>>>, NoMemory>
+    ensures value { IfOk result (λ found. option_map (λ files. map entry_of files.items) found ≡ files_of (items_view items.now)) }
+    ensures listed { IfOk result (λ found. IfSome found (λ files. IsTrue (list_all is_listed (map entry_of files.items)))) }
+{
+    let mut files = Vec::new(alloc);
+    for item in items {
+        match file_of(item) {
+            Some(file) => files.push(file)?,
+            None => return Ok(None),
+        }
+    }
+    Ok(Some(files))
 }
 
 #[tactic(auto, unfolding(crate::specs::Index::file_of))]
 fn file_of(entry: &Value) -> Option<FileEntry<'_>>
     ensures value { option_map entry_of result ≡ file_of (view entry.now) }
-    ensures top { IfSome result (λ entry. IsTopEntry (entry_of entry)) }
+    ensures listed { IfSome result (λ file. IsTrue (is_listed (entry_of file))) }
 {
     let kind = text_at(entry, "type")?;
     let path = text_at(entry, "path")?;
     let mode = mode_of(entry)?;
     let blob = text_at(entry, "blob")?;
-    if is_top_file(kind, path, blob) {
-        Some(FileEntry { path, mode, blob })
+    if is_flat_file(kind, path) {
+        Some(FileEntry {
+            path,
+            source: Source { mode, blob },
+        })
     } else {
         None
     }
@@ -65,16 +99,6 @@ fn items_at<'v>(value: &'v Value, name: &str) -> Option<&'v [Value]>
     Some(items.as_slice())
 }
 
-fn only_item(items: &[Value]) -> Option<&Value>
-    ensures { option_map (λ item. view item.now) result ≡ only_item (items_view items.now) }
-{
-    match items {
-        [] => None,
-        [item] => Some(item),
-        [_, _, ..] => None,
-    }
-}
-
 fn mode_of(entry: &Value) -> Option<u32>
     ensures value { result ≡ mode_of (view entry.now) }
     ensures within { IfSome result (λ mode. mode ≤ MODE_LIMIT) }
@@ -87,10 +111,17 @@ fn mode_of(entry: &Value) -> Option<u32>
     }
 }
 
-fn is_top_file(kind: &str, path: &str, blob: &str) -> bool
-    ensures { result ≡ is_top_file kind.now path.now blob.now }
+fn is_flat_file(kind: &str, path: &str) -> bool
+    ensures { result ≡ is_flat_file kind.now path.now }
 {
-    kind == "file" && is_top_path(path.as_bytes()) && is_blob_name(blob.as_bytes())
+    kind == "file" && !is_nested(path.as_bytes())
+}
+
+/// The path and the name of the blob are good.
+pub fn is_good(file: FileEntry<'_>) -> bool
+    ensures { result ≡ is_good_file (entry_of file.entry) }
+{
+    is_path(file.path.as_bytes()) && is_blob_name(file.source.blob.as_bytes())
 }
 
 fn is_blob_name(name: &[u8]) -> bool
@@ -112,29 +143,4 @@ fn is_blob_byte(byte: u8) -> bool
     ensures { result ≡ is_blob_byte byte }
 {
     byte.is_ascii_alphanumeric() || byte == b'.' || byte == b'_' || byte == b'-'
-}
-
-fn is_top_path(path: &[u8]) -> bool
-    ensures { result ≡ is_top_path path.now }
-{
-    match path.split_first() {
-        Some((first, name)) => *first == b'/' && is_plain_name(name),
-        None => false,
-    }
-}
-
-fn is_plain_name(name: &[u8]) -> bool
-    ensures { result ≡ (is_name name.now && list_all is_plain_byte name.now) }
-{
-    1 <= name.len()
-        && name.len() as u64 <= NAME_LIMIT
-        && name != b".".as_slice()
-        && name != b"..".as_slice()
-        && has_plain_bytes(name)
-}
-
-fn has_plain_bytes(name: &[u8]) -> bool
-    ensures { result ≡ list_all is_plain_byte name.now }
-{
-    name.iter().all(|b| *b != b'/' && *b != 0)
 }

@@ -4,10 +4,12 @@
 //! function of the image, the command, the seed and the budget, whatever the host chooses.
 #![tactic(auto)]
 
+mod blobs;
 mod call;
 mod elf;
 mod error;
 mod failure;
+mod folder;
 mod image;
 mod index;
 mod install;
@@ -16,6 +18,8 @@ mod machine;
 #[cfg(test)]
 mod machine_tests;
 mod options;
+mod order;
+mod path;
 mod process;
 mod report;
 mod run;
