@@ -5,6 +5,7 @@ use dt_host::NoGate;
 use dt_memhost::{MemHost, MemSink, MemStore, Picker};
 use dt_run::dettrace;
 use std::alloc::{AllocError, Global};
+use std::process::Abort;
 use std::test::Fail;
 
 /// Which words a picker gives.
@@ -29,12 +30,28 @@ pub struct Call<'a> {
     pub err_room: Option<u64>,
 }
 
+/// The words of a run of `/hello`.
+pub const RUN_HELLO: &str = "run\nimg\n--\n/hello";
+
+/// The line of words that are refused.
+pub const USAGE: &str =
+    "dettrace: usage: dettrace run IMAGE [--seed N] [--budget N] [--host N] -- [NAME=VALUE ..] PROGRAM [ARG ..]\n";
+
 /// What came of it.
 #[derive(Drop)]
 pub struct Came {
     pub status: u8,
     pub out: Vec<u8>,
     pub err: Vec<u8>,
+}
+
+impl Came {
+    /// It came like this.
+    pub fn expect(&self, rt: &impl Abort, what: &str, status: u8, out: &[u8], err: &[u8]) {
+        assert_eq!(rt; self.status, status, "{what}");
+        assert_eq!(rt; self.out.as_slice(), out, "{what}");
+        assert_eq!(rt; self.err.as_slice(), err, "{what}");
+    }
 }
 
 impl<'a> Call<'a> {

@@ -17,6 +17,9 @@ pub const HELLO: [u32; 9] = [
 /// The digest of `hello`'s file, of 162 bytes.
 pub const HELLO_DIGEST: &str = "1ff299a48e13ad15153fb127b1cd89cce38c6e01c493f155cff820ad695a1184";
 
+/// What its run shows.
+pub const HELLO_SHOWN: &str = "out 1 6\nhello\n\nexit 1 code 0\nverdict ended";
+
 /// An index of one file, `/hello`, with mode 0755 and the blob `hello`.
 pub const HELLO_INDEX: &[u8] =
     b"{\"version\":1,\"entries\":[{\"path\":\"/hello\",\"type\":\"file\",\"mode\":493,\"blob\":\"hello\"}]}";

@@ -4,11 +4,11 @@
 #[cfg(test)]
 mod bench;
 #[cfg(test)]
-mod budgets;
-#[cfg(test)]
 mod faults;
 #[cfg(test)]
 mod guests;
+#[cfg(test)]
+mod images;
 #[cfg(test)]
 mod memory;
 #[cfg(test)]

@@ -1,5 +1,5 @@
 // What programs do, seen in their reports.
-use crate::bench::Call;
+use crate::bench::{Call, RUN_HELLO};
 use crate::guests::{HELLO, HELLO_INDEX, elf};
 use std::alloc::Global;
 use std::test::Fail;
@@ -31,7 +31,7 @@ const NOP: u32 = 0x0000_0013;
 // What a report of this program shows before its tree.
 fn shown(alloc: Global, file: &[u8]) -> Result<(u8, Vec<u8>), Fail> {
     let files = [("img/image.json", HELLO_INDEX), ("img/hello", file)];
-    let came = Call::new("run\nimg\n--\n/hello", &files).make(alloc)?;
+    let came = Call::new(RUN_HELLO, &files).make(alloc)?;
     let mut front = Vec::new(alloc);
     for line in came.out.split_inclusive(|b| *b == b'\n') {
         if line.starts_with(b"tree ") {

@@ -1,9 +1,7 @@
 // The command line, and runs of `hello` whose bytes are known.
-use crate::bench::{Call, Words};
-use crate::guests::{HELLO_DIGEST, HELLO_INDEX, hello, report};
+use crate::bench::{Call, RUN_HELLO, USAGE, Words};
+use crate::guests::{HELLO_DIGEST, HELLO_INDEX, HELLO_SHOWN, hello, report};
 use std::test::Fail;
-
-const HELLO_SHOWN: &str = "out 1 6\nhello\n\nexit 1 code 0\nverdict ended";
 
 #[test]
 fn hello_gives_the_same_bytes_whatever_the_host_chooses(rt: HostRuntime) -> Result<(), Fail> {
@@ -21,25 +19,59 @@ fn hello_gives_the_same_bytes_whatever_the_host_chooses(rt: HostRuntime) -> Resu
         Words::Stream(2),
         Words::Stream(u64::MAX),
     ] {
-        let mut call = Call::new("run\nimg\n--\n/hello", &files);
+        let mut call = Call::new(RUN_HELLO, &files);
         call.choices = choices;
         let came = call.make(alloc)?;
-        assert_eq!(rt; came.status, 0, "{choices:?}");
-        assert_eq!(rt; came.out.as_slice(), want.as_bytes(), "{choices:?}");
-        assert_eq!(rt; came.err.len(), 0, "{choices:?}");
+        came.expect(&rt, "choices", 0, want.as_bytes(), b"");
     }
     Ok(())
 }
 
 #[test]
-fn words_that_are_no_run_are_refused(rt: HostRuntime) -> Result<(), Fail> {
+fn words_that_are_taken(rt: HostRuntime) -> Result<(), Fail> {
+    let alloc = rt.alloc();
+    let hello = hello(alloc)?;
+    let files = [
+        ("img/image.json", HELLO_INDEX),
+        ("img/hello", hello.as_slice()),
+        ("-/image.json", HELLO_INDEX),
+        ("-/hello", hello.as_slice()),
+    ];
+    let whole = report(alloc, HELLO_SHOWN, 162, HELLO_DIGEST)?;
+    for words in [
+        "run\nimg\n--\n/hello",
+        "run\n-\n--\n/hello",
+        "run\nimg\n--host\n1\n--\n/hello",
+        "run\nimg\n--host\n2\n--\n/hello",
+        "run\n--host\n18446744073709551615\nimg\n--\n/hello",
+        "run\n--host=0\nimg\n--\n/hello",
+        "run\nimg\n--seed\n18446744073709551615\n--\n/hello",
+        "run\nimg\n--seed=007\n--\n/hello",
+        "run\nimg\n--budget\n9\n--\n/hello",
+        "run\nimg\n--budget\n1000000000\n--\n/hello",
+        "run\n--budget\n+9\n--seed\n1\n--host\n2\nimg\n--\n/hello",
+        "run\nimg\n--\nA=1\n/hello",
+        "run\nimg\n--\nA=1\nA=1\n_b2=\n/hello",
+        "run\nimg\n--\n/hello\nA=1",
+        "run\nimg\n--\n/hello\nx\n--\ny",
+        "run\nimg\n--\n/hello\n--budget\n0",
+        "run\nimg\n--\n/hello\n",
+    ] {
+        let came = Call::new(words, &files).make(alloc)?;
+        came.expect(&rt, words, 0, whole.as_bytes(), b"");
+    }
+    Ok(())
+}
+
+#[test]
+fn words_that_are_refused(rt: HostRuntime) -> Result<(), Fail> {
     let alloc = rt.alloc();
     let hello = hello(alloc)?;
     let files = [
         ("img/image.json", HELLO_INDEX),
         ("img/hello", hello.as_slice()),
     ];
-    let refused = [
+    for words in [
         "",
         "run",
         "run\nimg",
@@ -47,22 +79,54 @@ fn words_that_are_no_run_are_refused(rt: HostRuntime) -> Result<(), Fail> {
         "run\nimg\n--\nA=1",
         "run\nimg\n--\n_=/hello",
         "run\nimg\n--\n/he\0llo",
+        "run\nimg\n--\nA=\0\n/hello",
+        "run\nimg\n--\n/hello\n\0",
         "run\nimg\n/hello",
+        "run\nimg\nimg\n--\n/hello",
         "run\n-img\n--\n/hello",
-        "run\n--budget\n0\nimg\n--\n/hello",
+        "run\n--\n/hello",
+        "--\n/hello",
         "walk\nimg\n--\n/hello",
+        "run\nimg\n--budget\n0\n--\n/hello",
+        "run\nimg\n--budget\n1000000001\n--\n/hello",
+        "run\nimg\n--budget\n--\n/hello",
+        "run\nimg\n--budget\n9\n--budget\n9\n--\n/hello",
+        "run\nimg\n--seed\n18446744073709551616\n--\n/hello",
+        "run\nimg\n--seed\n-1\n--\n/hello",
+        "run\nimg\n--seed\nx\n--\n/hello",
+        "run\nimg\n--host\n1.0\n--\n/hello",
+        "run\nimg\n--workers\n4\n--\n/hello",
+        "run\nimg\n--quiet\n--\n/hello",
+        "run\n--help",
         "--help",
         "--version",
-    ];
-    for words in refused {
+    ] {
         let came = Call::new(words, &files).make(alloc)?;
-        assert_eq!(rt; came.status, 2, "{words:?}");
-        assert_eq!(rt; came.out.len(), 0, "{words:?}");
-        assert_eq!(rt;
-            came.err.as_slice(),
-            b"dettrace: usage: dettrace run IMAGE -- PROGRAM\n".as_slice(),
-            "{words:?}"
-        );
+        came.expect(&rt, words, 2, b"", USAGE.as_bytes());
+    }
+    Ok(())
+}
+
+#[test]
+fn budgets_of_a_run(rt: HostRuntime) -> Result<(), Fail> {
+    let alloc = rt.alloc();
+    let hello = hello(alloc)?;
+    let files = [
+        ("img/image.json", HELLO_INDEX),
+        ("img/hello", hello.as_slice()),
+    ];
+    let runs = [
+        ("9", 0, HELLO_SHOWN),
+        ("8", 10, "out 1 6\nhello\n\nverdict budget"),
+        ("6", 10, "out 1 6\nhello\n\nverdict budget"),
+        ("5", 10, "verdict budget"),
+        ("1", 10, "verdict budget"),
+    ];
+    for (budget, status, shown) in runs {
+        let words = format!(in alloc; "run\nimg\n--budget\n{budget}\n--\n/hello")?;
+        let came = Call::new(words.as_str(), &files).make(alloc)?;
+        let want = report(alloc, shown, 162, HELLO_DIGEST)?;
+        came.expect(&rt, budget, status, want.as_bytes(), b"");
     }
     Ok(())
 }
@@ -96,9 +160,7 @@ fn a_program_that_cannot_start_has_its_errno_in_the_verdict(rt: HostRuntime) -> 
         let came = Call::new(words.as_str(), &files).make(alloc)?;
         let shown = format!(in alloc; "verdict nostart {errno}")?;
         let want = report(alloc, shown.as_str(), 162, HELLO_DIGEST)?;
-        assert_eq!(rt; came.status, 10, "{program}");
-        assert_eq!(rt; came.out.as_slice(), want.as_bytes(), "{program}");
-        assert_eq!(rt; came.err.len(), 0, "{program}");
+        came.expect(&rt, program, 10, want.as_bytes(), b"");
     }
     Ok(())
 }
