@@ -24,8 +24,10 @@ pub struct Call<'a> {
     pub words: &'a str,
     pub files: &'a [(&'a str, &'a [u8])],
     pub choices: Words,
-    pub store_fails: &'a [u64],
-    pub host_fails: &'a [u64],
+    /// The number of the store's call that fails, if one does.
+    pub store_fails: Option<u64>,
+    /// The number of the host's call that fails, if one does.
+    pub host_fails: Option<u64>,
     pub out_room: Option<u64>,
     pub err_room: Option<u64>,
 }
@@ -61,8 +63,8 @@ impl<'a> Call<'a> {
             words,
             files,
             choices: Words::Stream(1),
-            store_fails: &[],
-            host_fails: &[],
+            store_fails: None,
+            host_fails: None,
             out_room: None,
             err_room: None,
         }
@@ -73,7 +75,7 @@ impl<'a> Call<'a> {
         let words = strings(alloc, self.words)?;
         let mut store = self.store(alloc)?;
         let picker = picker(alloc, self.choices)?;
-        let mut host = MemHost::new(alloc, picker, Vec::from_slice(alloc, self.host_fails)?)?;
+        let mut host = MemHost::new(alloc, picker, listed(alloc, self.host_fails)?)?;
         let mut out = sink(alloc, self.choices, self.out_room)?;
         let mut err = sink(alloc, self.choices, self.err_room)?;
         let status = dettrace(
@@ -88,7 +90,7 @@ impl<'a> Call<'a> {
 
     fn store(&self, alloc: Global) -> Result<MemStore, Fail> {
         let picker = picker(alloc, self.choices)?;
-        let mut store = MemStore::new(alloc, picker, Vec::from_slice(alloc, self.store_fails)?)?;
+        let mut store = MemStore::new(alloc, picker, listed(alloc, self.store_fails)?)?;
         for (name, bytes) in self.files {
             store.put(name, bytes)?;
         }
@@ -101,6 +103,14 @@ fn picker(alloc: Global, words: Words) -> Result<Picker, AllocError> {
         Words::Zeros => Ok(Picker::new(vec![in alloc; 0; 8_000]?, 0)),
         Words::Stream(number) => Ok(Picker::new(Vec::new(alloc), number)),
     }
+}
+
+fn listed(alloc: Global, call: Option<u64>) -> Result<Vec<u64>, AllocError> {
+    let mut calls = Vec::new(alloc);
+    if let Some(call) = call {
+        calls.push(call)?;
+    }
+    Ok(calls)
 }
 
 fn sink(alloc: Global, words: Words, room: Option<u64>) -> Result<MemSink, Fail> {

@@ -14,9 +14,8 @@ fn each_call_of_the_store_fails_once(rt: HostRuntime) -> Result<(), Fail> {
     let want = report(alloc, HELLO_SHOWN, 162, HELLO_DIGEST)?;
     let mut failed = 0u64;
     for place in 1..40u64 {
-        let listed = [place];
         let mut call = Call::new(RUN_HELLO, &files);
-        call.store_fails = &listed;
+        call.store_fails = Some(place);
         let came = call.make(alloc)?;
         if came.status == 4 {
             came.expect(&rt, "store", 4, b"", b"dettrace: store fault\n");
@@ -42,9 +41,8 @@ fn each_call_of_the_host_fails_once(rt: HostRuntime) -> Result<(), Fail> {
     let want = report(alloc, HELLO_SHOWN, 162, HELLO_DIGEST)?;
     let mut failed = 0u64;
     for place in 1..600u64 {
-        let listed = [place];
         let mut call = Call::new(RUN_HELLO, &files);
-        call.host_fails = &listed;
+        call.host_fails = Some(place);
         call.choices = Words::Zeros;
         let came = call.make(alloc)?;
         if came.status == 5 {

@@ -88,5 +88,13 @@ fn images_that_are_refused(rt: HostRuntime) -> Result<(), Fail> {
         b"",
         b"dettrace: image refused: 1 NoIndex\n",
     );
+    let came = Call::new("run\n\n--\n/hello", &[("image.json", HELLO_INDEX)]).make(alloc)?;
+    came.expect(
+        &rt,
+        "an empty folder's name",
+        3,
+        b"",
+        b"dettrace: image refused: 1 NoIndex\n",
+    );
     Ok(())
 }
