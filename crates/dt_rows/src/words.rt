@@ -164,3 +164,23 @@ fn a_program_that_cannot_start_has_its_errno_in_the_verdict(rt: HostRuntime) -> 
     }
     Ok(())
 }
+
+#[test]
+fn a_number_for_the_host_is_one_call_more(rt: HostRuntime) -> Result<(), Fail> {
+    let alloc = rt.alloc();
+    let files = [(
+        "img/image.json",
+        b"{\"version\":1,\"entries\":[]}".as_slice(),
+    )];
+    let want = b"dettrace 1\nverdict nostart 2\ntree 0\n";
+    // Without it the host is asked for its root twice, and for a name.
+    let mut call = Call::new("run\nimg\n--\n/x", &files);
+    call.host_fails = Some(4);
+    let came = call.make(alloc)?;
+    came.expect(&rt, "three calls", 10, want, b"");
+    let mut call = Call::new("run\nimg\n--host\n7\n--\n/x", &files);
+    call.host_fails = Some(4);
+    let came = call.make(alloc)?;
+    came.expect(&rt, "four calls", 5, b"", b"dettrace: host fault\n");
+    Ok(())
+}
