@@ -17,7 +17,11 @@ pub struct FolderStore<R> {
 }
 
 impl<R> FolderStore<R> {
-    pub fn new(rt: R) -> Self {
+    /// A store over the files of `rt` that has had no fault yet.
+    pub fn new(rt: R) -> Self
+        ensures over { result.rt ≡ rt }
+        ensures fresh { result.faults ≡ 0 }
+    {
         FolderStore { rt, faults: 0 }
     }
 

@@ -1,5 +1,5 @@
 // Standard output and standard error.
-ghost use Rattle.std.specs.Prelude.{None};
+ghost use Rattle.std.specs.Prelude.{◌≡◌, None};
 
 use dt_host::{Sink, SinkErr};
 use std::io::Write;
@@ -12,7 +12,11 @@ pub struct StdSink<W> {
 }
 
 impl<W> StdSink<W> {
-    pub fn new(writer: W) -> Self {
+    /// A sink before `writer` that has had no fault yet.
+    pub fn new(writer: W) -> Self
+        ensures over { result.writer ≡ writer }
+        ensures fresh { result.faults ≡ 0 }
+    {
         StdSink { writer, faults: 0 }
     }
 }
