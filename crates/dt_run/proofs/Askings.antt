@@ -9,7 +9,7 @@ use Rattle.dt_base.specs.declared.refusal.Refusal.{Refusal}
 use Rattle.dt_base.specs.Command.{Words}
 use Rattle.dt_host.specs.Sink.{AddsPart}
 use Rattle.dt_host.specs.Store.{Files}
-use Rattle.dt_run.specs.declared.machine.Machine.{Machine}
+use Rattle.dt_rv64.specs.declared.machine.Machine.{Machine}
 use Rattle.dt_run.specs.declared.process.Phase.{Phase}
 use Rattle.dt_run.specs.declared.process.Phase.TheVariants.{Owes, Ran, Zombie}
 use Rattle.dt_run.specs.declared.failure.Failure.{Failure}

@@ -5,23 +5,23 @@ use Rattle.dt_base.specs.declared.limits.TheConstants.{SEGMENT_LIMIT}
 use Rattle.dt_base.specs.declared.event.Event.{Event}
 use Rattle.dt_base.specs.declared.event.Verdict.{Verdict}
 use Rattle.dt_base.specs.declared.event.Verdict.TheVariants.{Budget}
-use Rattle.dt_run.specs.declared.machine.Machine.{Machine}
-use Rattle.dt_run.specs.declared.machine.Step.{Step}
-use Rattle.dt_run.specs.declared.machine.Step.TheVariants.{Ran as StepRan, Call, Fault}
-use Rattle.dt_run.specs.declared.machine.Seg.{Seg}
+use Rattle.dt_rv64.specs.declared.machine.Machine.{Machine}
+use Rattle.dt_rv64.specs.declared.machine.Step.{Step}
+use Rattle.dt_rv64.specs.declared.machine.Step.TheVariants.{Ran as StepRan, Call, Fault}
+use Rattle.dt_rv64.specs.declared.segments.Seg.{Seg}
 use Rattle.dt_run.specs.declared.process.Process.{Process}
 use Rattle.dt_run.specs.declared.process.Phase.{Phase}
 use Rattle.dt_run.specs.declared.process.Phase.TheVariants.{Owes, Ran, Zombie}
 use Rattle.dt_run.specs.declared.call.Outcome.{Outcome}
 use Rattle.dt_run.specs.declared.call.Outcome.TheVariants.{Done, Ends, Unsupported}
 use Rattle.dt_run.specs.declared.turn.State.{State}
-use Rattle.dt_run.specs.Machine.{exec}
-use Rattle.dt_run.specs.Segment.{SegmentRun, segment_of, run_steps, go_on as step_on}
+use Rattle.dt_rv64.specs.Machine.{exec}
+use Rattle.dt_rv64.specs.Segment.{SegmentRun, segment_of, run_steps, go_on as step_on}
 use Rattle.dt_run.specs.Process.{with_segment, ran_in, ran_process, cost_of}
 use Rattle.dt_run.specs.Call.{Served, served}
 use Rattle.dt_run.specs.Turn.{Turn, turn, billed, paid, settled}
 use Rattle.dt_run.specs.Course.{Course, course, turns, go_on, after, HasCost}
-use Rattle.dt_run.proofs.Runs.{run-step, segment-starts}
+use Rattle.dt_rv64.proofs.Runs.{run-step, segment-starts}
 
 -- a segment makes a step
 step_on-least : (step : Step) (m : Machine) (made bound : ℕ) (rest : Machine → SegmentRun) → bound ≤ made → ((m : Machine) → bound ≤ (rest m).count) → bound ≤ (step_on step m made rest).count

@@ -8,15 +8,15 @@ use Rattle.dt_base.specs.declared.event.Event.TheVariants.{Out}
 use Rattle.dt_base.specs.declared.event.End.{End}
 use Rattle.dt_base.specs.declared.event.End.TheVariants.{Code, Signal}
 use Rattle.dt_base.specs.Errno.{errno_number}
-use Rattle.dt_run.specs.declared.machine.Machine.{Machine}
-use Rattle.dt_run.specs.declared.machine.Stop.{Stop}
-use Rattle.dt_run.specs.declared.machine.Stop.TheVariants.{Call, Slice, Fault}
+use Rattle.dt_rv64.specs.declared.machine.Machine.{Machine}
+use Rattle.dt_rv64.specs.declared.segments.Stop.{Stop}
+use Rattle.dt_rv64.specs.declared.segments.Stop.TheVariants.{Call, Slice, Fault}
 use Rattle.dt_run.specs.declared.call.Outcome.{Outcome}
 use Rattle.dt_run.specs.declared.call.Outcome.TheVariants.{Done, Ends, Unsupported}
-use Rattle.dt_run.specs.declared.space.Miss.{Miss}
-use Rattle.dt_run.specs.declared.space.TheConstants.{READ}
-use Rattle.dt_run.specs.Space.{load}
-use Rattle.dt_run.specs.Machine.{register, answered}
+use Rattle.dt_space.specs.declared.access.Miss.{Miss}
+use Rattle.dt_space.specs.declared.access.TheConstants.{READ}
+use Rattle.dt_space.specs.Space.{load}
+use Rattle.dt_rv64.specs.Machine.{register, answered}
 
 -- the machine after a stop was served, what the process did that shows, and what becomes of the process
 pub record Served : Type 0 where

@@ -10,7 +10,7 @@ use Rattle.dt_base.specs.declared.image.What.{What}
 use Rattle.dt_base.specs.declared.image.What.TheVariants.{File, Dir, Link}
 use Rattle.dt_base.specs.Path.{is_slash}
 use Rattle.dt_base.specs.Command.{Words}
-use Rattle.dt_run.specs.declared.machine.Machine.{Machine}
+use Rattle.dt_rv64.specs.declared.machine.Machine.{Machine}
 use Rattle.dt_run.specs.declared.elf.Elf.{Elf}
 use Rattle.dt_run.specs.declared.elf.ElfErr.{ElfErr}
 use Rattle.dt_run.specs.Executable.{exe}

@@ -8,15 +8,8 @@ pub mod Failure
 pub mod Failures
 pub mod Installed
 pub mod RootFile
-pub mod Space
-pub mod Piece
-pub mod Pages
-pub mod Instruction
-pub mod Machine
-pub mod Segment
 pub mod Executable
 pub mod FirstMachine
-pub mod Valid
 pub mod Launch
 pub mod Process
 pub mod Call

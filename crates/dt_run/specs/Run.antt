@@ -6,7 +6,7 @@ use Rattle.dt_base.specs.declared.event.Verdict.{Verdict}
 use Rattle.dt_base.specs.declared.event.Verdict.TheVariants.{NoStart}
 use Rattle.dt_base.specs.declared.errno.Errno.{Errno}
 use Rattle.dt_base.specs.Command.{Words}
-use Rattle.dt_run.specs.declared.machine.Machine.{Machine}
+use Rattle.dt_rv64.specs.declared.machine.Machine.{Machine}
 use Rattle.dt_run.specs.declared.process.Phase.TheVariants.{Owes}
 use Rattle.dt_run.specs.declared.turn.State.{State}
 use Rattle.dt_run.specs.Process.{status_of}

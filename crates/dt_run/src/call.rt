@@ -1,11 +1,11 @@
 // The system calls, one function for each.
 ghost use Rattle.std.specs.Prelude.{◌≡◌, ℕ, ◌-◌, ◌%◌, ◌^◌, [], Ok, IfOk, IsErr, MatchOption};
-ghost use Rattle.dt_run.specs.Space.{load};
-ghost use Rattle.dt_run.specs.Machine.{register};
+ghost use Rattle.dt_space.specs.Space.{load};
+ghost use Rattle.dt_rv64.specs.Machine.{register};
 ghost use Rattle.dt_run.specs.Call.{served, call_of, write_call, exit_call, written, refused};
 
-use crate::machine::{Machine, Stop};
-use crate::space::{READ, Space};
+use dt_rv64::{Machine, Stop};
+use dt_space::{READ, Space};
 use dt_base::{Blob, End, Errno, Event, NoMemory, TRANSFER_LIMIT};
 use std::alloc::Global;
 

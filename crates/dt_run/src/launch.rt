@@ -8,7 +8,7 @@ ghost use Rattle.dt_run.specs.Launch.{launched, program_name, looked_up, loaded}
 use crate::elf::{StartErr, read_elf, start};
 use crate::error::RunErr;
 use crate::install::read_file;
-use crate::machine::Machine;
+use dt_rv64::Machine;
 use dt_base::{Errno, NAME_LIMIT, NoMemory, PATH_LIMIT};
 use dt_host::Host;
 use std::alloc::Global;

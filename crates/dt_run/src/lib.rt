@@ -14,7 +14,6 @@ mod image;
 mod index;
 mod install;
 mod launch;
-mod machine;
 #[cfg(test)]
 mod machine_tests;
 mod options;
@@ -23,7 +22,6 @@ mod path;
 mod process;
 mod report;
 mod run;
-mod space;
 mod top;
 mod turn;
 
@@ -31,8 +29,6 @@ pub use elf::{Elf, ElfErr, Segment, StartErr, read_elf, start};
 pub use error::RunErr;
 pub use failure::Failure;
 pub use image::read_image;
-pub use machine::{Instr, Machine, Seg, Step, Stop, decode, segment};
 pub use options::{Options, UsageErr, read_options};
 pub use run::run_container;
-pub use space::{Miss, Space};
 pub use top::{dettrace, tell};

@@ -1,6 +1,6 @@
 // One program from its file to its second call, and files and words that are refused.
 use crate::elf::{Elf, ElfErr, StartErr, read_elf, start};
-use crate::machine::{Instr, Machine, Seg, Step, Stop, decode, segment};
+use dt_rv64::{Instr, Machine, Seg, Step, Stop, decode, segment};
 use std::test::Fail;
 
 // A program that writes `hello` and a line feed by a call, and ends with status 0 by another.

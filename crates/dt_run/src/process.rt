@@ -1,7 +1,7 @@
 // A process: its machine, and where it stands between its turns.
 ghost use Rattle.std.specs.Prelude.{◌≡◌, OnOk};
 
-use crate::machine::{Machine, Seg, segment};
+use dt_rv64::{Machine, Seg, segment};
 use dt_base::{End, NoMemory};
 
 /// Where a process stands.

@@ -16,7 +16,7 @@ ghost use Rattle.dt_run.specs.Tree.{tree_of};
 use crate::error::RunErr;
 use crate::install::{install, read_entry};
 use crate::launch::launch;
-use crate::machine::Machine;
+use dt_rv64::Machine;
 use crate::report::{
     write_events, write_file_line, write_header, write_tree_header, write_verdict,
 };

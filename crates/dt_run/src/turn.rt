@@ -5,7 +5,7 @@ ghost use Rattle.dt_run.specs.Course.{course, HasCost};
 ghost use Rattle.dt_run.specs.Turn.{turn, billed, settled};
 
 use crate::call::{Outcome, serve};
-use crate::machine::{Machine, Stop};
+use dt_rv64::{Machine, Stop};
 use crate::process::{Phase, Process};
 use dt_base::{Event, NoMemory, Verdict};
 use std::alloc::Global;

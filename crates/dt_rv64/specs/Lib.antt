@@ -1,0 +1,4 @@
+pub mod Instruction
+pub mod Machine
+pub mod Segment
+pub mod Valid

@@ -1,0 +1,3 @@
+pub mod Pages
+pub mod Loads
+pub mod Following

@@ -1,0 +1,3 @@
+pub mod Space
+pub mod Piece
+pub mod Pages

@@ -1,0 +1,9 @@
+//! A process's memory: pages of 4,096 bytes, sorted by number, each with its rights.
+#![tactic(auto)]
+
+mod access;
+mod page;
+mod space;
+
+pub use access::{EXECUTE, Miss, READ, WRITE};
+pub use space::Space;
