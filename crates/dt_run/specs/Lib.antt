@@ -10,7 +10,11 @@ pub mod Installed
 pub mod RootFile
 pub mod Executable
 pub mod FirstMachine
+pub mod Lookup
 pub mod Launch
+pub mod Descriptors
+pub mod Served
+pub mod FileCalls
 pub mod Process
 pub mod Call
 pub mod Turn

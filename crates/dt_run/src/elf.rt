@@ -5,9 +5,9 @@ ghost use Rattle.dt_rv64.specs.Valid.{IsMachine};
 ghost use Rattle.dt_run.specs.FirstMachine.{page_count, contents_of, segment_pages, stack_pages, first};
 ghost use Rattle.dt_run.specs.Executable.{number, e_phoff, e_phnum, program_header, program_headers, header_refusal, is_short, is_bad_header, is_load, is_interp, is_placed, rights_of, segment_at, only, only_segment, exe_after, exe, IsPlaced};
 
+use dt_base::{NoMemory, PAGE_LIMIT, PAGE_SIZE, get16, get32, get64};
 use dt_rv64::Machine;
 use dt_space::{EXECUTE, READ, Space, WRITE};
-use dt_base::{NoMemory, PAGE_LIMIT, PAGE_SIZE, get16, get32, get64};
 use std::alloc::Global;
 
 /// The first bytes of an ELF file.

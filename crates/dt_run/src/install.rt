@@ -1,5 +1,5 @@
 // The image at the host: put there, and read back.
-ghost use Rattle.std.specs.Prelude.{◌≡◌, ◌≤◌, ℕ, List, None, ◌∷◌, length, IfOk, OnOk, IsErrOf};
+ghost use Rattle.std.specs.Prelude.{◌≡◌, ◌≤◌, ◌<◌, ◌+◌, ◌^◌, ℕ, List, None, ◌∷◌, length, take, drop, IfOk, OnOk, IsErrOf};
 ghost use Rattle.dt_base.specs.declared.image.What.TheVariants.{File};
 ghost use Rattle.dt_base.specs.Image.{IsImage};
 ghost use Rattle.dt_host.specs.Cause.{HasCause};

@@ -6,6 +6,8 @@
 
 mod blobs;
 mod call;
+mod container;
+mod descriptors;
 mod elf;
 mod error;
 mod failure;
@@ -14,6 +16,7 @@ mod image;
 mod index;
 mod install;
 mod launch;
+mod lookup;
 #[cfg(test)]
 mod machine_tests;
 mod options;
