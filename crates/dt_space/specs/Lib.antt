@@ -1,3 +1,5 @@
 pub mod Space
 pub mod Piece
+pub mod Place
 pub mod Pages
+pub mod Write

@@ -1,5 +1,4 @@
 // Rights, and where an access finds none.
-
 /// The right to read.
 pub const READ: u8 = 1;
 
@@ -13,4 +12,22 @@ pub const EXECUTE: u8 = 4;
 #[derive(Clone, Copy, Debug, PartialEq, Eq)]
 pub struct Miss {
     pub at: u64,
+}
+
+/// Why nothing was written.
+#[derive(Clone, Copy, Debug, PartialEq, Eq)]
+pub enum WriteErr {
+    /// The first byte that may not be written.
+    Miss(Miss),
+}
+
+impl From<Miss> for WriteErr {
+    ghost use Rattle.std.specs.Prelude.{◌≡◌};
+    ghost use Rattle.dt_space.specs.declared.access.WriteErr.TheVariants.{Miss as missed};
+
+    ghost from_gives = { λ miss error. error ≡ missed miss };
+
+    fn from(miss: Miss) -> Self {
+        WriteErr::Miss(miss)
+    }
 }
