@@ -5,5 +5,5 @@ mod access;
 mod page;
 mod space;
 
-pub use access::{EXECUTE, Miss, READ, WRITE, WriteErr};
+pub use access::{EXECUTE, Miss, READ, TextErr, WRITE, WriteErr};
 pub use space::Space;

@@ -5,6 +5,7 @@ ghost use Rattle.dt_space.specs.Pages.{pages_from, EndsBelow};
 ghost use Rattle.dt_space.specs.Place.{IsPlaceOf};
 
 mod reads;
+mod text;
 mod writes;
 
 use crate::page::Page;
