@@ -3,7 +3,7 @@ use Rattle.std.proofs.Common.{◌≡◌, ℕ, zero, suc, ◌<◌, ◌≤◌, ◌
 use Rattle.dt_base.specs.declared.limits.TheConstants.{PAGE_SIZE}
 use Rattle.dt_space.specs.declared.access.Miss.{Miss}
 use Rattle.std.proofs.lemmas.List.{length-take-le, length-drop, length-append, append_assoc, take_at, drop_more}
-use Rattle.dt_space.specs.Piece.{IsRest, IsPiece}
+use Rattle.dt_space.specs.Piece.{IsRest, IsRestAt, IsPiece, Misses}
 use Rattle.dt_space.specs.Space.{PageView, has, page_at, byte_of, byte_at, low_byte, load}
 
 -- a byte of a list
@@ -121,10 +121,10 @@ pub load-copies : (pages : List PageView) (right address m : ℕ) (front piece :
 load-copies pages right address m front piece fits reached more = rw (load-more pages right m (length piece) address front fits reached, more) refl
 
 -- where no page has the address, the first byte misses
-pub piece-none : (pages : List PageView) (right address asked : ℕ) → page_at pages (address / PAGE_SIZE) ≡ None → 0 < asked → load pages right address asked ≡ Err (record { at = address })
-piece-none pages right address asked none some = load-miss pages right address asked (rw none refl) some
+pub rest-none : (pages : List PageView) (right address : ℕ) → page_at pages (address / PAGE_SIZE) ≡ None → Misses pages right address (record { at = address })
+rest-none pages right address none count some = load-miss pages right address count (rw none refl) some
 
-module _ (pages : List PageView) (right address asked : ℕ) (page : PageView) (found : page_at pages (address / PAGE_SIZE) ≡ Some page) (low : address / PAGE_SIZE < 2 ^ 26) (some : 0 < asked) where
+module _ (pages : List PageView) (right address : ℕ) (page : PageView) (found : page_at pages (address / PAGE_SIZE) ≡ Some page) (low : address / PAGE_SIZE < 2 ^ 26) where
   split : address / PAGE_SIZE * PAGE_SIZE + address % PAGE_SIZE ≡ address
   split = omega arith
 
@@ -132,23 +132,26 @@ module _ (pages : List PageView) (right address asked : ℕ) (page : PageView) (
   offset_in = omega arith
 
   -- where its page lacks the right, too
-  pub piece-denied : has page.rights right ≡ false → load pages right address asked ≡ Err (record { at = address })
-  piece-denied denied = subst (λ (a : ℕ). load pages right a asked ≡ Err (record { at = a })) split (load-denied pages right _ page found low denied _ asked offset_in some)
+  pub rest-denied : has page.rights right ≡ false → Misses pages right address (record { at = address })
+  rest-denied denied count some = subst (λ (a : ℕ). load pages right a count ≡ Err (record { at = a })) split (load-denied pages right _ page found low denied _ count offset_in some)
 
-  -- and else the rest of the page is loaded, as far as it was asked for
-  pub piece-some : (rest : List ℕ) → IsRest page right (address % PAGE_SIZE) rest → IsPiece pages right address asked (take (min (length rest) asked) rest)
-  piece-some rest is =
-      let count = min (length rest) asked in
-      let bound : count ≤ length rest = omega arith in
-      let long : length (take count rest) ≡ count = length-take-le count rest bound in
-      let bytes : take count rest ≡ take count (drop (address % PAGE_SIZE) page.bytes) = ap (take count) is.bytes in
-      let whole : length page.bytes ≡ PAGE_SIZE = omega (arith, is.reaches, ap length is.bytes, length-drop (address % PAGE_SIZE) page.bytes) in
-      let inside = load-inside pages right _ page found low is.allowed whole count (address % PAGE_SIZE) (omega (arith, is.reaches)) in
-      record {
-        some = omega (arith, is.reaches);
-        within = omega arith;
-        loaded = rw (long, bytes) (subst (λ (a : ℕ). load pages right a count ≡ Ok (take count (drop (address % PAGE_SIZE) page.bytes))) split inside);
-      }
+  -- and else the rest of the page can be loaded
+  pub rest-some : (rest : List ℕ) → IsRest page right (address % PAGE_SIZE) rest → IsRestAt pages right address rest
+  rest-some rest is = record {
+    reaches = is.reaches;
+    loaded = λ count bound.
+        let bytes : take count rest ≡ take count (drop (address % PAGE_SIZE) page.bytes) = ap (take count) is.bytes in
+        let whole : length page.bytes ≡ PAGE_SIZE = omega (arith, is.reaches, ap length is.bytes, length-drop (address % PAGE_SIZE) page.bytes) in
+        rw bytes (subst (λ (a : ℕ). load pages right a count ≡ Ok (take count (drop (address % PAGE_SIZE) page.bytes))) split (load-inside pages right _ page found low is.allowed whole count (address % PAGE_SIZE) (omega (arith, is.reaches))));
+  }
+
+-- the front of what is loaded, as far as it was asked for
+pub piece-some : (pages : List PageView) (right address asked : ℕ) (rest : List ℕ) → 0 < asked → IsRestAt pages right address rest → IsPiece pages right address asked (take (min (length rest) asked) rest)
+piece-some pages right address asked rest some is =
+    let count = min (length rest) asked in
+    let bound : count ≤ length rest = omega arith in
+    let long : length (take count rest) ≡ count = length-take-le count rest bound in
+    record { some = omega (arith, is.reaches); within = omega arith; loaded = rw long (is.loaded count bound) }
 
 -- the bytes of the buffer up to the end of the piece
 take-parts : (front piece back : List ℕ) (m n : ℕ) → length front ≡ m → length piece ≡ n → take (m + n) (front ++ (piece ++ back)) ≡ front ++ piece

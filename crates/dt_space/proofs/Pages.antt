@@ -1,11 +1,14 @@
 -- Where a binary search by number ends among pages in order.
-use Rattle.std.proofs.Common.{◌≡◌, ℕ, zero, suc, ◌<◌, ◌≤◌, ◌^◌, ◌≢◌, List, [], ◌∷◌, length, get_or, Some, None, Result, Ok, Err, IfOk, IfErr, refl, sym, ap, arith}
+use Rattle.std.proofs.Common.{◌≡◌, ℕ, zero, suc, ◌<◌, ◌≤◌, ◌^◌, ◌≢◌, List, [], ◌∷◌, length, get_or, Some, None, Result, Ok, Err, IfOk, IfErr, refl, sym, ap, ◌∙◌, arith}
 use Rattle.std.specs.List.Sorted.{IsSearchInRange, IsBinarySearchResult, IsNonDecreasingBy}
 use Rattle.std.specs.Ordering.{nat_cmp, ordering_index}
 use Rattle.std.proofs.lemmas.Cmp.{ranked}
 use Rattle.std.proofs.lemmas.List.Sorted.{IsNonDecreasingBy-from_default}
 use Rattle.std.proofs.lemmas.Bool.Decides.{nat_tests}
+use Rattle.std.proofs.lemmas.List.{get_or_default}
+use Rattle.dt_base.specs.declared.limits.TheConstants.{PAGE_SIZE}
 use Rattle.dt_space.specs.Space.{PageView, number_at, IsSpace, page_at}
+use Rattle.dt_space.specs.Place.{IsPlace}
 
 -- no page before place i has the number
 abbrev pub NoneBefore : List PageView → ℕ → ℕ → Type 0
@@ -27,8 +30,7 @@ page_at_present (x ∷ pages) number (suc i) d lt same none = grind (arith, nat_
 
 -- a search by number ends at the number's page, or where no page has it
 pub record Searched (pages : List PageView) (number : ℕ) (r : Result ℕ ℕ) : Type 0 where
-  pub found : IfOk r (λ i. (d : PageView) → page_at pages number ≡ Some (get_or pages i d))
-  pub low : IfOk r (λ i. number < 2 ^ 26)
+  pub place : IfOk r (IsPlace pages number)
   pub absent : IfErr r (λ i. page_at pages number ≡ None)
 
 module _ (pages : List PageView) (space : IsSpace pages) (number : ℕ) where
@@ -41,17 +43,26 @@ module _ (pages : List PageView) (space : IsSpace pages) (number : ℕ) where
   pub searched : (r : Result ℕ ℕ) → IsSearchInRange r (length pages) → IsBinarySearchResult (λ (page : PageView). nat_cmp page.number number) pages r → Searched pages number r
   searched (Ok at) in_range equal =
       let same : number_at pages at ≡ number = ranked _ number _ (sym (equal (record { number = 0; rights = 0; bytes = [] }))) in
-      record {
-        found = λ d. page_at_present pages number at d in_range same (λ j lt is. omega (arith, space.rising j at lt in_range, same));
-        low = omega (arith, space.low at in_range, same);
-        absent = tt;
-      }
+      record { place = record { within = in_range; here = same }; absent = tt }
   searched (Err at) in_range parted =
       let d : PageView = record { number = 0; rights = 0; bytes = [] } in
       let below : (j : ℕ) → j < at → number_at pages j < number = λ j lt. ranked _ number _ (sym ((parted comparisons_rise).0 j d (omega arith) lt)) in
       let above : (j : ℕ) → at ≤ j → j < length pages → number < number_at pages j = λ j le lt. ranked _ number _ (sym ((parted comparisons_rise).1 j d le lt)) in
-      record {
-        found = tt;
-        low = tt;
-        absent = page_at_absent pages number (λ j lt is. grind (arith, below j, above j));
-      }
+      record { place = tt; absent = page_at_absent pages number (λ j lt is. grind (arith, below j, above j)) }
+
+-- a page at its place
+module _ (pages : List PageView) (space : IsSpace pages) (number place : ℕ) (is : IsPlace pages number place) where
+  pub place-low : number < 2 ^ 26
+  place-low = omega (arith, space.low place is.within, is.here)
+
+  pub place-first : NoneBefore pages number place
+  place-first j lt same = omega (arith, space.rising j place lt is.within, is.here)
+
+  pub place-found : (page : PageView) → page ≡ get_or pages place page → page_at pages number ≡ Some page
+  place-found page read = page_at_present pages number place page is.within is.here place-first ∙ ap Some (sym read)
+
+  pub place-whole : (page : PageView) → page ≡ get_or pages place page → length page.bytes ≡ PAGE_SIZE
+  place-whole page read = ap (λ (p : PageView). length p.bytes) (read ∙ get_or_default pages place page (record { number = 0; rights = 0; bytes = [] }) is.within) ∙ space.whole place is.within
+
+  pub place-number : (page : PageView) → page ≡ get_or pages place page → page.number ≡ number
+  place-number page read = ap (λ (p : PageView). p.number) (read ∙ get_or_default pages place page (record { number = 0; rights = 0; bytes = [] }) is.within) ∙ is.here

@@ -1,8 +1,8 @@
 // One page of memory.
-ghost use Rattle.std.specs.Prelude.{◌≡◌, ◌<◌, ◌≤◌, IfOk, false, length, MatchOption};
+ghost use Rattle.std.specs.Prelude.{◌≡◌, ◌+◌, ◌<◌, ◌≤◌, IfOk, false, length, MatchOption};
 ghost use Rattle.dt_space.specs.Space.{has};
 ghost use Rattle.dt_space.specs.Pages.{filled};
-ghost use Rattle.dt_space.specs.Piece.{IsRest};
+ghost use Rattle.dt_space.specs.Piece.{IsRest, overwritten};
 
 use dt_base::{NoMemory, PAGE_SIZE};
 use std::alloc::Global;
@@ -40,7 +40,16 @@ impl Page {
         })
     }
 
+    // Whether the page has the right.
+    #[inline(always)]
+    pub fn has(&self, right: u8) -> bool
+        ensures { result ≡ has self.now.rights right }
+    {
+        self.rights & right == right
+    }
+
     // The bytes from an offset to the page's end, where the page has the right.
+    #[inline(always)]
     pub fn bytes_from(&self, right: u8, offset: u64) -> Option<&[u8]>
         requires { offset < PAGE_SIZE }
         ensures { MatchOption result (has self.now.rights right ≡ false) (λ rest. IsRest self.now right offset rest.now) }
@@ -50,5 +59,15 @@ impl Page {
         } else {
             None
         }
+    }
+
+    // Writes the bytes from an offset on.
+    #[inline(always)]
+    pub fn put(&mut self, offset: u64, bytes: &[u8])
+        requires { offset + length bytes.now ≤ PAGE_SIZE }
+        ensures { self.new ≡ record self.old { bytes = overwritten self.old.bytes offset bytes.now } }
+    {
+        let offset = offset as usize;
+        self.bytes[offset..offset + bytes.len()].copy_from_slice(bytes);
     }
 }
