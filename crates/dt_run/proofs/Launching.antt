@@ -1,13 +1,13 @@
 -- What a lookup in the root of an installed image finds, and what is started then.
 use Rattle.std.proofs.Common.{◌≡◌, ℕ, ◌<◌, List, [], length, get_or, false, Option, Some, None, Ok, Err, refl, sym, ap, subst, ◌∙◌}
-use Rattle.std.specs.Prelude.{IsSome, unwrap_or, option_map}
+use Rattle.std.specs.Prelude.{IsSome, unwrap_or, option_map, option_and_then}
 use Rattle.dt_base.specs.declared.image.Entry.{Entry}
 use Rattle.dt_base.specs.declared.errno.Errno.TheVariants.{NoEnt}
 use Rattle.dt_base.specs.Image.{IsImage}
 use Rattle.dt_host.specs.World.{World, file_at, IsFile, content, entry as entry_at}
 use Rattle.dt_run.specs.Installed.{HoldsImage, number_under}
 use Rattle.dt_run.specs.RootFile.{HoldsEntry}
-use Rattle.dt_run.specs.Lookup.{is_dots, bytes_of}
+use Rattle.dt_run.specs.Lookup.{is_dots, bytes_of, file_named}
 use Rattle.dt_run.specs.Launch.{loaded, executed, executed_at, launched}
 use Rattle.dt_run.proofs.Flats.{named_at, root_file_at}
 use Rattle.dt_run.proofs.Installing.{finds, unnamed_in_image}
@@ -54,3 +54,11 @@ HoldsEntry-at w entries i e h good lt at =
       named = found.1.0;
       file = found.1.1;
     }
+
+-- a file of the host, by its name, has the bytes of the image's
+pub file_named-found : (w : World) (entries : List Entry) → HoldsImage w entries → (name : List ℕ) (n : ℕ) → number_under w name ≡ Some n → content w.forest n ≡ file_named entries name
+unfolding content
+file_named-found w entries h name n is =
+    let f = finds w entries name n h is in
+    ap (λ found. unwrap_or found []) f.file
+    ∙ sym (ap (λ found. unwrap_or (option_and_then (λ entry. bytes_of entry.what) found) []) f.found ∙ ap (λ what. unwrap_or (bytes_of what) []) f.what)

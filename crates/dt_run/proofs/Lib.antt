@@ -19,3 +19,4 @@ pub mod Completing
 pub mod Escapes
 pub mod Fronts
 pub mod Requests
+pub mod Parts

@@ -7,6 +7,7 @@ ghost use Rattle.dt_run.specs.Installed.{HoldsImage};
 ghost use Rattle.dt_run.specs.Call.{served, call_of, exit_call};
 
 mod answer;
+mod files;
 mod output;
 
 use crate::container::Container;
@@ -16,6 +17,12 @@ use dt_base::End;
 use dt_host::Host;
 use dt_rv64::{Machine, Stop};
 use std::alloc::Global;
+
+const OPENAT: u64 = 56;
+
+const CLOSE: u64 = 57;
+
+const READ: u64 = 63;
 
 const WRITE: u64 = 64;
 
@@ -74,6 +81,9 @@ fn call<H: Host>(
     ensures kinds { IsErrOf result RunErr.Sink → ⊥ }
 {
     match machine.reg(A7) {
+        OPENAT => files::openat(alloc, host, container, machine),
+        CLOSE => Ok(files::close(alloc, container, machine)),
+        READ => files::read(alloc, host, container, machine),
         WRITE => Ok(output::write(alloc, container, machine)?),
         EXIT | EXIT_GROUP => Ok(exit(alloc, machine)),
         number => Ok(Answer::quiet(alloc, Outcome::Unsupported(number))),
