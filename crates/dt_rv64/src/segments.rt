@@ -11,6 +11,8 @@ use dt_base::{NoMemory, SEGMENT_LIMIT};
 pub enum Stop {
     /// A system call is to be served.
     Call,
+    /// A counter is to be read into this register.
+    Counter(u8),
     /// The segment has reached its limit of steps.
     Slice,
     /// A signal of this number.
@@ -36,6 +38,7 @@ pub fn segment(machine: &mut Machine) -> Result<Seg, NoMemory>
         let stop = match machine.step() {
             Step::Ran => continue,
             Step::Call => Stop::Call,
+            Step::Counter(rd) => Stop::Counter(rd),
             Step::Fault(signal) => Stop::Fault(signal),
         };
         return Ok(Seg {
