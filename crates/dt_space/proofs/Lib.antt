@@ -4,3 +4,4 @@ pub mod Writes
 pub mod Kept
 pub mod Numbers
 pub mod Following
+pub mod Texts

@@ -2,8 +2,10 @@
 #![tactic(auto)]
 
 mod access;
+mod near;
 mod page;
 mod space;
 
-pub use access::{EXECUTE, Miss, READ, WRITE, WriteErr};
+pub use access::{EXECUTE, Miss, READ, TextErr, WRITE, WriteErr};
+pub use near::Near;
 pub use space::Space;

@@ -4,7 +4,9 @@ ghost use Rattle.dt_space.specs.Space.{IsSpace};
 ghost use Rattle.dt_space.specs.Pages.{pages_from, EndsBelow};
 ghost use Rattle.dt_space.specs.Place.{IsPlaceOf};
 
+mod hinted;
 mod reads;
+mod text;
 mod writes;
 
 use crate::page::Page;

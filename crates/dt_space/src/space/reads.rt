@@ -123,7 +123,7 @@ impl Space {
     }
 
     // Fills the buffer with bytes that have the right.
-    fn copy(&self, right: u8, at: u64, buf: &mut [u8]) -> Result<(), Miss>
+    pub(super) fn copy(&self, right: u8, at: u64, buf: &mut [u8]) -> Result<(), Miss>
         ensures read { MatchResult result (λ _. load self.now right at (length buf.old) ≡ Ok buf.new) (λ miss. load self.now right at (length buf.old) ≡ Err miss) }
         ensures miss { OnErr result (buf.new ≡ buf.old) }
     {
@@ -142,7 +142,7 @@ impl Space {
     // The first bytes of an access that one page answers.
     pub(super) fn piece(&self, right: u8, at: u64, len: u64) -> Result<&[u8], Miss>
         requires { 0 < len }
-        ensures { MatchResult result (λ piece. IsPiece self.now right at len piece.now) (λ miss. load self.now right at len ≡ Err miss) }
+        ensures { MatchResult result (λ piece. IsPiece self.now right at len piece.now) (Misses self.now right at) }
     {
         let rest = self.rest_at(self.place(at / PAGE_SIZE), right, at)?;
         Ok(&rest[..rest.len().min(len as usize)])

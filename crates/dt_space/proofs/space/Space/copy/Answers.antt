@@ -13,7 +13,7 @@ pub returns-in_err-piece : goal.returns-in_err-piece
 returns-in_err-piece c =
     let reached : IsOk (load c.args.self.now c.args.right c.args.at c.loop-done.done) = rw c.loop-done.invariant.copied refl in
     let rest : length c.split_at_mut-rest.result.1.now + c.loop-done.done ≡ length c.args.buf.now = c.split_at_mut-rest.ensures.back_len ∙ c.loop-done.invariant.same in
-    absurd (load-misses-not _ _ _ _ _ (length c.args.buf.now) _ c.ranges.at.fits reached c.in_err-piece.ensures (omega arith) c.loop-done.invariant.whole)
+    absurd (load-misses-not _ _ _ _ _ (length c.args.buf.now) _ c.ranges.at.fits reached (c.in_err-piece.ensures (length c.split_at_mut-rest.result.1.now) (omega arith)) (omega arith) c.loop-done.invariant.whole)
 
 -- a piece more is copied
 pub loop-done-preserved : goal.loop-done-preserved
