@@ -17,7 +17,8 @@ use Rattle.dt_space.specs.Write.{write, where_allowed}
 use Rattle.dt_rv64.proofs.Stores.{write-keeps}
 use Rattle.dt_rv64.specs.Instruction.{instr}
 use Rattle.dt_rv64.specs.Words.{add, word_of}
-use Rattle.dt_rv64.specs.Machine.{Stepped, register, with_register, next_pc, advanced, wrote, jumped, branched, filled, saved, put_at, executed, fetched, exec, answered, counted}
+use Rattle.dt_rv64.specs.Effects.{Stepped, register, with_register, next_pc, advanced, wrote, jumped, branched, filled, saved, put_at, answered, counted}
+use Rattle.dt_rv64.specs.Machine.{executed, fetched, exec}
 use Rattle.dt_base.specs.declared.limits.TheConstants.{SEGMENT_LIMIT}
 use Rattle.dt_rv64.specs.Segment.{SegmentRun, go_on, run_steps, segment_of}
 use Rattle.dt_rv64.specs.Valid.{IsMachine}

@@ -1,11 +1,12 @@
 // The machine: registers, a program counter and a space, and one step of it.
 ghost use Rattle.std.specs.Prelude.{◌≡◌};
 ghost use Rattle.dt_rv64.specs.Words.{add, word_of};
-ghost use Rattle.dt_rv64.specs.Machine.{register, with_register, wrote, jumped, branched, passed, exec, answered, counted};
+ghost use Rattle.dt_rv64.specs.Effects.{register, with_register, wrote, jumped, branched, passed, answered, counted};
+ghost use Rattle.dt_rv64.specs.Machine.{exec};
 
 use crate::decoder::decode;
 use crate::signal::{SIGBUS, SIGSEGV};
-use dt_space::Space;
+use dt_space::{Near, Space};
 
 /// What a step came to. Only `Ran` changes the machine.
 #[derive(Clone, Copy, Debug, PartialEq, Eq)]
@@ -65,15 +66,22 @@ impl Machine {
     }
 
     /// Takes one step. At any answer but `Ran` the machine stays.
-    #[tactic(auto, unfolding(crate::specs::Machine::exec))]
     pub fn step(&mut self) -> Step
+        ensures { exec self.old ≡ record { step = result; machine = self.new } }
+    {
+        self.step_near(&mut Near::new(), &mut Near::new())
+    }
+
+    /// Takes one step, with hints where code and data stand. No answer depends on them.
+    #[tactic(auto, unfolding(crate::specs::Machine::exec))]
+    pub fn step_near(&mut self, code: &mut Near, data: &mut Near) -> Step
         ensures { exec self.old ≡ record { step = result; machine = self.new } }
     {
         if self.pc % 4 != 0 {
             return Step::Fault(SIGBUS);
         }
-        match self.space.fetch(self.pc) {
-            Ok(word) => self.execute(decode(word)),
+        match self.space.fetch_near(code, self.pc) {
+            Ok(word) => self.execute(decode(word), data),
             Err(_) => Step::Fault(SIGSEGV),
         }
     }
