@@ -12,8 +12,12 @@ mod guests;
 #[cfg(test)]
 mod images;
 #[cfg(test)]
+mod instructions;
+#[cfg(test)]
 mod memory;
 #[cfg(test)]
 mod programs;
+#[cfg(test)]
+mod vectors;
 #[cfg(test)]
 mod words;

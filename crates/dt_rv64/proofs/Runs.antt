@@ -3,9 +3,9 @@ use Rattle.std.proofs.Common.{◌≡◌, ℕ, zero, suc, ◌+◌, ◌-◌, ◌<�
 use Rattle.dt_base.specs.declared.limits.TheConstants.{SEGMENT_LIMIT}
 use Rattle.dt_rv64.specs.declared.machine.Machine.{Machine}
 use Rattle.dt_rv64.specs.declared.machine.Step.{Step}
-use Rattle.dt_rv64.specs.declared.machine.Step.TheVariants.{Ran, Call, Fault}
+use Rattle.dt_rv64.specs.declared.machine.Step.TheVariants.{Ran, Call, Counter, Fault}
 use Rattle.dt_rv64.specs.declared.segments.Stop.{Stop}
-use Rattle.dt_rv64.specs.declared.segments.Stop.TheVariants.{Call as StopCall, Slice, Fault as StopFault}
+use Rattle.dt_rv64.specs.declared.segments.Stop.TheVariants.{Call as StopCall, Counter as StopCounter, Slice, Fault as StopFault}
 use Rattle.dt_rv64.specs.Machine.{exec}
 use Rattle.dt_rv64.specs.Segment.{SegmentRun, go_on, run_steps, segment_of, after_steps, step_after, stop_at, IsSegment}
 
@@ -91,6 +91,7 @@ went_on left made m m' run is rest = record {
 by-step : (left made : ℕ) (m m' : Machine) (step : Step) → exec m ≡ record { step = step; machine = m' } → IsRest left (made + 1) m' (run_steps left (made + 1) m') → IsRest (suc left) made m (go_on step m' (made + 1) (run_steps left (made + 1)))
 by-step left made m m' Ran is rest = went_on left made m m' _ is rest
 by-step left made m m' Call is rest = stopped left made m m' Call StopCall is refl (λ clash. cc)
+by-step left made m m' (Counter rd) is rest = stopped left made m m' (Counter rd) (StopCounter rd) is refl (λ clash. cc)
 by-step left made m m' (Fault signal) is rest = stopped left made m m' (Fault signal) (StopFault signal) is refl (λ clash. cc)
 
 run-is : (left made : ℕ) (m : Machine) → IsRest left made m (run_steps left made m)

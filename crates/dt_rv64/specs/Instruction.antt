@@ -1,50 +1,74 @@
--- The instruction that a word is (RISC-V unprivileged specification, sections 2.2 to 2.8).
-use Rattle.std.specs.Prelude.{ℕ, ◌-◌, ◌*◌, ◌/◌, ◌%◌, ◌^◌, ℤ, pos, ◌-ℤ◌, ◌==◌, nat_lt, if◌then◌else◌}
+-- The instruction that a word is, by opcode (RISC-V unprivileged specification, "RV32/64G Instruction Set Listings": RV32I, RV64I, RV32M and RV64M, and Zicntr's counter reads). A word that stands in none of these lists is Unknown.
+use Rattle.std.specs.Prelude.{ℕ, ◌==◌, ◌&&◌, nat_le, if◌then◌else◌}
 use Rattle.dt_rv64.specs.declared.instruction.Instr.{Instr}
-use Rattle.dt_rv64.specs.declared.instruction.Instr.TheVariants.{Lui, Addi, Ecall, Ebreak, Unknown}
+use Rattle.dt_rv64.specs.declared.instruction.Instr.TheVariants.{Lui, Auipc, Jal, Jalr, Beq, Bne, Blt, Bge, Bltu, Bgeu, Lb, Lh, Lw, Ld, Lbu, Lhu, Lwu, Sb, Sh, Sw, Sd, Fence, Ecall, Ebreak, ReadCounter, Unknown}
+use Rattle.dt_rv64.specs.Formats.{opcode, rd, rs1, rs2, funct3, csr, i_immediate, s_immediate, b_immediate, u_immediate, j_immediate}
+use Rattle.dt_rv64.specs.Operations.{op_imm_of, op_of, op_imm_32_of, op_32_of}
 
--- n bits of a word, from bit lo on
-abbrev pub field : ℕ → ℕ → ℕ → ℕ
-field lo n word = word / 2 ^ lo % 2 ^ n
+-- JALR
+abbrev pub jalr_of : ℕ → Instr
+jalr_of word = if funct3 word == 0 then Jalr (rd word) (rs1 word) (i_immediate word) else Unknown
 
--- the signed number of n bits
-abbrev pub signed : ℕ → ℕ → ℤ
-signed n bits = if nat_lt bits (2 ^ (n - 1)) then pos bits else (pos bits -ℤ pos (2 ^ n))
+-- BRANCH
+abbrev pub branch_of : ℕ → Instr
+branch_of word =
+    if funct3 word == 0 then Beq (rs1 word) (rs2 word) (b_immediate word)
+    else if funct3 word == 1 then Bne (rs1 word) (rs2 word) (b_immediate word)
+    else if funct3 word == 4 then Blt (rs1 word) (rs2 word) (b_immediate word)
+    else if funct3 word == 5 then Bge (rs1 word) (rs2 word) (b_immediate word)
+    else if funct3 word == 6 then Bltu (rs1 word) (rs2 word) (b_immediate word)
+    else if funct3 word == 7 then Bgeu (rs1 word) (rs2 word) (b_immediate word)
+    else Unknown
 
-abbrev pub opcode : ℕ → ℕ
-opcode word = field 0 7 word
+-- LOAD
+abbrev pub load_of : ℕ → Instr
+load_of word =
+    if funct3 word == 0 then Lb (rd word) (rs1 word) (i_immediate word)
+    else if funct3 word == 1 then Lh (rd word) (rs1 word) (i_immediate word)
+    else if funct3 word == 2 then Lw (rd word) (rs1 word) (i_immediate word)
+    else if funct3 word == 3 then Ld (rd word) (rs1 word) (i_immediate word)
+    else if funct3 word == 4 then Lbu (rd word) (rs1 word) (i_immediate word)
+    else if funct3 word == 5 then Lhu (rd word) (rs1 word) (i_immediate word)
+    else if funct3 word == 6 then Lwu (rd word) (rs1 word) (i_immediate word)
+    else Unknown
 
--- the register that is written
-abbrev pub rd : ℕ → ℕ
-rd word = field 7 5 word
+-- STORE
+abbrev pub store_of : ℕ → Instr
+store_of word =
+    if funct3 word == 0 then Sb (rs1 word) (rs2 word) (s_immediate word)
+    else if funct3 word == 1 then Sh (rs1 word) (rs2 word) (s_immediate word)
+    else if funct3 word == 2 then Sw (rs1 word) (rs2 word) (s_immediate word)
+    else if funct3 word == 3 then Sd (rs1 word) (rs2 word) (s_immediate word)
+    else Unknown
 
--- the first register that is read
-abbrev pub rs1 : ℕ → ℕ
-rs1 word = field 15 5 word
+-- MISC-MEM: the other fields of FENCE are ignored
+abbrev pub misc_mem_of : ℕ → Instr
+misc_mem_of word = if funct3 word == 0 then Fence else Unknown
 
-abbrev pub funct3 : ℕ → ℕ
-funct3 word = field 12 3 word
+-- CSRRS with x0, of cycle, time or instret
+abbrev pub read_counter_of : ℕ → Instr
+read_counter_of word =
+    if (funct3 word == 2) && (rs1 word == 0) && nat_le 0xC00 (csr word) && nat_le (csr word) 0xC02 then ReadCounter (rd word) (csr word)
+    else Unknown
 
--- the immediate of bits 31 to 20
-abbrev pub i_immediate : ℕ → ℤ
-i_immediate word = signed 12 (field 20 12 word)
-
--- the immediate of bits 31 to 12, and twelve zeros below
-abbrev pub u_immediate : ℕ → ℤ
-u_immediate word = signed 32 (field 12 20 word * 2 ^ 12)
-
--- a register and an immediate, by funct3
-abbrev pub op_imm_of : ℕ → Instr
-op_imm_of word = if funct3 word == 0 then Addi (rd word) (rs1 word) (i_immediate word) else Unknown
-
--- the two words that the system opcode has
+-- SYSTEM
 abbrev pub system_of : ℕ → Instr
-system_of word = if word == 0x73 then Ecall else if word == 0x100073 then Ebreak else Unknown
+system_of word = if word == 0x00000073 then Ecall else if word == 0x00100073 then Ebreak else read_counter_of word
 
 -- the instruction of a word, by its opcode
-abbrev pub instr : ℕ → Instr
+unfoldable pub instr : ℕ → Instr
 instr word =
     if opcode word == 0x37 then Lui (rd word) (u_immediate word)
+    else if opcode word == 0x17 then Auipc (rd word) (u_immediate word)
+    else if opcode word == 0x6F then Jal (rd word) (j_immediate word)
+    else if opcode word == 0x67 then jalr_of word
+    else if opcode word == 0x63 then branch_of word
+    else if opcode word == 0x03 then load_of word
+    else if opcode word == 0x23 then store_of word
     else if opcode word == 0x13 then op_imm_of word
+    else if opcode word == 0x33 then op_of word
+    else if opcode word == 0x1B then op_imm_32_of word
+    else if opcode word == 0x3B then op_32_of word
+    else if opcode word == 0x0F then misc_mem_of word
     else if opcode word == 0x73 then system_of word
     else Unknown

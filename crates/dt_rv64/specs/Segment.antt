@@ -3,9 +3,9 @@ use Rattle.std.specs.Prelude.{◌≡◌, ℕ, zero, suc, ◌+◌, ◌-◌, ◌<�
 use Rattle.dt_base.specs.declared.limits.TheConstants.{SEGMENT_LIMIT}
 use Rattle.dt_rv64.specs.declared.machine.Machine.{Machine}
 use Rattle.dt_rv64.specs.declared.machine.Step.{Step}
-use Rattle.dt_rv64.specs.declared.machine.Step.TheVariants.{Ran, Call, Fault}
+use Rattle.dt_rv64.specs.declared.machine.Step.TheVariants.{Ran, Call, Counter, Fault}
 use Rattle.dt_rv64.specs.declared.segments.Stop.{Stop}
-use Rattle.dt_rv64.specs.declared.segments.Stop.TheVariants.{Call as StopCall, Slice, Fault as StopFault}
+use Rattle.dt_rv64.specs.declared.segments.Stop.TheVariants.{Call as StopCall, Counter as StopCounter, Slice, Fault as StopFault}
 use Rattle.dt_rv64.specs.Machine.{exec}
 
 -- how many steps, the stopping one included, why it stopped, and the machine then
@@ -18,6 +18,7 @@ pub record SegmentRun : Type 0 where
 abbrev pub go_on : Step → Machine → ℕ → (Machine → SegmentRun) → SegmentRun
 go_on Ran m made rest = rest m
 go_on Call m made rest = record { count = made; stop = StopCall; machine = m }
+go_on (Counter rd) m made rest = record { count = made; stop = StopCounter rd; machine = m }
 go_on (Fault signal) m made rest = record { count = made; stop = StopFault signal; machine = m }
 
 -- so many steps at most, after those made
@@ -38,6 +39,7 @@ after_steps (suc n) m = let next = exec m in after_steps n next.machine
 abbrev pub stop_at : Step → Stop
 stop_at Ran = Slice
 stop_at Call = StopCall
+stop_at (Counter rd) = StopCounter rd
 stop_at (Fault signal) = StopFault signal
 
 -- what a step comes to, after so many others

@@ -1,21 +1,12 @@
 // The machine: registers, a program counter and a space, and one step of it.
 ghost use Rattle.std.specs.Prelude.{◌≡◌};
-ghost use Rattle.dt_rv64.specs.Machine.{register, with_register, executed, exec, answered};
+ghost use Rattle.dt_rv64.specs.Words.{add, word_of};
+ghost use Rattle.dt_rv64.specs.Effects.{register, with_register, wrote, jumped, branched, passed, answered, counted};
+ghost use Rattle.dt_rv64.specs.Machine.{exec};
 
-use crate::instruction::{Instr, decode};
-use dt_space::Space;
-
-/// The signal of a word that is no instruction (Linux's numbers).
-pub const SIGILL: u8 = 4;
-
-/// The signal of a breakpoint.
-pub const SIGTRAP: u8 = 5;
-
-/// The signal of a misplaced program counter.
-pub const SIGBUS: u8 = 7;
-
-/// The signal of an access without the right.
-pub const SIGSEGV: u8 = 11;
+use crate::decoder::decode;
+use crate::signal::{SIGBUS, SIGSEGV};
+use dt_space::{Near, Space};
 
 /// What a step came to. Only `Ran` changes the machine.
 #[derive(Clone, Copy, Debug, PartialEq, Eq)]
@@ -24,6 +15,8 @@ pub enum Step {
     Ran,
     /// A system call is to be served.
     Call,
+    /// A counter is to be read into this register.
+    Counter(u8),
     /// A signal of this number.
     Fault(u8),
 }
@@ -64,35 +57,72 @@ impl Machine {
         self.pc = self.pc.wrapping_add(4);
     }
 
+    /// Ends the read of a counter: its value in the register, and on to the next instruction.
+    pub fn read_counter(&mut self, rd: u8, value: u64)
+        ensures { self.new ≡ counted self.old rd value }
+    {
+        self.set_reg(rd, value);
+        self.pc = self.pc.wrapping_add(4);
+    }
+
     /// Takes one step. At any answer but `Ran` the machine stays.
-    #[tactic(auto, unfolding(crate::specs::Machine::exec))]
     pub fn step(&mut self) -> Step
+        ensures { exec self.old ≡ record { step = result; machine = self.new } }
+    {
+        self.step_near(&mut Near::new(), &mut Near::new())
+    }
+
+    /// Takes one step, with hints where code and data stand. No answer depends on them.
+    #[tactic(auto, unfolding(crate::specs::Machine::exec))]
+    pub fn step_near(&mut self, code: &mut Near, data: &mut Near) -> Step
         ensures { exec self.old ≡ record { step = result; machine = self.new } }
     {
         if self.pc % 4 != 0 {
             return Step::Fault(SIGBUS);
         }
-        match self.space.fetch(self.pc) {
-            Ok(word) => self.execute(decode(word)),
+        match self.space.fetch_near(code, self.pc) {
+            Ok(word) => self.execute(decode(word), data),
             Err(_) => Step::Fault(SIGSEGV),
         }
     }
 
-    // Carries out an instruction.
-    #[tactic(auto, unfolding(crate::specs::Machine::executed))]
-    fn execute(&mut self, instruction: Instr) -> Step
-        ensures { executed self.old instruction ≡ record { step = result; machine = self.new } }
+    // On to the next instruction.
+    pub(crate) fn advance(&mut self) -> Step
+        ensures { passed self.old ≡ record { step = result; machine = self.new } }
     {
-        match instruction {
-            Instr::Lui { rd, immediate } => self.set_reg(rd, immediate.cast_unsigned()),
-            Instr::Addi { rd, rs1, immediate } => {
-                self.set_reg(rd, self.reg(rs1).wrapping_add_signed(immediate))
-            }
-            Instr::Ecall => return Step::Call,
-            Instr::Ebreak => return Step::Fault(SIGTRAP),
-            Instr::Unknown => return Step::Fault(SIGILL),
-        }
         self.pc = self.pc.wrapping_add(4);
         Step::Ran
+    }
+
+    // Writes a register.
+    pub(crate) fn put(&mut self, rd: u8, value: u64) -> Step
+        ensures { wrote self.old rd value ≡ record { step = result; machine = self.new } }
+    {
+        self.set_reg(rd, value);
+        self.pc = self.pc.wrapping_add(4);
+        Step::Ran
+    }
+
+    // Jumps, and keeps the address after the jump.
+    pub(crate) fn jump(&mut self, rd: u8, target: u64) -> Step
+        ensures { jumped self.old rd target ≡ record { step = result; machine = self.new } }
+    {
+        if target % 4 != 0 {
+            return Step::Fault(SIGBUS);
+        }
+        self.set_reg(rd, self.pc.wrapping_add(4));
+        self.pc = target;
+        Step::Ran
+    }
+
+    // Jumps by an offset where the branch is taken.
+    pub(crate) fn branch(&mut self, taken: bool, offset: i64) -> Step
+        ensures { branched self.old taken (add self.old.pc (word_of offset)) ≡ record { step = result; machine = self.new } }
+    {
+        if taken {
+            self.jump(0, self.pc.wrapping_add_signed(offset))
+        } else {
+            self.advance()
+        }
     }
 }

@@ -5,7 +5,7 @@ use Rattle.dt_rv64.specs.Valid.{IsMachine}
 use Rattle.dt_rv64.proofs.Kept.{segment-keeps}
 use Rattle.dt_rv64.proofs.Runs.{segment-is, run-step, run-end, segment-starts}
 use Rattle.dt_rv64.proofs.segments.segment.Goals as goal
-use Rattle.dt_rv64.proofs.segments.segment.Goals.{in-Call, in-Fault}
+use Rattle.dt_rv64.proofs.segments.segment.Goals.{in-Call, in-Counter, in-Fault}
 
 pub loop-made-init : goal.loop-made-init
 loop-made-init c = segment-starts _
@@ -16,8 +16,9 @@ loop-made-preserved c = c.loop-made.invariant ∙ run-step (SEGMENT_LIMIT - c.lo
 
 -- any other step is the last
 pub returns-in-loop-made-clause-run : goal.returns-in-loop-made-clause-run
-returns-in-loop-made-clause-run c = elim c.match-step.branch [
+returns-in-loop-made-clause-run c = elim c.match-step_near.branch [
   | in-Call w ↦ rw w.stop-is (c.loop-made.invariant ∙ run-step (SEGMENT_LIMIT - c.loop-made.made) (SEGMENT_LIMIT - (c.loop-made.made + 1)) c.loop-made.made _ _ _ (omega arith) w.in-Call.ensures)
+  | in-Counter w ↦ rw w.stop-is (c.loop-made.invariant ∙ run-step (SEGMENT_LIMIT - c.loop-made.made) (SEGMENT_LIMIT - (c.loop-made.made + 1)) c.loop-made.made _ _ _ (omega arith) w.in-Counter.ensures)
   | in-Fault w ↦ rw w.stop-is (c.loop-made.invariant ∙ run-step (SEGMENT_LIMIT - c.loop-made.made) (SEGMENT_LIMIT - (c.loop-made.made + 1)) c.loop-made.made _ _ _ (omega arith) w.in-Fault.ensures)
 ]
 

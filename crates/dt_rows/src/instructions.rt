@@ -1,0 +1,55 @@
+// Each instruction on edge values, against what qemu-riscv64 makes of it.
+use crate::vectors::TABLE;
+use dt_rv64::{Machine, Step};
+use dt_space::Space;
+use std::alloc::Global;
+use std::test::Fail;
+
+// Where the word stands, and where the data.
+const CODE: u64 = 0x1_0000;
+
+const DATA: u64 = 0x1_2000;
+
+// What lies at the data before a store.
+const BACKGROUND: u64 = 0x1122_3344_5566_7788;
+
+#[test]
+fn each_vector_is_met(rt: HostRuntime) -> Result<(), Fail> {
+    for (word, a, b, expected) in TABLE.iter() {
+        let mut machine = before(rt.alloc(), *word, *a, *b)?;
+        assert_eq!(rt; machine.step(), Step::Ran);
+        assert_eq!(rt;
+            (*word, *a, *b, outcome(&machine, *word)?),
+            (*word, *a, *b, *expected)
+        );
+    }
+    Ok(())
+}
+
+// A machine that is about to carry out a word.
+fn before(alloc: Global, word: u32, a: u64, b: u64) -> Result<Machine, Fail> {
+    let mut space = Space::new(alloc).with_pages(alloc, 16, 4, 7, &word.to_le_bytes())?;
+    let mut regs = [0; 32];
+    regs[10] = match word & 0x7f {
+        0x03 | 0x23 => a.wrapping_add(DATA),
+        0x67 => a.wrapping_add(CODE),
+        _ => a,
+    };
+    regs[11] = b;
+    space.store8(DATA, if word & 0x7f == 0x03 { b } else { BACKGROUND })?;
+    Ok(Machine {
+        regs,
+        pc: CODE,
+        space,
+    })
+}
+
+// What the word did, by its opcode.
+fn outcome(machine: &Machine, word: u32) -> Result<u64, Fail> {
+    match word & 0x7f {
+        0x63 | 0x67 | 0x6f => Ok(machine.pc.wrapping_sub(CODE)),
+        0x23 => Ok(machine.space.load8(DATA)?),
+        0x17 => Ok(machine.reg(12).wrapping_sub(CODE)),
+        _ => Ok(machine.reg(12)),
+    }
+}
