@@ -9,3 +9,5 @@ pub mod Adding
 pub mod File
 pub mod Load
 pub mod Sized
+pub mod Guests
+pub mod Accepted

@@ -4,6 +4,7 @@ ghost use Rattle.dt_asm.specs.declared.item.Item.TheVariants.{Code, Branch, Jump
 ghost use Rattle.dt_asm.specs.Item.{total, with_items};
 ghost use Rattle.dt_asm.specs.Refusal.{refusal_of};
 ghost use Rattle.dt_asm.specs.File.{IsFileOf, Refuses};
+ghost use Rattle.dt_asm.specs.Accepted.{IsAccepted};
 ghost use Rattle.dt_asm.specs.Load.{loading};
 ghost use Rattle.dt_rv64.specs.declared.instruction.Instr.TheVariants.{Ecall};
 ghost use Rattle.dt_asm.specs.Sized.{IsGrown};
@@ -137,7 +138,8 @@ impl Guest {
     /// The ELF file: one segment of all of it at 0x10000, entered behind the headers.
     pub fn elf(&self) -> Result<Vec<u8>, AsmErr>
         ensures file { IfOk result (λ file. IsFileOf self.now file.items) }
-        ensures accepted { OnOk result (refusal_of self.now.items ≡ None) }
+        ensures accepted { IfOk result (λ file. IsAccepted file.items) }
+        ensures sound { OnOk result (refusal_of self.now.items ≡ None) }
         ensures refused { IfErr result (Refuses self.now.items) }
     {
         if any_lost(&self.items) {

@@ -1,5 +1,5 @@
 // The headers of a guest's file.
-ghost use Rattle.std.specs.Prelude.{◌≡◌, ◌++◌, IfOk, OnOk, flat_map};
+ghost use Rattle.std.specs.Prelude.{◌≡◌, ◌++◌, ◌<◌, ◌^◌, IfOk, IfSome, OnOk, flat_map};
 ghost use Rattle.dt_base.specs.Fields.{low_bytes};
 ghost use Rattle.dt_asm.specs.Header.{file_header, program_header};
 ghost use Rattle.dt_asm.specs.File.{segment_header};
@@ -36,7 +36,8 @@ const FILE_HEADER: [u8; 64] = [
 
 // The headers of a file of this size, all of which is loaded.
 pub fn headers(alloc: Global, size: u64, memory: Option<u32>) -> Result<Vec<u8>, NoMemory>
-    ensures { IfOk result (λ bytes. bytes.items ≡ file_header ++ segment_header memory size) }
+    ensures bytes { IfOk result (λ bytes. bytes.items ≡ file_header ++ segment_header memory size) }
+    ensures few { IfSome memory (λ memory. memory < 2 ^ 32) }
 {
     let mut bytes = Vec::from_slice(alloc, &FILE_HEADER)?;
     match memory {
