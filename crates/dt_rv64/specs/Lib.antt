@@ -3,6 +3,7 @@ pub mod Operations
 pub mod Instruction
 pub mod Words
 pub mod Multiply
+pub mod Effects
 pub mod Machine
 pub mod Segment
 pub mod Valid

@@ -1,6 +1,6 @@
 // One instruction carried out, by class.
-ghost use Rattle.std.specs.Prelude.{◌≡◌, ◌-◌, ◌%◌};
-ghost use Rattle.dt_rv64.specs.Classes.{IsAccess, IsImmediate, IsRegister, IsMultiply};
+ghost use Rattle.std.specs.Prelude.{◌≡◌};
+ghost use Rattle.dt_rv64.specs.Classes.{IsBranch, IsLoad, IsStore, IsImmediate, IsRegister, IsWord, IsMultiply, IsMultiplyWord};
 ghost use Rattle.dt_rv64.specs.Machine.{executed};
 
 use crate::instruction::Instr;
@@ -16,19 +16,33 @@ use crate::words::{
     add_32, left, left_32, less, less_unsigned, right, right_32, right_signed, right_signed_32,
     subtract_32,
 };
+use dt_space::Near;
 
 impl Machine {
-    // Carries out an instruction.
+    // Carries out an instruction: here jumps and stops, and each class below hands on what is not its own.
     #[tactic(auto, unfolding(crate::specs::Machine::executed))]
-    pub(crate) fn execute(&mut self, instruction: Instr) -> Step
+    pub(crate) fn execute(&mut self, instruction: Instr, data: &mut Near) -> Step
         ensures { executed self.old instruction ≡ record { step = result; machine = self.new } }
     {
         match instruction {
             Instr::Jal { rd, immediate } => self.jump(rd, self.pc.wrapping_add_signed(immediate)),
-            Instr::Jalr { rd, rs1, immediate } => self.jump(
-                rd,
-                even(self.reg(rs1).wrapping_add_signed(immediate)),
-            ),
+            Instr::Jalr { rd, rs1, immediate } => self.jump_register(rd, rs1, immediate),
+            Instr::Fence => self.advance(),
+            Instr::Ecall => Step::Call,
+            Instr::Ebreak => Step::Fault(SIGTRAP),
+            Instr::ReadCounter { rd, counter: _ } => Step::Counter(rd),
+            Instr::Unknown => Step::Fault(SIGILL),
+            _ => self.branch_where(instruction, data),
+        }
+    }
+
+    // Branches.
+    #[tactic(auto, unfolding(crate::specs::Machine::executed))]
+    fn branch_where(&mut self, instruction: Instr, data: &mut Near) -> Step
+        requires { IsBranch instruction }
+        ensures { executed self.old instruction ≡ record { step = result; machine = self.new } }
+    {
+        match instruction {
             Instr::Beq {
                 rs1,
                 rs2,
@@ -65,70 +79,76 @@ impl Machine {
                 rs2,
                 immediate,
             } => self.branch(self.reg(rs1) >= self.reg(rs2), immediate),
-            Instr::Fence => self.advance(),
-            Instr::Ecall => Step::Call,
-            Instr::Ebreak => Step::Fault(SIGTRAP),
-            Instr::ReadCounter { rd, counter: _ } => Step::Counter(rd),
-            Instr::Unknown => Step::Fault(SIGILL),
-            _ => self.access(instruction),
+            _ => self.load(instruction, data),
         }
     }
 
-    // Loads and stores.
+    // Loads.
     #[tactic(auto, unfolding(crate::specs::Machine::executed))]
-    fn access(&mut self, instruction: Instr) -> Step
-        requires { IsAccess instruction }
+    fn load(&mut self, instruction: Instr, data: &mut Near) -> Step
+        requires { IsLoad instruction }
         ensures { executed self.old instruction ≡ record { step = result; machine = self.new } }
     {
         match instruction {
             Instr::Lb { rd, rs1, immediate } => {
-                let read = self.space.load1(self.address(rs1, immediate));
+                let read = self.space.load1_near(data, self.address(rs1, immediate));
                 self.fill(rd, signed_8(read))
             }
             Instr::Lh { rd, rs1, immediate } => {
-                let read = self.space.load2(self.address(rs1, immediate));
+                let read = self.space.load2_near(data, self.address(rs1, immediate));
                 self.fill(rd, signed_16(read))
             }
             Instr::Lw { rd, rs1, immediate } => {
-                let read = self.space.load4(self.address(rs1, immediate));
+                let read = self.space.load4_near(data, self.address(rs1, immediate));
                 self.fill(rd, signed_32(read))
             }
             Instr::Ld { rd, rs1, immediate } => {
-                let read = self.space.load8(self.address(rs1, immediate));
+                let read = self.space.load8_near(data, self.address(rs1, immediate));
                 self.fill(rd, read)
             }
             Instr::Lbu { rd, rs1, immediate } => {
-                let read = self.space.load1(self.address(rs1, immediate));
+                let read = self.space.load1_near(data, self.address(rs1, immediate));
                 self.fill(rd, read)
             }
             Instr::Lhu { rd, rs1, immediate } => {
-                let read = self.space.load2(self.address(rs1, immediate));
+                let read = self.space.load2_near(data, self.address(rs1, immediate));
                 self.fill(rd, read)
             }
             Instr::Lwu { rd, rs1, immediate } => {
-                let read = self.space.load4(self.address(rs1, immediate));
+                let read = self.space.load4_near(data, self.address(rs1, immediate));
                 self.fill(rd, read)
             }
+            _ => self.store(instruction, data),
+        }
+    }
+
+    // Stores.
+    #[tactic(auto, unfolding(crate::specs::Machine::executed))]
+    fn store(&mut self, instruction: Instr, data: &mut Near) -> Step
+        requires { IsStore instruction }
+        ensures { executed self.old instruction ≡ record { step = result; machine = self.new } }
+    {
+        match instruction {
             Instr::Sb {
                 rs1,
                 rs2,
                 immediate,
-            } => self.store_1(self.address(rs1, immediate), self.reg(rs2)),
+            } => self.store_1(data, self.address(rs1, immediate), self.reg(rs2)),
             Instr::Sh {
                 rs1,
                 rs2,
                 immediate,
-            } => self.store_2(self.address(rs1, immediate), self.reg(rs2)),
+            } => self.store_2(data, self.address(rs1, immediate), self.reg(rs2)),
             Instr::Sw {
                 rs1,
                 rs2,
                 immediate,
-            } => self.store_4(self.address(rs1, immediate), self.reg(rs2)),
+            } => self.store_4(data, self.address(rs1, immediate), self.reg(rs2)),
             Instr::Sd {
                 rs1,
                 rs2,
                 immediate,
-            } => self.store_8(self.address(rs1, immediate), self.reg(rs2)),
+            } => self.store_8(data, self.address(rs1, immediate), self.reg(rs2)),
             _ => self.compute_immediate(instruction),
         }
     }
@@ -172,22 +192,6 @@ impl Machine {
                 rd,
                 right_signed(self.reg(rs1), u64::from(shift)),
             ),
-            Instr::Addiw { rd, rs1, immediate } => self.put(
-                rd,
-                add_32(self.reg(rs1), immediate.cast_unsigned()),
-            ),
-            Instr::Slliw { rd, rs1, shift } => self.put(
-                rd,
-                left_32(self.reg(rs1), u64::from(shift)),
-            ),
-            Instr::Srliw { rd, rs1, shift } => self.put(
-                rd,
-                right_32(self.reg(rs1), u64::from(shift)),
-            ),
-            Instr::Sraiw { rd, rs1, shift } => self.put(
-                rd,
-                right_signed_32(self.reg(rs1), u64::from(shift)),
-            ),
             _ => self.compute(instruction),
         }
     }
@@ -212,6 +216,33 @@ impl Machine {
             Instr::Sra { rd, rs1, rs2 } => self.put(rd, right_signed(self.reg(rs1), self.reg(rs2))),
             Instr::Or { rd, rs1, rs2 } => self.put(rd, self.reg(rs1) | self.reg(rs2)),
             Instr::And { rd, rs1, rs2 } => self.put(rd, self.reg(rs1) & self.reg(rs2)),
+            _ => self.compute_32(instruction),
+        }
+    }
+
+    // Computes 32 bits.
+    #[tactic(auto, unfolding(crate::specs::Machine::executed))]
+    fn compute_32(&mut self, instruction: Instr) -> Step
+        requires { IsWord instruction }
+        ensures { executed self.old instruction ≡ record { step = result; machine = self.new } }
+    {
+        match instruction {
+            Instr::Addiw { rd, rs1, immediate } => self.put(
+                rd,
+                add_32(self.reg(rs1), immediate.cast_unsigned()),
+            ),
+            Instr::Slliw { rd, rs1, shift } => self.put(
+                rd,
+                left_32(self.reg(rs1), u64::from(shift)),
+            ),
+            Instr::Srliw { rd, rs1, shift } => self.put(
+                rd,
+                right_32(self.reg(rs1), u64::from(shift)),
+            ),
+            Instr::Sraiw { rd, rs1, shift } => self.put(
+                rd,
+                right_signed_32(self.reg(rs1), u64::from(shift)),
+            ),
             Instr::Addw { rd, rs1, rs2 } => self.put(rd, add_32(self.reg(rs1), self.reg(rs2))),
             Instr::Subw { rd, rs1, rs2 } => self.put(rd, subtract_32(self.reg(rs1), self.reg(rs2))),
             Instr::Sllw { rd, rs1, rs2 } => self.put(rd, left_32(self.reg(rs1), self.reg(rs2))),
@@ -254,6 +285,17 @@ impl Machine {
                 rd,
                 remainder_unsigned(self.reg(rs1), self.reg(rs2)),
             ),
+            _ => self.multiply_word(instruction),
+        }
+    }
+
+    // Multiplies and divides 32 bits.
+    #[tactic(auto, unfolding(crate::specs::Machine::executed))]
+    fn multiply_word(&mut self, instruction: Instr) -> Step
+        requires { IsMultiplyWord instruction }
+        ensures { executed self.old instruction ≡ record { step = result; machine = self.new } }
+    {
+        match instruction {
             Instr::Mulw { rd, rs1, rs2 } => self.put(rd, multiply_32(self.reg(rs1), self.reg(rs2))),
             Instr::Divw { rd, rs1, rs2 } => self.put(rd, divide_32(self.reg(rs1), self.reg(rs2))),
             Instr::Divuw { rd, rs1, rs2 } => self.put(
@@ -271,11 +313,4 @@ impl Machine {
             _ => unreachable!(),
         }
     }
-}
-
-// A number with bit 0 cleared.
-fn even(address: u64) -> u64
-    ensures { result ≡ address - address % 2 }
-{
-    address & !1
 }

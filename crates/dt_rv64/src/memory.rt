@@ -1,11 +1,11 @@
 // Loads and stores.
 ghost use Rattle.std.specs.Prelude.{◌≡◌};
-ghost use Rattle.dt_rv64.specs.Machine.{address, extended_read, filled, put_at};
+ghost use Rattle.dt_rv64.specs.Effects.{address, extended_read, filled, put_at};
 
 use crate::machine::{Machine, Step};
 use crate::signal::SIGSEGV;
 use crate::words::{extended_8, extended_16, extended_32};
-use dt_space::Miss;
+use dt_space::{Miss, Near};
 
 impl Machine {
     // The address of a load or a store.
@@ -26,40 +26,40 @@ impl Machine {
     }
 
     // Stores a byte.
-    pub(crate) fn store_1(&mut self, address: u64, value: u64) -> Step
+    pub(crate) fn store_1(&mut self, data: &mut Near, address: u64, value: u64) -> Step
         ensures { put_at self.old address 1 value ≡ record { step = result; machine = self.new } }
     {
-        match self.space.store1(address, value) {
+        match self.space.store1_near(data, address, value) {
             Ok(()) => self.advance(),
             Err(_) => Step::Fault(SIGSEGV),
         }
     }
 
     // Stores two bytes.
-    pub(crate) fn store_2(&mut self, address: u64, value: u64) -> Step
+    pub(crate) fn store_2(&mut self, data: &mut Near, address: u64, value: u64) -> Step
         ensures { put_at self.old address 2 value ≡ record { step = result; machine = self.new } }
     {
-        match self.space.store2(address, value) {
+        match self.space.store2_near(data, address, value) {
             Ok(()) => self.advance(),
             Err(_) => Step::Fault(SIGSEGV),
         }
     }
 
     // Stores four bytes.
-    pub(crate) fn store_4(&mut self, address: u64, value: u64) -> Step
+    pub(crate) fn store_4(&mut self, data: &mut Near, address: u64, value: u64) -> Step
         ensures { put_at self.old address 4 value ≡ record { step = result; machine = self.new } }
     {
-        match self.space.store4(address, value) {
+        match self.space.store4_near(data, address, value) {
             Ok(()) => self.advance(),
             Err(_) => Step::Fault(SIGSEGV),
         }
     }
 
     // Stores eight bytes.
-    pub(crate) fn store_8(&mut self, address: u64, value: u64) -> Step
+    pub(crate) fn store_8(&mut self, data: &mut Near, address: u64, value: u64) -> Step
         ensures { put_at self.old address 8 value ≡ record { step = result; machine = self.new } }
     {
-        match self.space.store8(address, value) {
+        match self.space.store8_near(data, address, value) {
             Ok(()) => self.advance(),
             Err(_) => Step::Fault(SIGSEGV),
         }

@@ -5,6 +5,9 @@ ghost use Rattle.dt_rv64.specs.Multiply.{wide, mulh, mulhsu, mulhu, div, divu, r
 
 use crate::words::{extended_32, low_32};
 
+// The quotient by zero: all ones.
+const BY_ZERO: u64 = u64::MAX;
+
 // A word sign-extended to 128 bits.
 fn widened(a: u64) -> u128
     ensures { result ≡ wide a }
@@ -20,6 +23,7 @@ fn upper_half(product: u128) -> u64
 }
 
 // The upper half of the product, both signed.
+#[tactic(auto, using(crate::proofs::Products::high_products))]
 pub fn multiply_high(a: u64, b: u64) -> u64
     ensures { result ≡ mulh a b }
 {
@@ -27,6 +31,7 @@ pub fn multiply_high(a: u64, b: u64) -> u64
 }
 
 // The upper half of the product, the first signed.
+#[tactic(auto, using(crate::proofs::Products::high_products))]
 pub fn multiply_high_mixed(a: u64, b: u64) -> u64
     ensures { result ≡ mulhsu a b }
 {
@@ -45,7 +50,7 @@ pub fn divide(a: u64, b: u64) -> u64
     ensures { result ≡ div a b }
 {
     match b {
-        0 => u64::MAX,
+        0 => BY_ZERO,
         _ => a
             .cast_signed()
             .wrapping_div(b.cast_signed())
@@ -58,7 +63,7 @@ pub fn divide_unsigned(a: u64, b: u64) -> u64
     ensures { result ≡ divu a b }
 {
     match b {
-        0 => u64::MAX,
+        0 => BY_ZERO,
         _ => a / b,
     }
 }
@@ -98,7 +103,7 @@ pub fn divide_32(a: u64, b: u64) -> u64
     ensures { result ≡ divw a b }
 {
     match low_32(b) {
-        0 => u64::MAX,
+        0 => BY_ZERO,
         divisor => extended_32(u64::from(quotient_32(low_32(a), divisor))),
     }
 }
@@ -118,7 +123,7 @@ pub fn divide_unsigned_32(a: u64, b: u64) -> u64
     ensures { result ≡ divuw a b }
 {
     match low_32(b) {
-        0 => u64::MAX,
+        0 => BY_ZERO,
         divisor => extended_32(u64::from(low_32(a) / divisor)),
     }
 }

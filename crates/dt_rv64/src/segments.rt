@@ -5,6 +5,7 @@ ghost use Rattle.dt_rv64.specs.Segment.{segment_of, IsSegment};
 
 use crate::machine::{Machine, Step};
 use dt_base::{NoMemory, SEGMENT_LIMIT};
+use dt_space::Near;
 
 /// Why a segment stopped.
 #[derive(Clone, Copy, Debug, PartialEq, Eq)]
@@ -34,8 +35,9 @@ pub fn segment(machine: &mut Machine) -> Result<Seg, NoMemory>
     ensures least { IfOk result (λ seg. 1 ≤ seg.count) }
     ensures most { IfOk result (λ seg. seg.count ≤ SEGMENT_LIMIT) }
 {
+    let (mut code, mut data) = (Near::new(), Near::new());
     for made in 0..SEGMENT_LIMIT {
-        let stop = match machine.step() {
+        let stop = match machine.step_near(&mut code, &mut data) {
             Step::Ran => continue,
             Step::Call => Stop::Call,
             Step::Counter(rd) => Stop::Counter(rd),
