@@ -1,6 +1,6 @@
 // Each instruction on edge values, against what qemu-riscv64 makes of it.
 use crate::vectors::TABLE;
-use dt_rv64::{Machine, Step};
+use dt_rv64::{Instr, Machine, Step, decode};
 use dt_space::Space;
 use std::alloc::Global;
 use std::test::Fail;
@@ -23,6 +23,60 @@ fn each_vector_is_met(rt: HostRuntime) -> Result<(), Fail> {
             (*word, *a, *b, *expected)
         );
     }
+    Ok(())
+}
+
+#[test]
+fn counters_are_read_by_x0_alone(rt: HostRuntime) -> Result<(), Fail> {
+    assert!(rt;
+        matches!(
+            decode(0xc000_2573),
+            Instr::ReadCounter {
+                rd: 10,
+                counter: 0xc00
+            }
+        )
+    );
+    assert!(rt;
+        matches!(
+            decode(0xc020_2073),
+            Instr::ReadCounter {
+                rd: 0,
+                counter: 0xc02
+            }
+        )
+    );
+    assert!(rt; matches!(decode(0xc000_a573), Instr::Unknown));
+    assert!(rt; matches!(decode(0xc030_2573), Instr::Unknown));
+    assert!(rt; matches!(decode(0xc000_1573), Instr::Unknown));
+    Ok(())
+}
+
+#[test]
+fn words_without_a_row_are_unknown(rt: HostRuntime) -> Result<(), Fail> {
+    for word in [
+        0,
+        0xffff_ffff,
+        0x0000_100f,
+        0x0020_0073,
+        0x0000_00f3,
+        0x0000_1067,
+        0x0000_2063,
+        0x0000_7003,
+        0x0000_4023,
+        0x4000_1013,
+        0x0400_101b,
+        0x4200_501b,
+        0x4000_1033,
+        0x0600_0033,
+        0x0200_103b,
+        0x4000_403b,
+        0x0000_202f,
+    ] {
+        assert!(rt; matches!(decode(word), Instr::Unknown));
+    }
+    assert!(rt; matches!(decode(0x0ff0_000f), Instr::Fence));
+    assert!(rt; matches!(decode(0xffff_8f8f), Instr::Fence));
     Ok(())
 }
 

@@ -7,7 +7,7 @@ use Rattle.dt_base.specs.declared.event.Verdict.{Verdict}
 use Rattle.dt_base.specs.declared.event.Verdict.TheVariants.{Budget}
 use Rattle.dt_rv64.specs.declared.machine.Machine.{Machine}
 use Rattle.dt_rv64.specs.declared.machine.Step.{Step}
-use Rattle.dt_rv64.specs.declared.machine.Step.TheVariants.{Ran as StepRan, Call, Fault}
+use Rattle.dt_rv64.specs.declared.machine.Step.TheVariants.{Ran as StepRan, Call, Counter, Fault}
 use Rattle.dt_rv64.specs.declared.segments.Seg.{Seg}
 use Rattle.dt_run.specs.declared.process.Phase.{Phase}
 use Rattle.dt_run.specs.declared.process.Phase.TheVariants.{Owes, Ran, Zombie}
@@ -28,6 +28,7 @@ use Rattle.dt_rv64.proofs.Runs.{run-step, segment-starts}
 step_on-least : (step : Step) (m : Machine) (made bound : ℕ) (rest : Machine → SegmentRun) → bound ≤ made → ((m : Machine) → bound ≤ (rest m).count) → bound ≤ (step_on step m made rest).count
 step_on-least StepRan m made bound rest h further = further m
 step_on-least Call m made bound rest h further = h
+step_on-least (Counter rd) m made bound rest h further = h
 step_on-least (Fault signal) m made bound rest h further = h
 
 run_steps-least : (left made bound : ℕ) (m : Machine) → bound ≤ made → bound ≤ (run_steps left made m).count

@@ -7,7 +7,7 @@ use Rattle.dt_base.specs.declared.event.Event.{Event}
 use Rattle.dt_base.specs.declared.event.Event.TheVariants.{Out}
 use Rattle.dt_base.specs.declared.image.Entry.{Entry}
 use Rattle.dt_rv64.specs.declared.machine.Machine.{Machine}
-use Rattle.dt_rv64.specs.Machine.{register, answered}
+use Rattle.dt_rv64.specs.Effects.{register, answered}
 use Rattle.dt_space.specs.declared.access.Miss.{Miss}
 use Rattle.dt_space.specs.declared.access.TheConstants.{READ}
 use Rattle.dt_space.specs.Space.{PageView, load}

@@ -4,7 +4,9 @@ use Rattle.dt_base.specs.declared.errno.Errno.{Errno}
 use Rattle.dt_base.specs.declared.event.Event.{Event}
 use Rattle.dt_base.specs.Errno.{errno_number}
 use Rattle.dt_rv64.specs.declared.machine.Machine.{Machine}
-use Rattle.dt_rv64.specs.Machine.{answered}
+use Rattle.dt_rv64.specs.Effects.{answered, counted}
+use Rattle.dt_virt.specs.declared.clock.TheConstants.{READING_TICKS}
+use Rattle.dt_virt.specs.Clock.{later}
 use Rattle.dt_run.specs.declared.call.answer.Outcome.{Outcome}
 use Rattle.dt_run.specs.declared.call.answer.Outcome.TheVariants.{Done}
 use Rattle.dt_run.specs.declared.container.Container.{Container}
@@ -27,3 +29,9 @@ done c m value = quiet c (answered m value) Done
 -- the call is refused: its answer is minus the errno
 abbrev pub refused : Container → Machine → Errno → Served
 refused c m errno = done c m (2 ^ 64 - errno_number errno)
+
+-- a counter is read into a register: the reading takes its time, and gives the time after it
+abbrev pub reads_counter : Container → Machine → ℕ → Served
+reads_counter c m rd =
+    let ticks = later c.clock READING_TICKS in
+    record { container = record c { clock = ticks }; machine = counted m rd ticks; events = []; outcome = Done }

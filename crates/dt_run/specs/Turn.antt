@@ -22,9 +22,9 @@ pub record Turn : Type 0 where
   pub events : List Event
   pub verdict : Option Verdict
 
--- a run that begins: its process owes a segment
+-- a run that begins: no time has passed, and its process owes a segment
 abbrev pub first_state : Machine → ℕ → State
-first_state m budget = record { container = record { files = first_table }; process = record { machine = m; phase = Owes }; left = budget }
+first_state m budget = record { container = record { files = first_table; clock = 0 }; process = record { machine = m; phase = Owes }; left = budget }
 
 -- the run is over in this state, and nothing showed
 abbrev pub over : State → Verdict → Turn

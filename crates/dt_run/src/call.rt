@@ -2,8 +2,9 @@
 ghost use Rattle.std.specs.Prelude.{◌≡◌, List, IfOk, IsErrOf};
 ghost use Rattle.dt_base.specs.declared.image.Entry.{Entry};
 ghost use Rattle.dt_host.specs.Cause.{HasCause};
-ghost use Rattle.dt_rv64.specs.Machine.{register};
+ghost use Rattle.dt_rv64.specs.Effects.{register};
 ghost use Rattle.dt_run.specs.Installed.{HoldsImage};
+ghost use Rattle.dt_run.specs.Served.{reads_counter};
 ghost use Rattle.dt_run.specs.Call.{served, call_of, exit_call};
 
 mod answer;
@@ -39,7 +40,8 @@ const A2: u8 = 12;
 
 const A7: u8 = 17;
 
-/// Serves a stop: a call by its number, a fault by the end of the process, the end of a slice by nothing.
+/// Serves a stop: a call by its number, a counter by the logical time, a fault by the end of the process, the end of a
+/// slice by nothing.
 #[tactic(auto, unfolding(crate::specs::Call::served))]
 pub fn serve<H: Host>(
     alloc: Global,
@@ -59,6 +61,7 @@ pub fn serve<H: Host>(
 {
     match stop {
         Stop::Call => call(alloc, host, container, machine),
+        Stop::Counter(rd) => Ok(read_counter(alloc, container, machine, rd)),
         Stop::Fault(signal) => Ok(Answer::quiet(alloc, Outcome::Ends(End::Signal(signal)))),
         Stop::Slice => Ok(Answer::quiet(alloc, Outcome::Done)),
     }
@@ -88,6 +91,16 @@ fn call<H: Host>(
         EXIT | EXIT_GROUP => Ok(exit(alloc, machine)),
         number => Ok(Answer::quiet(alloc, Outcome::Unsupported(number))),
     }
+}
+
+// A counter gives the logical time, and its reading takes some.
+fn read_counter(alloc: Global, container: &mut Container, machine: &mut Machine, rd: u8) -> Answer
+    ensures served { reads_counter container.old machine.old rd ≡ record { container = container.new; machine = machine.new; events = result.events.items; outcome = result.outcome } }
+    ensures done { result.outcome ≡ Outcome.Done }
+{
+    let ticks = container.clock.read();
+    machine.read_counter(rd, ticks);
+    Answer::quiet(alloc, Outcome::Done)
 }
 
 // exit(2), exit_group(2)

@@ -1,5 +1,5 @@
 -- Each step leaves a machine a machine.
-use Rattle.std.proofs.Common.{◌≡◌, ℕ, zero, suc, ◌+◌, ◌-◌, ◌%◌, ◌<◌, ◌^◌, inl, inr, Bool, List, length, get_or, set, true, false, cond, eqb, Result, Ok, Err, refl, sym, ◌∙◌, subst, arith}
+use Rattle.std.proofs.Common.{◌≡◌, ℕ, zero, suc, ◌+◌, ◌%◌, ◌<◌, ◌^◌, inl, inr, Bool, List, length, get_or, set, true, false, cond, eqb, Result, Ok, Err, refl, sym, ◌∙◌, subst, arith}
 use Rattle.std.proofs.lemmas.List.{length-set, get_or-set_same, get_or-set_other, set_past}
 use Rattle.std.proofs.lemmas.Bool.{cases_lt, cases_eq}
 use Rattle.std.proofs.lemmas.Bool.Decides.{nat_tests}
@@ -16,8 +16,7 @@ use Rattle.dt_space.specs.Space.{load, loaded}
 use Rattle.dt_space.specs.Write.{write, where_allowed}
 use Rattle.dt_rv64.proofs.Stores.{write-keeps}
 use Rattle.dt_rv64.specs.Instruction.{instr}
-use Rattle.dt_rv64.specs.Words.{add, word_of}
-use Rattle.dt_rv64.specs.Effects.{Stepped, register, with_register, next_pc, advanced, wrote, jumped, branched, filled, saved, put_at, answered, counted}
+use Rattle.dt_rv64.specs.Effects.{Stepped, relative, even, address, with_register, next_pc, advanced, wrote, jumped, branched, filled, saved, put_at, answered, counted}
 use Rattle.dt_rv64.specs.Machine.{executed, fetched, exec}
 use Rattle.dt_base.specs.declared.limits.TheConstants.{SEGMENT_LIMIT}
 use Rattle.dt_rv64.specs.Segment.{SegmentRun, go_on, run_steps, segment_of}
@@ -90,14 +89,14 @@ executed-keeps : (m : Machine) (i : Instr) → IsMachine m → Keeps (executed m
 unfolding executed Keeps
 executed-keeps m (Lui rd immediate) is = wrote-keeps m rd _ is
 executed-keeps m (Auipc rd immediate) is = wrote-keeps m rd _ is
-executed-keeps m (Jal rd immediate) is = jumped-keeps m rd (add m.pc (word_of immediate)) (omega arith) is
-executed-keeps m (Jalr rd rs1 immediate) is = let target = add (register m rs1) (word_of immediate) in jumped-keeps m rd (target - target % 2) (omega arith) is
-executed-keeps m (Beq rs1 rs2 immediate) is = branched-keeps m _ (add m.pc (word_of immediate)) (omega arith) is
-executed-keeps m (Bne rs1 rs2 immediate) is = branched-keeps m _ (add m.pc (word_of immediate)) (omega arith) is
-executed-keeps m (Blt rs1 rs2 immediate) is = branched-keeps m _ (add m.pc (word_of immediate)) (omega arith) is
-executed-keeps m (Bge rs1 rs2 immediate) is = branched-keeps m _ (add m.pc (word_of immediate)) (omega arith) is
-executed-keeps m (Bltu rs1 rs2 immediate) is = branched-keeps m _ (add m.pc (word_of immediate)) (omega arith) is
-executed-keeps m (Bgeu rs1 rs2 immediate) is = branched-keeps m _ (add m.pc (word_of immediate)) (omega arith) is
+executed-keeps m (Jal rd immediate) is = jumped-keeps m rd (relative m immediate) (omega arith) is
+executed-keeps m (Jalr rd rs1 immediate) is = jumped-keeps m rd (even (address m rs1 immediate)) (omega arith) is
+executed-keeps m (Beq rs1 rs2 immediate) is = branched-keeps m _ (relative m immediate) (omega arith) is
+executed-keeps m (Bne rs1 rs2 immediate) is = branched-keeps m _ (relative m immediate) (omega arith) is
+executed-keeps m (Blt rs1 rs2 immediate) is = branched-keeps m _ (relative m immediate) (omega arith) is
+executed-keeps m (Bge rs1 rs2 immediate) is = branched-keeps m _ (relative m immediate) (omega arith) is
+executed-keeps m (Bltu rs1 rs2 immediate) is = branched-keeps m _ (relative m immediate) (omega arith) is
+executed-keeps m (Bgeu rs1 rs2 immediate) is = branched-keeps m _ (relative m immediate) (omega arith) is
 executed-keeps m (Lb rd rs1 immediate) is = filled-keeps m rd _ is
 executed-keeps m (Lh rd rs1 immediate) is = filled-keeps m rd _ is
 executed-keeps m (Lw rd rs1 immediate) is = filled-keeps m rd _ is

@@ -1,5 +1,5 @@
 -- A machine of 32 registers, a program counter and a space, and what an instruction may do to it (RISC-V unprivileged specification, RV32I, "Programmers' Model", "Control Transfer Instructions" and "Load and Store Instructions").
-use Rattle.std.specs.Prelude.{ℕ, ◌+◌, ◌%◌, ◌^◌, ℤ, Bool, ◌==◌, if◌then◌else◌, slice_index, slice_set, List, Result, Ok, Err}
+use Rattle.std.specs.Prelude.{ℕ, ◌+◌, ◌-◌, ◌%◌, ◌^◌, ℤ, Bool, ◌==◌, if◌then◌else◌, slice_index, slice_set, List, Result, Ok, Err}
 use Rattle.dt_base.specs.Fields.{low_bytes}
 use Rattle.dt_space.specs.declared.access.TheConstants.{READ}
 use Rattle.dt_space.specs.declared.access.Miss.{Miss}
@@ -26,6 +26,10 @@ next_pc m = (m.pc + 4) % 2 ^ 64
 -- on to the next instruction
 abbrev pub advanced : Machine → Machine
 advanced m = record m { pc = next_pc m }
+
+-- an address with bit 0 cleared
+abbrev pub even : ℕ → ℕ
+even a = a - a % 2
 
 -- what a step comes to, and the machine after it
 pub record Stepped : Type 0 where
@@ -73,7 +77,11 @@ saved m (Err miss) = record { step = Fault SIGSEGV; machine = m }
 abbrev pub put_at : Machine → ℕ → ℕ → ℕ → Stepped
 put_at m address width value = saved m (stored m.space address (low_bytes width value))
 
--- the address of a load or a store
+-- the address at an offset from this instruction
+abbrev pub relative : Machine → ℤ → ℕ
+relative m offset = add m.pc (word_of offset)
+
+-- the address at an offset from a register
 abbrev pub address : Machine → ℕ → ℤ → ℕ
 address m rs1 immediate = add (register m rs1) (word_of immediate)
 

@@ -9,6 +9,7 @@ field lo n word = word / 2 ^ lo % 2 ^ n
 abbrev pub signed : ℕ → ℕ → ℤ
 signed n bits = if nat_lt bits (2 ^ (n - 1)) then pos bits else (pos bits -ℤ pos (2 ^ n))
 
+-- the list in which a word stands
 abbrev pub opcode : ℕ → ℕ
 opcode word = field 0 7 word
 
@@ -16,16 +17,19 @@ opcode word = field 0 7 word
 abbrev pub rd : ℕ → ℕ
 rd word = field 7 5 word
 
--- the registers that are read
+-- the first register that is read
 abbrev pub rs1 : ℕ → ℕ
 rs1 word = field 15 5 word
 
+-- the second register that is read
 abbrev pub rs2 : ℕ → ℕ
 rs2 word = field 20 5 word
 
+-- the instruction within its list
 abbrev pub funct3 : ℕ → ℕ
 funct3 word = field 12 3 word
 
+-- the same, further
 abbrev pub funct7 : ℕ → ℕ
 funct7 word = field 25 7 word
 

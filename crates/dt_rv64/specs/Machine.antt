@@ -1,5 +1,5 @@
 -- What each instruction does, and one step of a machine (RISC-V unprivileged specification, RV32I, RV64I and "M").
-use Rattle.std.specs.Prelude.{ℕ, ◌-◌, ◌%◌, ◌==◌, not, nat_lt, int_lt, bit_and, bit_or, bit_xor, if◌then◌else◌, Result, Ok, Err}
+use Rattle.std.specs.Prelude.{ℕ, ◌%◌, ◌==◌, not, nat_lt, int_lt, bit_and, bit_or, bit_xor, if◌then◌else◌, Result, Ok, Err}
 use Rattle.dt_space.specs.declared.access.TheConstants.{EXECUTE}
 use Rattle.dt_space.specs.declared.access.Miss.{Miss}
 use Rattle.dt_space.specs.Space.{load, loaded}
@@ -11,21 +11,21 @@ use Rattle.dt_rv64.specs.declared.machine.Step.TheVariants.{Call, Counter, Fault
 use Rattle.dt_rv64.specs.Instruction.{instr}
 use Rattle.dt_rv64.specs.Words.{word_of, signed_of, add, sub, slt, sltu, sll, srl, sra, addw, subw, sllw, srlw, sraw}
 use Rattle.dt_rv64.specs.Multiply.{mul, mulh, mulhsu, mulhu, div, divu, rem, remu, mulw, divw, divuw, remw, remuw}
-use Rattle.dt_rv64.specs.Effects.{Stepped, passed, wrote, jumped, branched, read_at, extended_read, filled, put_at, address}
+use Rattle.dt_rv64.specs.Effects.{Stepped, passed, wrote, jumped, branched, relative, even, read_at, extended_read, filled, put_at, address}
 pub use Rattle.dt_rv64.specs.Effects.{register, with_register, answered, counted}
 
 -- an instruction carried out: one that did not run leaves the machine
 unfoldable pub executed : Machine → Instr → Stepped
 executed m (Lui rd immediate) = wrote m rd (word_of immediate)
-executed m (Auipc rd immediate) = wrote m rd (add m.pc (word_of immediate))
-executed m (Jal rd immediate) = jumped m rd (add m.pc (word_of immediate))
-executed m (Jalr rd rs1 immediate) = jumped m rd (add (register m rs1) (word_of immediate) - add (register m rs1) (word_of immediate) % 2)
-executed m (Beq rs1 rs2 immediate) = branched m (register m rs1 == register m rs2) (add m.pc (word_of immediate))
-executed m (Bne rs1 rs2 immediate) = branched m (not (register m rs1 == register m rs2)) (add m.pc (word_of immediate))
-executed m (Blt rs1 rs2 immediate) = branched m (int_lt (signed_of (register m rs1)) (signed_of (register m rs2))) (add m.pc (word_of immediate))
-executed m (Bge rs1 rs2 immediate) = branched m (not (int_lt (signed_of (register m rs1)) (signed_of (register m rs2)))) (add m.pc (word_of immediate))
-executed m (Bltu rs1 rs2 immediate) = branched m (nat_lt (register m rs1) (register m rs2)) (add m.pc (word_of immediate))
-executed m (Bgeu rs1 rs2 immediate) = branched m (not (nat_lt (register m rs1) (register m rs2))) (add m.pc (word_of immediate))
+executed m (Auipc rd immediate) = wrote m rd (relative m immediate)
+executed m (Jal rd immediate) = jumped m rd (relative m immediate)
+executed m (Jalr rd rs1 immediate) = jumped m rd (even (address m rs1 immediate))
+executed m (Beq rs1 rs2 immediate) = branched m (register m rs1 == register m rs2) (relative m immediate)
+executed m (Bne rs1 rs2 immediate) = branched m (not (register m rs1 == register m rs2)) (relative m immediate)
+executed m (Blt rs1 rs2 immediate) = branched m (int_lt (signed_of (register m rs1)) (signed_of (register m rs2))) (relative m immediate)
+executed m (Bge rs1 rs2 immediate) = branched m (not (int_lt (signed_of (register m rs1)) (signed_of (register m rs2)))) (relative m immediate)
+executed m (Bltu rs1 rs2 immediate) = branched m (nat_lt (register m rs1) (register m rs2)) (relative m immediate)
+executed m (Bgeu rs1 rs2 immediate) = branched m (not (nat_lt (register m rs1) (register m rs2))) (relative m immediate)
 executed m (Lb rd rs1 immediate) = filled m rd (extended_read 8 (read_at m (address m rs1 immediate) 1))
 executed m (Lh rd rs1 immediate) = filled m rd (extended_read 16 (read_at m (address m rs1 immediate) 2))
 executed m (Lw rd rs1 immediate) = filled m rd (extended_read 32 (read_at m (address m rs1 immediate) 4))

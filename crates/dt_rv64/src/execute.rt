@@ -1,5 +1,5 @@
 // One instruction carried out, by class.
-ghost use Rattle.std.specs.Prelude.{◌≡◌, ◌-◌, ◌%◌};
+ghost use Rattle.std.specs.Prelude.{◌≡◌};
 ghost use Rattle.dt_rv64.specs.Classes.{IsBranch, IsLoad, IsStore, IsImmediate, IsRegister, IsWord, IsMultiply, IsMultiplyWord};
 ghost use Rattle.dt_rv64.specs.Machine.{executed};
 
@@ -26,10 +26,7 @@ impl Machine {
     {
         match instruction {
             Instr::Jal { rd, immediate } => self.jump(rd, self.pc.wrapping_add_signed(immediate)),
-            Instr::Jalr { rd, rs1, immediate } => self.jump(
-                rd,
-                even(self.reg(rs1).wrapping_add_signed(immediate)),
-            ),
+            Instr::Jalr { rd, rs1, immediate } => self.jump_register(rd, rs1, immediate),
             Instr::Fence => self.advance(),
             Instr::Ecall => Step::Call,
             Instr::Ebreak => Step::Fault(SIGTRAP),
@@ -316,11 +313,4 @@ impl Machine {
             _ => unreachable!(),
         }
     }
-}
-
-// A number with bit 0 cleared.
-fn even(address: u64) -> u64
-    ensures { result ≡ address - address % 2 }
-{
-    address & !1
 }

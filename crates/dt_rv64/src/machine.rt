@@ -1,7 +1,6 @@
 // The machine: registers, a program counter and a space, and one step of it.
 ghost use Rattle.std.specs.Prelude.{◌≡◌};
-ghost use Rattle.dt_rv64.specs.Words.{add, word_of};
-ghost use Rattle.dt_rv64.specs.Effects.{register, with_register, wrote, jumped, branched, passed, answered, counted};
+ghost use Rattle.dt_rv64.specs.Effects.{register, with_register, wrote, jumped, branched, passed, relative, even, address, answered, counted};
 ghost use Rattle.dt_rv64.specs.Machine.{exec};
 
 use crate::decoder::decode;
@@ -115,9 +114,17 @@ impl Machine {
         Step::Ran
     }
 
+    // Jumps to an offset from what a register held before the jump, with bit 0 cleared.
+    pub(crate) fn jump_register(&mut self, rd: u8, rs1: u8, immediate: i64) -> Step
+        ensures { jumped self.old rd (even (address self.old rs1 immediate)) ≡ record { step = result; machine = self.new } }
+    {
+        let target = cleared(self.address(rs1, immediate));
+        self.jump(rd, target)
+    }
+
     // Jumps by an offset where the branch is taken.
     pub(crate) fn branch(&mut self, taken: bool, offset: i64) -> Step
-        ensures { branched self.old taken (add self.old.pc (word_of offset)) ≡ record { step = result; machine = self.new } }
+        ensures { branched self.old taken (relative self.old offset) ≡ record { step = result; machine = self.new } }
     {
         if taken {
             self.jump(0, self.pc.wrapping_add_signed(offset))
@@ -125,4 +132,11 @@ impl Machine {
             self.advance()
         }
     }
+}
+
+// An address with bit 0 cleared.
+fn cleared(address: u64) -> u64
+    ensures { result ≡ even address }
+{
+    address & !1
 }

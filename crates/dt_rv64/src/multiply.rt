@@ -23,6 +23,7 @@ fn upper_half(product: u128) -> u64
 }
 
 // The upper half of the product, both signed.
+#[tactic(auto, using(crate::proofs::Products::high_products))]
 pub fn multiply_high(a: u64, b: u64) -> u64
     ensures { result ≡ mulh a b }
 {
@@ -30,6 +31,7 @@ pub fn multiply_high(a: u64, b: u64) -> u64
 }
 
 // The upper half of the product, the first signed.
+#[tactic(auto, using(crate::proofs::Products::high_products))]
 pub fn multiply_high_mixed(a: u64, b: u64) -> u64
     ensures { result ≡ mulhsu a b }
 {

@@ -1,7 +1,7 @@
 // What serving a stop comes to.
 ghost use Rattle.std.specs.Prelude.{◌≡◌, ◌-◌, ◌^◌, []};
 ghost use Rattle.dt_base.specs.Errno.{errno_number};
-ghost use Rattle.dt_rv64.specs.Machine.{answered};
+ghost use Rattle.dt_rv64.specs.Effects.{answered};
 
 use dt_base::{End, Errno, Event};
 use dt_rv64::Machine;

@@ -2,7 +2,7 @@
 ghost use Rattle.std.specs.Prelude.{◌≡◌, Ok, IfOk, IsErr, MatchOption};
 ghost use Rattle.dt_space.specs.Space.{load};
 ghost use Rattle.dt_run.specs.FileCalls.{write_call, written, count_asked};
-ghost use Rattle.dt_rv64.specs.Machine.{register};
+ghost use Rattle.dt_rv64.specs.Effects.{register};
 
 use super::{A0, A1, A2, Answer, Outcome};
 use crate::container::Container;
