@@ -1,5 +1,5 @@
 -- What a write leaves: every byte and right that it doesn't name, and where bytes may be reached.
-use Rattle.std.proofs.Common.{◌≡◌, ◌≢◌, ℕ, zero, suc, ◌<◌, ◌≤◌, ◌+◌, ◌-◌, ◌/◌, ◌%◌, ◌^◌, inl, inr, List, [], ◌∷◌, ◌++◌, length, set, take, drop, Option, Some, None, is_some, IsSome, Result, Ok, Err, IsOk, slice_get, Bool, true, false, eqb, ne_eqb, refl, sym, ap, ◌∙◌, arith}
+use Rattle.std.proofs.Common.{◌≡◌, ◌≢◌, ℕ, zero, suc, ◌<◌, ◌≤◌, ◌+◌, ◌-◌, ◌/◌, ◌%◌, ◌^◌, inl, inr, List, [], ◌∷◌, ◌++◌, length, get_or, set, take, drop, Option, Some, None, is_some, IsSome, Result, Ok, Err, IsOk, slice_get, Bool, true, false, eqb, ne_eqb, refl, sym, ap, ◌∙◌, arith}
 use Rattle.std.proofs.lemmas.Bool.{cases_eq}
 use Rattle.std.proofs.lemmas.Bool.Decides.{eqb_tells}
 use Rattle.std.proofs.lemmas.List.{length-take-le, length-drop, take-append-drop, drop-drop, drop_all}
@@ -8,6 +8,7 @@ use Rattle.dt_space.specs.declared.access.Miss.{Miss}
 use Rattle.dt_space.specs.declared.access.TheConstants.{WRITE}
 use Rattle.dt_space.specs.Space.{PageView, has, page_at, byte_of, byte_at, low_byte, load}
 use Rattle.dt_space.specs.Piece.{IsPart}
+use Rattle.dt_space.specs.Written.{IsWritten}
 use Rattle.dt_space.specs.Write.{set_in, set_byte, write, stored}
 use Rattle.dt_space.proofs.Loads.{load-misses-not}
 use Rattle.dt_space.proofs.Writes.{write-none}
@@ -176,3 +177,34 @@ pub written-end : (start : List PageView) (address : ℕ) (bytes : List ℕ) (pa
 written-end start address bytes pages done is end =
     let nothing : drop done bytes ≡ [] = drop_all done bytes end in
     stored-allowed start address bytes is.first ∙ ap Ok (is.written ∙ rw nothing (write-none pages _))
+
+pub written-all : (start : List PageView) (address : ℕ) (bytes : List ℕ) (pages : List PageView) (done : ℕ) → Written start address bytes pages done → length bytes ≤ done → write start address bytes ≡ pages
+written-all start address bytes pages done is end = is.written ∙ rw (drop_all done bytes end) (write-none pages _)
+
+-- the law of a write
+write-others : (bytes : List ℕ) (pages : List PageView) (address other right : ℕ) → address < 2 ^ 64 → ((i : ℕ) → i < length bytes → other ≢ (address + i) % 2 ^ 64) → byte_at (write pages address bytes) right other ≡ byte_at pages right other
+unfolding write
+write-others [] pages address other right fits apart = refl
+write-others (byte ∷ bytes) pages address other right fits apart =
+    let first : other ≢ address = λ (same : other ≡ address). apart 0 (omega arith) (omega arith) in
+    write-others bytes (set_byte pages address byte) ((address + 1) % 2 ^ 64) other right (omega arith) (λ i lt same. apart (suc i) (omega (arith, lt)) (omega arith)) ∙ byte_at-other pages right address byte other first
+
+write-named : (bytes : List ℕ) (pages : List PageView) (address i right : ℕ) → address < 2 ^ 64 → length bytes ≤ 2 ^ 64 → i < length bytes → IsSome (byte_at pages right ((address + i) % 2 ^ 64)) → byte_at (write pages address bytes) right ((address + i) % 2 ^ 64) ≡ Some (get_or bytes i 0)
+unfolding write
+write-named [] pages address i right fits few lt some = absurd (omega (arith, lt))
+write-named (byte ∷ bytes) pages address zero right fits few lt some =
+    let here : (address + 0) % 2 ^ 64 ≡ address = omega arith in
+    let there : IsSome (byte_at pages right address) = rw here at some in
+    rw here (write-others bytes (set_byte pages address byte) ((address + 1) % 2 ^ 64) address right (omega arith) (λ j within same. omega (arith, within, few)) ∙ byte_at-same pages right address byte there)
+write-named (byte ∷ bytes) pages address (suc i) right fits few lt some =
+    let next : (address + suc i) % 2 ^ 64 ≡ ((address + 1) % 2 ^ 64 + i) % 2 ^ 64 = omega arith in
+    let there : IsSome (byte_at pages right (((address + 1) % 2 ^ 64 + i) % 2 ^ 64)) = rw next at some in
+    let kept : IsSome (byte_at (set_byte pages address byte) right (((address + 1) % 2 ^ 64 + i) % 2 ^ 64)) = byte_at-some pages right address byte (((address + 1) % 2 ^ 64 + i) % 2 ^ 64) ∙ there in
+    rw next (write-named bytes (set_byte pages address byte) ((address + 1) % 2 ^ 64) i right (omega arith) (omega (arith, few)) (omega (arith, lt)) kept)
+
+pub write-law : (pages : List PageView) (address : ℕ) (bytes : List ℕ) (new : List PageView) → address < 2 ^ 64 → length bytes < 2 ^ 64 → write pages address bytes ≡ new → IsWritten pages address bytes new
+write-law pages address bytes new fits few is = rw (← is) (record {
+  named = λ i right lt some. write-named bytes pages address i right fits (omega arith) lt some;
+  others = λ other right apart. write-others bytes pages address other right fits apart;
+  rights = λ other right. write-some bytes pages right address other;
+})

@@ -5,3 +5,4 @@ pub mod Kept
 pub mod Numbers
 pub mod Following
 pub mod Texts
+pub mod Mapped

@@ -1,5 +1,5 @@
 -- Where a binary search by number ends among pages in order.
-use Rattle.std.proofs.Common.{◌≡◌, ℕ, zero, suc, ◌<◌, ◌≤◌, ◌^◌, ◌≢◌, List, [], ◌∷◌, length, get_or, Some, None, Result, Ok, Err, IfOk, IfErr, refl, sym, ap, ◌∙◌, arith}
+use Rattle.std.proofs.Common.{◌≡◌, ℕ, zero, suc, ◌<◌, ◌≤◌, ◌≢◌, List, [], ◌∷◌, length, get_or, Some, None, Result, Ok, Err, IfOk, IfErr, refl, sym, ap, ◌∙◌, arith}
 use Rattle.std.specs.List.Sorted.{IsSearchInRange, IsBinarySearchResult, IsNonDecreasingBy}
 use Rattle.std.specs.Ordering.{nat_cmp, ordering_index}
 use Rattle.std.proofs.lemmas.Cmp.{ranked}
@@ -43,7 +43,7 @@ module _ (pages : List PageView) (space : IsSpace pages) (number : ℕ) where
   pub searched : (r : Result ℕ ℕ) → IsSearchInRange r (length pages) → IsBinarySearchResult (λ (page : PageView). nat_cmp page.number number) pages r → Searched pages number r
   searched (Ok at) in_range equal =
       let same : number_at pages at ≡ number = ranked _ number _ (sym (equal (record { number = 0; rights = 0; bytes = [] }))) in
-      record { place = record { within = in_range; here = same }; absent = tt }
+      record { place = record { within = in_range; here = same; low = omega (arith, space.low at in_range, same) }; absent = tt }
   searched (Err at) in_range parted =
       let d : PageView = record { number = 0; rights = 0; bytes = [] } in
       let below : (j : ℕ) → j < at → number_at pages j < number = λ j lt. ranked _ number _ (sym ((parted comparisons_rise).0 j d (omega arith) lt)) in
@@ -52,9 +52,6 @@ module _ (pages : List PageView) (space : IsSpace pages) (number : ℕ) where
 
 -- a page at its place
 module _ (pages : List PageView) (space : IsSpace pages) (number place : ℕ) (is : IsPlace pages number place) where
-  pub place-low : number < 2 ^ 26
-  place-low = omega (arith, space.low place is.within, is.here)
-
   pub place-first : NoneBefore pages number place
   place-first j lt same = omega (arith, space.rising j place lt is.within, is.here)
 

@@ -3,5 +3,9 @@ pub mod Piece
 pub mod Place
 pub mod Pages
 pub mod Write
+pub mod Written
 pub mod Text
 pub mod TextLen
+pub mod MapErr
+pub mod Ranges
+pub mod Gap

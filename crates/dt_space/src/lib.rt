@@ -4,8 +4,10 @@
 mod access;
 mod near;
 mod page;
+mod refusal;
 mod space;
 
 pub use access::{EXECUTE, Miss, READ, TextErr, WRITE, WriteErr};
 pub use near::Near;
+pub use refusal::{MapErr, Unmapped};
 pub use space::Space;

@@ -2,6 +2,7 @@
 ghost use Rattle.std.specs.Prelude.{◌≡◌, ◌+◌, ◌<◌, ◌≤◌, IfOk, false, length, MatchOption};
 ghost use Rattle.dt_space.specs.Space.{has};
 ghost use Rattle.dt_space.specs.Pages.{filled};
+ghost use Rattle.dt_space.specs.Ranges.{is_in, with_rights};
 ghost use Rattle.dt_space.specs.Piece.{IsRest, overwritten};
 
 use dt_base::{NoMemory, PAGE_SIZE};
@@ -40,14 +41,6 @@ impl Page {
         })
     }
 
-    // Whether the page has the right.
-    #[inline(always)]
-    pub fn has(&self, right: u8) -> bool
-        ensures { result ≡ has self.now.rights right }
-    {
-        self.rights & right == right
-    }
-
     // The bytes from an offset to the page's end, where the page has the right.
     #[inline(always)]
     pub fn bytes_from(&self, right: u8, offset: u64) -> Option<&[u8]>
@@ -59,6 +52,34 @@ impl Page {
         } else {
             None
         }
+    }
+
+    // Whether the page is one of a range's.
+    pub fn lies_in(&self, first: u64, count: u64) -> bool
+        ensures { result ≡ is_in first count self.now.number }
+    {
+        self.number >= first && self.number - first < count
+    }
+
+    // Gives the page these rights and no others, where it is one of a range's.
+    pub fn protect(&mut self, first: u64, count: u64, rights: u8)
+        ensures { self.new ≡ with_rights first count rights self.old }
+    {
+        if self.lies_in(first, count) {
+            self.rights = rights;
+        }
+    }
+
+    // An equal page, in memory of its own.
+    pub fn copy(&self, alloc: Global) -> Result<Self, NoMemory>
+        ensures { IfOk result (λ page. page ≡ self.now) }
+    {
+        let bytes = Box::new(alloc, *self.bytes)?;
+        Ok(Page {
+            number: self.number,
+            rights: self.rights,
+            bytes,
+        })
     }
 
     // Writes the bytes from an offset on.

@@ -1,10 +1,11 @@
 // A process's memory: a sorted list of pages.
-ghost use Rattle.std.specs.Prelude.{◌≡◌, ◌<◌, ◌≤◌, ◌+◌, ◌^◌, ◌++◌, [], IfOk, length};
+ghost use Rattle.std.specs.Prelude.{◌≡◌, ◌≤◌, ◌+◌, ◌^◌, ◌++◌, [], IfOk, length};
 ghost use Rattle.dt_space.specs.Space.{IsSpace};
 ghost use Rattle.dt_space.specs.Pages.{pages_from, EndsBelow};
 ghost use Rattle.dt_space.specs.Place.{IsPlaceOf};
 
 mod hinted;
+mod ranges;
 mod reads;
 mod text;
 mod writes;
@@ -72,6 +73,19 @@ impl Space {
         ensures sound { IsSpace self.now }
     {
         self.pages.len()
+    }
+
+    /// An equal space, in memory of its own.
+    pub fn fork(&mut self) -> Result<Space, NoMemory>
+        ensures same { IfOk result (λ space. space ≡ self.old) }
+        ensures kept { self.new ≡ self.old }
+    {
+        let alloc = *self.pages.allocator();
+        let mut pages = Vec::with_capacity(alloc, self.pages.len())?;
+        for page in &self.pages {
+            pages.push(page.copy(alloc)?)?;
+        }
+        Ok(Space { pages })
     }
 
     // The place of the page of this number.

@@ -1,8 +1,9 @@
 // Stores, and writes of a range.
-ghost use Rattle.std.specs.Prelude.{◌≡◌, ◌+◌, ◌/◌, ◌%◌, ◌<◌, ◌≤◌, length, take, IfOk, MatchResult, OnErr, IsOk, Ok, Err};
+ghost use Rattle.std.specs.Prelude.{◌≡◌, ◌+◌, ◌/◌, ◌%◌, ◌<◌, ◌≤◌, length, take, IfOk, MatchResult, OnOk, OnErr, IsOk, Ok, Err};
 ghost use Rattle.dt_base.specs.Fields.{low_bytes};
 ghost use Rattle.dt_space.specs.Space.{load};
 ghost use Rattle.dt_space.specs.Write.{write, stored, miss_of};
+ghost use Rattle.dt_space.specs.Written.{IsWritten};
 ghost use Rattle.dt_space.specs.Place.{IsPlace, IsPlaceOf};
 ghost use Rattle.dt_space.specs.Piece.{IsPart, Misses};
 
@@ -61,6 +62,7 @@ impl Space {
     pub fn write_bytes(&mut self, at: u64, bytes: &[u8]) -> Result<(), WriteErr>
         ensures stored { MatchResult result (λ _. stored self.old at bytes.now ≡ Ok self.new) (λ error. stored self.old at bytes.now ≡ Err (miss_of error)) }
         ensures kept { OnErr result (self.new ≡ self.old) }
+        ensures law { OnOk result (IsWritten self.old at bytes.now self.new) }
     {
         self.reach(WRITE, at, bytes.len() as u64)?;
         let mut done = 0;

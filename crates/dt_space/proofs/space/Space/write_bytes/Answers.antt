@@ -1,4 +1,5 @@
-use Rattle.dt_space.proofs.Kept.{written-start, written-more, written-end}
+use Rattle.std.proofs.Common.{arith}
+use Rattle.dt_space.proofs.Kept.{written-start, written-more, written-end, written-all, write-law}
 use Rattle.dt_space.proofs.space.Space.write_bytes.Goals as goal
 
 -- nothing is written yet
@@ -12,3 +13,6 @@ loop-done-preserved c = written-more _ _ _ _ _ _ _ _ c.ranges.at.fits c.loop-don
 -- all are
 pub returns-clause-stored : goal.returns-clause-stored
 returns-clause-stored c = written-end _ _ _ _ _ c.loop-done.invariant c.loop-done-test.false
+
+pub returns-clause-law : goal.returns-clause-law
+returns-clause-law c = write-law _ _ _ _ c.ranges.at.fits (omega arith) (written-all _ _ _ _ _ c.loop-done.invariant c.loop-done-test.false)

@@ -1,0 +1,13 @@
+use Rattle.std.proofs.Common.{◌≡◌, map, arith}
+use Rattle.dt_space.specs.Ranges.{with_rights}
+use Rattle.dt_space.proofs.Mapped.{protected-more, protected-all, IsSpace-protected}
+use Rattle.dt_space.proofs.space.Space.protect.Goals as goal
+
+-- one page more
+pub loop-place-preserved : goal.loop-place-preserved
+loop-place-preserved c = rw c.protect.ensures (protected-more _ _ _ _ _ c.loop-place.invariant (omega arith) c.index_mut.ensures.value)
+
+pub invariant_of-self : goal.invariant_of-self
+invariant_of-self c =
+    let all : c.loop-place.self-inside.pages.items ≡ map (with_rights c.args.first c.args.count c.granted_of-given.result) c.self.inside.pages.items = protected-all (with_rights c.args.first c.args.count c.granted_of-given.result) c.self.inside.pages.items c.loop-place.self-inside.pages.items c.loop-place.place c.loop-place.invariant (omega arith) in
+    rw all (IsSpace-protected _ _ _ _ c.self.invariant)
