@@ -6,3 +6,4 @@ pub mod Numbers
 pub mod Following
 pub mod Texts
 pub mod Mapped
+pub mod Found

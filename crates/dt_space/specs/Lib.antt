@@ -8,4 +8,5 @@ pub mod Text
 pub mod TextLen
 pub mod MapErr
 pub mod Ranges
+pub mod RangeLaws
 pub mod Gap

@@ -7,6 +7,8 @@ ghost use Rattle.dt_space.specs.Place.{IsPlaceOf};
 mod hinted;
 mod ranges;
 mod reads;
+#[cfg(test)]
+mod tests;
 mod text;
 mod writes;
 

@@ -2,6 +2,7 @@
 ghost use Rattle.std.specs.Prelude.{◌≡◌, ◌+◌, ◌^◌, ◌≤◌, ◌++◌, length, take, drop, [], None, Some, IfOk, OnOk, OnErr, IfErr, MatchResult};
 ghost use Rattle.dt_space.specs.Pages.{pages_from};
 ghost use Rattle.dt_space.specs.Ranges.{granted, map_refusal, IsMapErr, mapped, unmapped, first_missing, protected};
+ghost use Rattle.dt_space.specs.RangeLaws.{KeepsOthers, HasZeros, HasNone, HasRights};
 ghost use Rattle.dt_space.specs.Gap.{IsLower, IsGap};
 
 use super::Space;
@@ -20,6 +21,8 @@ impl Space {
     pub fn map(&mut self, first: u64, count: u64, rights: u8) -> Result<(), MapErr>
         ensures ok { OnOk result (map_refusal self.old first count ≡ None) }
         ensures mapped { OnOk result (self.new ≡ mapped self.old first count rights) }
+        ensures zeros { OnOk result (HasZeros self.new first count rights) }
+        ensures others { OnOk result (KeepsOthers self.old first count self.new) }
         ensures error { IfErr result (IsMapErr (map_refusal self.old first count)) }
         ensures kept { OnErr result (self.new ≡ self.old) }
     {
@@ -32,7 +35,9 @@ impl Space {
 
     /// Takes away the pages of a range that are there.
     pub fn unmap(&mut self, first: u64, count: u64)
-        ensures { self.new ≡ unmapped self.old first count }
+        ensures unmapped { self.new ≡ unmapped self.old first count }
+        ensures none { HasNone self.new first count }
+        ensures others { KeepsOthers self.old first count self.new }
     {
         self.pages.retain(|page| !page.lies_in(first, count));
     }
@@ -42,6 +47,8 @@ impl Space {
     pub fn protect(&mut self, first: u64, count: u64, rights: u8) -> Result<(), Unmapped>
         ensures whole { MatchResult result (λ _. first_missing self.old first count ≡ None) (λ error. first_missing self.old first count ≡ Some error.page) }
         ensures ok { OnOk result (self.new ≡ protected self.old first count rights) }
+        ensures rights { OnOk result (HasRights self.old first count rights self.new) }
+        ensures others { OnOk result (KeepsOthers self.old first count self.new) }
         ensures kept { OnErr result (self.new ≡ self.old) }
     {
         self.look_for(first, count)?;
