@@ -1,3 +1,4 @@
+pub mod Stays
 pub mod Products
 pub mod Stores
 pub mod Kept

@@ -1,5 +1,5 @@
 // The machine: registers, a program counter and a space, and one step of it.
-ghost use Rattle.std.specs.Prelude.{◌≡◌};
+ghost use Rattle.std.specs.Prelude.{◌≡◌, ◌≢◌};
 ghost use Rattle.dt_rv64.specs.Effects.{register, with_register, wrote, jumped, branched, passed, relative, even, address, answered, counted};
 ghost use Rattle.dt_rv64.specs.Machine.{exec};
 
@@ -66,7 +66,8 @@ impl Machine {
 
     /// Takes one step. At any answer but `Ran` the machine stays.
     pub fn step(&mut self) -> Step
-        ensures { exec self.old ≡ record { step = result; machine = self.new } }
+        ensures stays { result ≢ Step.Ran → self.new ≡ self.old }
+        ensures stepped { exec self.old ≡ record { step = result; machine = self.new } }
     {
         self.step_near(&mut Near::new(), &mut Near::new())
     }
@@ -74,7 +75,8 @@ impl Machine {
     /// Takes one step, with hints where code and data stand. No answer depends on them.
     #[tactic(auto, unfolding(crate::specs::Machine::exec))]
     pub fn step_near(&mut self, code: &mut Near, data: &mut Near) -> Step
-        ensures { exec self.old ≡ record { step = result; machine = self.new } }
+        ensures stays { result ≢ Step.Ran → self.new ≡ self.old }
+        ensures stepped { exec self.old ≡ record { step = result; machine = self.new } }
     {
         if self.pc % 4 != 0 {
             return Step::Fault(SIGBUS);

@@ -12,14 +12,14 @@ loop-made-init c = segment-starts _
 
 -- a step that ran leaves the rest of the segment
 pub loop-made-preserved : goal.loop-made-preserved
-loop-made-preserved c = c.loop-made.invariant ∙ run-step (SEGMENT_LIMIT - c.loop-made.made) (SEGMENT_LIMIT - (c.loop-made.made + 1)) c.loop-made.made _ _ _ (omega arith) c.in-Ran.ensures
+loop-made-preserved c = c.loop-made.invariant ∙ run-step (SEGMENT_LIMIT - c.loop-made.made) (SEGMENT_LIMIT - (c.loop-made.made + 1)) c.loop-made.made _ _ _ (omega arith) c.in-Ran.ensures.stepped
 
 -- any other step is the last
 pub returns-in-loop-made-clause-run : goal.returns-in-loop-made-clause-run
 returns-in-loop-made-clause-run c = elim c.match-step_near.branch [
-  | in-Call w ↦ rw w.stop-is (c.loop-made.invariant ∙ run-step (SEGMENT_LIMIT - c.loop-made.made) (SEGMENT_LIMIT - (c.loop-made.made + 1)) c.loop-made.made _ _ _ (omega arith) w.in-Call.ensures)
-  | in-Counter w ↦ rw w.stop-is (c.loop-made.invariant ∙ run-step (SEGMENT_LIMIT - c.loop-made.made) (SEGMENT_LIMIT - (c.loop-made.made + 1)) c.loop-made.made _ _ _ (omega arith) w.in-Counter.ensures)
-  | in-Fault w ↦ rw w.stop-is (c.loop-made.invariant ∙ run-step (SEGMENT_LIMIT - c.loop-made.made) (SEGMENT_LIMIT - (c.loop-made.made + 1)) c.loop-made.made _ _ _ (omega arith) w.in-Fault.ensures)
+  | in-Call w ↦ rw w.stop-is (c.loop-made.invariant ∙ run-step (SEGMENT_LIMIT - c.loop-made.made) (SEGMENT_LIMIT - (c.loop-made.made + 1)) c.loop-made.made _ _ _ (omega arith) w.in-Call.ensures.stepped)
+  | in-Counter w ↦ rw w.stop-is (c.loop-made.invariant ∙ run-step (SEGMENT_LIMIT - c.loop-made.made) (SEGMENT_LIMIT - (c.loop-made.made + 1)) c.loop-made.made _ _ _ (omega arith) w.in-Counter.ensures.stepped)
+  | in-Fault w ↦ rw w.stop-is (c.loop-made.invariant ∙ run-step (SEGMENT_LIMIT - c.loop-made.made) (SEGMENT_LIMIT - (c.loop-made.made + 1)) c.loop-made.made _ _ _ (omega arith) w.in-Fault.ensures.stepped)
 ]
 
 -- each of the steps ran
