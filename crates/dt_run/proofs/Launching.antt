@@ -7,6 +7,8 @@ use Rattle.dt_base.specs.Image.{IsImage}
 use Rattle.dt_host.specs.World.{World, file_at, IsFile, content, entry as entry_at}
 use Rattle.dt_run.specs.Installed.{HoldsImage, number_under}
 use Rattle.dt_run.specs.RootFile.{HoldsEntry}
+use Rattle.dt_run.specs.declared.descriptors.Description.TheVariants.{File}
+use Rattle.dt_run.specs.FileCalls.{opened_what, opened_entry, opened_name}
 use Rattle.dt_run.specs.Lookup.{is_dots, bytes_of, file_named}
 use Rattle.dt_run.specs.Launch.{loaded, executed, executed_at, launched}
 use Rattle.dt_run.proofs.Flats.{named_at, root_file_at}
@@ -62,3 +64,9 @@ file_named-found w entries h name n is =
     let f = finds w entries name n h is in
     ap (λ found. unwrap_or found []) f.file
     ∙ sym (ap (λ found. unwrap_or (option_and_then (λ entry. bytes_of entry.what) found) []) f.found ∙ ap (λ what. unwrap_or (bytes_of what) []) f.what)
+
+-- and a file is opened under it
+pub opened-found : (w : World) (entries : List Entry) → HoldsImage w entries → (name kept : List ℕ) (n : ℕ) → number_under w name ≡ Some n → is_dots name ≡ false → kept ≡ name → Ok (File kept 0) ≡ opened_name entries (Ok name)
+opened-found w entries h name kept n is plain same =
+    let f = finds w entries name n h is in
+    rw (plain, same) (sym (ap (opened_entry name) f.found ∙ ap (opened_what name) f.what))

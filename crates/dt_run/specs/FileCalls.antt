@@ -2,10 +2,12 @@
 use Rattle.std.specs.Prelude.{ℕ, ◌+◌, ◌%◌, ◌^◌, min, ◌==◌, suc, List, [], ◌∷◌, length, take, drop, Option, Some, None, Result, Ok, Err, if◌then◌else◌}
 use Rattle.dt_base.specs.declared.limits.TheConstants.{TRANSFER_LIMIT, PATH_LIMIT}
 use Rattle.dt_base.specs.declared.errno.Errno.{Errno}
-use Rattle.dt_base.specs.declared.errno.Errno.TheVariants.{NoEnt, BadF, MFile, IsDir, NameTooLong, Fault as BadAddress}
+use Rattle.dt_base.specs.declared.errno.Errno.TheVariants.{NoEnt, BadF, MFile, IsDir, NameTooLong, Loop, Fault as BadAddress}
 use Rattle.dt_base.specs.declared.event.Event.{Event}
 use Rattle.dt_base.specs.declared.event.Event.TheVariants.{Out}
 use Rattle.dt_base.specs.declared.image.Entry.{Entry}
+use Rattle.dt_base.specs.declared.image.What.{What}
+use Rattle.dt_base.specs.declared.image.What.TheVariants.{File as FileOf, Dir, Link}
 use Rattle.dt_rv64.specs.declared.machine.Machine.{Machine}
 use Rattle.dt_rv64.specs.Effects.{register, answered}
 use Rattle.dt_space.specs.declared.access.Miss.{Miss}
@@ -31,7 +33,7 @@ descriptor m = register m 10 % 2 ^ 32
 abbrev pub count_asked : Machine → ℕ
 count_asked m = min (register m 12) TRANSFER_LIMIT
 
--- a path that was read from memory, or why there is none: it may not be empty
+-- a path that was read from memory, or why there is none: it may not be empty. Without a miss the only error of a text is its length
 abbrev pub path_of : Result (List ℕ) TextErr → Result (List ℕ) Errno
 path_of (Ok []) = Err NoEnt
 path_of (Ok (byte ∷ bytes)) = Ok (byte ∷ bytes)
@@ -42,10 +44,16 @@ path_of (Err error) = Err NameTooLong
 abbrev pub path_at : List PageView → ℕ → Result (List ℕ) Errno
 path_at pages address = path_of (text_at pages address (suc PATH_LIMIT))
 
--- what a file of that name is opened as: it is read from its start
+-- what stands under a name is opened as a file, which is read from its start, or as a directory; links come with other images
+abbrev pub opened_what : List ℕ → What → Result Description Errno
+opened_what name (FileOf bytes) = Ok (File name 0)
+opened_what name Dir = Ok Directory
+opened_what name (Link target) = Err Loop
+
+-- what an entry of the root is opened as
 abbrev pub opened_entry : List ℕ → Option Entry → Result Description Errno
 opened_entry name None = Err NoEnt
-opened_entry name (Some entry) = Ok (File name 0)
+opened_entry name (Some entry) = opened_what name entry.what
 
 -- what a name in the root is opened as
 abbrev pub opened_name : List Entry → Result (List ℕ) Errno → Result Description Errno
@@ -79,14 +87,14 @@ unfoldable pub close_call : Container → Machine → Served
 close_call c m = closes c m (description_at c.files (descriptor m))
 
 -- the bytes that were read are in the buffer, and the file's place is past them
-abbrev pub arrived : Container → Machine → List ℕ → ℕ → ℕ → Result (List PageView) Miss → Served
-arrived c m name place count (Err miss) = refused c m BadAddress
-arrived c m name place count (Ok pages) =
+abbrev pub received : Container → Machine → List ℕ → ℕ → ℕ → Result (List PageView) Miss → Served
+received c m name place count (Err miss) = refused c m BadAddress
+received c m name place count (Ok pages) =
     done (record c { files = placed c.files (descriptor m) (Some (File name (place + count))) }) (record m { space = pages }) count
 
 -- a read of these bytes of a file
 abbrev pub reads_bytes : Container → Machine → List ℕ → ℕ → List ℕ → Served
-reads_bytes c m name place bytes = arrived c m name place (length bytes) (stored m.space (register m 11) bytes)
+reads_bytes c m name place bytes = received c m name place (length bytes) (stored m.space (register m 11) bytes)
 
 -- a read by what the descriptor stands for
 abbrev pub reads : List Entry → Container → Machine → Option Description → Served
