@@ -158,12 +158,11 @@ def main():
     texts = list(rows())
     table = [(text, word, a, b) for (text, a, b), word in zip(texts, words([text for text, _, _ in texts]))]
     expected = carried_out(table)
-    print("// Vectors of instructions: word, a, b, and what is expected. Made by vectors/make.py with qemu-riscv64.")
+    print("// Vectors of instructions, made by vectors/make.py with qemu-riscv64.")
     print()
-    print(f"pub const TABLE: [(u32, u64, u64, u64); {len(table)}] = [")
-    for (text, word, a, b), value in zip(table, expected):
-        print(f"    (0x{word:08x}, 0x{a:x}, 0x{b:x}, 0x{value:x}),")
-    print("];")
+    print("/// A row a line: word, a, b, and what is expected, in hexadecimal.")
+    lines = [f"{word:08x} {a:x} {b:x} {value:x}" for (_, word, a, b), value in zip(table, expected)]
+    print('pub const TABLE: &str = "' + "\n".join(lines) + '";')
     print(f"{len(table)} rows, {len({text.split()[0] for text, *_ in table})} instructions", file=sys.stderr)
 
 

@@ -15,12 +15,17 @@ const BACKGROUND: u64 = 0x1122_3344_5566_7788;
 
 #[test]
 fn each_vector_is_met(rt: HostRuntime) -> Result<(), Fail> {
-    for (word, a, b, expected) in TABLE.iter() {
-        let mut machine = before(rt.alloc(), *word, *a, *b)?;
+    for line in TABLE.lines() {
+        let mut fields = line.split(' ');
+        let word = u32::from_str_radix(fields.next().unwrap_or(""), 16)?;
+        let a = number(fields.next())?;
+        let b = number(fields.next())?;
+        let expected = number(fields.next())?;
+        let mut machine = before(rt.alloc(), word, a, b)?;
         assert_eq!(rt; machine.step(), Step::Ran);
         assert_eq!(rt;
-            (*word, *a, *b, outcome(&machine, *word)?),
-            (*word, *a, *b, *expected)
+            (word, a, b, outcome(&machine, word)?),
+            (word, a, b, expected)
         );
     }
     Ok(())
@@ -78,6 +83,11 @@ fn words_without_a_row_are_unknown(rt: HostRuntime) -> Result<(), Fail> {
     assert!(rt; matches!(decode(0x0ff0_000f), Instr::Fence));
     assert!(rt; matches!(decode(0xffff_8f8f), Instr::Fence));
     Ok(())
+}
+
+// A field of a row.
+fn number(field: Option<&str>) -> Result<u64, Fail> {
+    Ok(u64::from_str_radix(field.unwrap_or(""), 16)?)
 }
 
 // A machine that is about to carry out a word.

@@ -1,859 +1,558 @@
-// Vectors of instructions: word, a, b, and what is expected. Made by vectors/make.py with qemu-riscv64.
+// Vectors of instructions, made by vectors/make.py with qemu-riscv64.
 
-pub const TABLE: [(u32, u64, u64, u64); 555] = [
-    (0x00b50633, 0x0, 0x0, 0x0),
-    (0x00b50633, 0x1, 0xffffffffffffffff, 0x0),
-    (0x00b50633, 0xffffffffffffffff, 0x1, 0x0),
-    (
-        0x00b50633,
-        0x8000000000000000,
-        0xffffffffffffffff,
-        0x7fffffffffffffff,
-    ),
-    (0x00b50633, 0x7fffffffffffffff, 0x1, 0x8000000000000000),
-    (
-        0x00b50633,
-        0xffffffffffffffff,
-        0xffffffffffffffff,
-        0xfffffffffffffffe,
-    ),
-    (
-        0x00b50633,
-        0x8000000000000000,
-        0x7fffffffffffffff,
-        0xffffffffffffffff,
-    ),
-    (
-        0x00b50633,
-        0x7fffffffffffffff,
-        0x8000000000000000,
-        0xffffffffffffffff,
-    ),
-    (0x40b50633, 0x0, 0x0, 0x0),
-    (0x40b50633, 0x1, 0xffffffffffffffff, 0x2),
-    (0x40b50633, 0xffffffffffffffff, 0x1, 0xfffffffffffffffe),
-    (
-        0x40b50633,
-        0x8000000000000000,
-        0xffffffffffffffff,
-        0x8000000000000001,
-    ),
-    (0x40b50633, 0x7fffffffffffffff, 0x1, 0x7ffffffffffffffe),
-    (0x40b50633, 0xffffffffffffffff, 0xffffffffffffffff, 0x0),
-    (0x40b50633, 0x8000000000000000, 0x7fffffffffffffff, 0x1),
-    (
-        0x40b50633,
-        0x7fffffffffffffff,
-        0x8000000000000000,
-        0xffffffffffffffff,
-    ),
-    (0x00b52633, 0x0, 0x0, 0x0),
-    (0x00b52633, 0x1, 0xffffffffffffffff, 0x0),
-    (0x00b52633, 0xffffffffffffffff, 0x1, 0x1),
-    (0x00b52633, 0x8000000000000000, 0xffffffffffffffff, 0x1),
-    (0x00b52633, 0x7fffffffffffffff, 0x1, 0x0),
-    (0x00b52633, 0xffffffffffffffff, 0xffffffffffffffff, 0x0),
-    (0x00b52633, 0x8000000000000000, 0x7fffffffffffffff, 0x1),
-    (0x00b52633, 0x7fffffffffffffff, 0x8000000000000000, 0x0),
-    (0x00b53633, 0x0, 0x0, 0x0),
-    (0x00b53633, 0x1, 0xffffffffffffffff, 0x1),
-    (0x00b53633, 0xffffffffffffffff, 0x1, 0x0),
-    (0x00b53633, 0x8000000000000000, 0xffffffffffffffff, 0x1),
-    (0x00b53633, 0x7fffffffffffffff, 0x1, 0x0),
-    (0x00b53633, 0xffffffffffffffff, 0xffffffffffffffff, 0x0),
-    (0x00b53633, 0x8000000000000000, 0x7fffffffffffffff, 0x0),
-    (0x00b53633, 0x7fffffffffffffff, 0x8000000000000000, 0x1),
-    (0x00b54633, 0x0, 0x0, 0x0),
-    (0x00b54633, 0x1, 0xffffffffffffffff, 0xfffffffffffffffe),
-    (0x00b54633, 0xffffffffffffffff, 0x1, 0xfffffffffffffffe),
-    (
-        0x00b54633,
-        0x8000000000000000,
-        0xffffffffffffffff,
-        0x7fffffffffffffff,
-    ),
-    (0x00b54633, 0x7fffffffffffffff, 0x1, 0x7ffffffffffffffe),
-    (0x00b54633, 0xffffffffffffffff, 0xffffffffffffffff, 0x0),
-    (
-        0x00b54633,
-        0x8000000000000000,
-        0x7fffffffffffffff,
-        0xffffffffffffffff,
-    ),
-    (
-        0x00b54633,
-        0x7fffffffffffffff,
-        0x8000000000000000,
-        0xffffffffffffffff,
-    ),
-    (0x00b56633, 0x0, 0x0, 0x0),
-    (0x00b56633, 0x1, 0xffffffffffffffff, 0xffffffffffffffff),
-    (0x00b56633, 0xffffffffffffffff, 0x1, 0xffffffffffffffff),
-    (
-        0x00b56633,
-        0x8000000000000000,
-        0xffffffffffffffff,
-        0xffffffffffffffff,
-    ),
-    (0x00b56633, 0x7fffffffffffffff, 0x1, 0x7fffffffffffffff),
-    (
-        0x00b56633,
-        0xffffffffffffffff,
-        0xffffffffffffffff,
-        0xffffffffffffffff,
-    ),
-    (
-        0x00b56633,
-        0x8000000000000000,
-        0x7fffffffffffffff,
-        0xffffffffffffffff,
-    ),
-    (
-        0x00b56633,
-        0x7fffffffffffffff,
-        0x8000000000000000,
-        0xffffffffffffffff,
-    ),
-    (0x00b57633, 0x0, 0x0, 0x0),
-    (0x00b57633, 0x1, 0xffffffffffffffff, 0x1),
-    (0x00b57633, 0xffffffffffffffff, 0x1, 0x1),
-    (
-        0x00b57633,
-        0x8000000000000000,
-        0xffffffffffffffff,
-        0x8000000000000000,
-    ),
-    (0x00b57633, 0x7fffffffffffffff, 0x1, 0x1),
-    (
-        0x00b57633,
-        0xffffffffffffffff,
-        0xffffffffffffffff,
-        0xffffffffffffffff,
-    ),
-    (0x00b57633, 0x8000000000000000, 0x7fffffffffffffff, 0x0),
-    (0x00b57633, 0x7fffffffffffffff, 0x8000000000000000, 0x0),
-    (0x02b50633, 0x0, 0x0, 0x0),
-    (0x02b50633, 0x1, 0xffffffffffffffff, 0xffffffffffffffff),
-    (0x02b50633, 0xffffffffffffffff, 0x1, 0xffffffffffffffff),
-    (
-        0x02b50633,
-        0x8000000000000000,
-        0xffffffffffffffff,
-        0x8000000000000000,
-    ),
-    (0x02b50633, 0x7fffffffffffffff, 0x1, 0x7fffffffffffffff),
-    (0x02b50633, 0xffffffffffffffff, 0xffffffffffffffff, 0x1),
-    (
-        0x02b50633,
-        0x8000000000000000,
-        0x7fffffffffffffff,
-        0x8000000000000000,
-    ),
-    (
-        0x02b50633,
-        0x7fffffffffffffff,
-        0x8000000000000000,
-        0x8000000000000000,
-    ),
-    (0x02b51633, 0x0, 0x0, 0x0),
-    (0x02b51633, 0x1, 0xffffffffffffffff, 0xffffffffffffffff),
-    (0x02b51633, 0xffffffffffffffff, 0x1, 0xffffffffffffffff),
-    (0x02b51633, 0x8000000000000000, 0xffffffffffffffff, 0x0),
-    (0x02b51633, 0x7fffffffffffffff, 0x1, 0x0),
-    (0x02b51633, 0xffffffffffffffff, 0xffffffffffffffff, 0x0),
-    (
-        0x02b51633,
-        0x8000000000000000,
-        0x7fffffffffffffff,
-        0xc000000000000000,
-    ),
-    (
-        0x02b51633,
-        0x7fffffffffffffff,
-        0x8000000000000000,
-        0xc000000000000000,
-    ),
-    (0x02b52633, 0x0, 0x0, 0x0),
-    (0x02b52633, 0x1, 0xffffffffffffffff, 0x0),
-    (0x02b52633, 0xffffffffffffffff, 0x1, 0xffffffffffffffff),
-    (
-        0x02b52633,
-        0x8000000000000000,
-        0xffffffffffffffff,
-        0x8000000000000000,
-    ),
-    (0x02b52633, 0x7fffffffffffffff, 0x1, 0x0),
-    (
-        0x02b52633,
-        0xffffffffffffffff,
-        0xffffffffffffffff,
-        0xffffffffffffffff,
-    ),
-    (
-        0x02b52633,
-        0x8000000000000000,
-        0x7fffffffffffffff,
-        0xc000000000000000,
-    ),
-    (
-        0x02b52633,
-        0x7fffffffffffffff,
-        0x8000000000000000,
-        0x3fffffffffffffff,
-    ),
-    (0x02b53633, 0x0, 0x0, 0x0),
-    (0x02b53633, 0x1, 0xffffffffffffffff, 0x0),
-    (0x02b53633, 0xffffffffffffffff, 0x1, 0x0),
-    (
-        0x02b53633,
-        0x8000000000000000,
-        0xffffffffffffffff,
-        0x7fffffffffffffff,
-    ),
-    (0x02b53633, 0x7fffffffffffffff, 0x1, 0x0),
-    (
-        0x02b53633,
-        0xffffffffffffffff,
-        0xffffffffffffffff,
-        0xfffffffffffffffe,
-    ),
-    (
-        0x02b53633,
-        0x8000000000000000,
-        0x7fffffffffffffff,
-        0x3fffffffffffffff,
-    ),
-    (
-        0x02b53633,
-        0x7fffffffffffffff,
-        0x8000000000000000,
-        0x3fffffffffffffff,
-    ),
-    (0x02b54633, 0x1, 0xffffffffffffffff, 0xffffffffffffffff),
-    (0x02b54633, 0xffffffffffffffff, 0x1, 0xffffffffffffffff),
-    (
-        0x02b54633,
-        0x8000000000000000,
-        0xffffffffffffffff,
-        0x8000000000000000,
-    ),
-    (0x02b54633, 0x7fffffffffffffff, 0x1, 0x7fffffffffffffff),
-    (0x02b54633, 0xffffffffffffffff, 0xffffffffffffffff, 0x1),
-    (
-        0x02b54633,
-        0x8000000000000000,
-        0x7fffffffffffffff,
-        0xffffffffffffffff,
-    ),
-    (0x02b54633, 0x7fffffffffffffff, 0x8000000000000000, 0x0),
-    (0x02b54633, 0x7, 0x0, 0xffffffffffffffff),
-    (0x02b54633, 0xfffffffffffffff9, 0x2, 0xfffffffffffffffd),
-    (0x02b54633, 0x7, 0xfffffffffffffffe, 0xfffffffffffffffd),
-    (0x02b54633, 0xfffffffffffffff9, 0xfffffffffffffffe, 0x3),
-    (0x02b54633, 0x8000000000000000, 0x0, 0xffffffffffffffff),
-    (0x02b54633, 0xdeadbeefcafef00d, 0x12345, 0xffffe2b6aa67affd),
-    (0x02b55633, 0x1, 0xffffffffffffffff, 0x0),
-    (0x02b55633, 0xffffffffffffffff, 0x1, 0xffffffffffffffff),
-    (0x02b55633, 0x8000000000000000, 0xffffffffffffffff, 0x0),
-    (0x02b55633, 0x7fffffffffffffff, 0x1, 0x7fffffffffffffff),
-    (0x02b55633, 0xffffffffffffffff, 0xffffffffffffffff, 0x1),
-    (0x02b55633, 0x8000000000000000, 0x7fffffffffffffff, 0x1),
-    (0x02b55633, 0x7fffffffffffffff, 0x8000000000000000, 0x0),
-    (0x02b55633, 0x7, 0x0, 0xffffffffffffffff),
-    (0x02b55633, 0xfffffffffffffff9, 0x2, 0x7ffffffffffffffc),
-    (0x02b55633, 0x7, 0xfffffffffffffffe, 0x0),
-    (0x02b55633, 0xfffffffffffffff9, 0xfffffffffffffffe, 0x0),
-    (0x02b55633, 0x8000000000000000, 0x0, 0xffffffffffffffff),
-    (0x02b55633, 0xdeadbeefcafef00d, 0x12345, 0xc3b6fa62cc6b),
-    (0x02b56633, 0x1, 0xffffffffffffffff, 0x0),
-    (0x02b56633, 0xffffffffffffffff, 0x1, 0x0),
-    (0x02b56633, 0x8000000000000000, 0xffffffffffffffff, 0x0),
-    (0x02b56633, 0x7fffffffffffffff, 0x1, 0x0),
-    (0x02b56633, 0xffffffffffffffff, 0xffffffffffffffff, 0x0),
-    (
-        0x02b56633,
-        0x8000000000000000,
-        0x7fffffffffffffff,
-        0xffffffffffffffff,
-    ),
-    (
-        0x02b56633,
-        0x7fffffffffffffff,
-        0x8000000000000000,
-        0x7fffffffffffffff,
-    ),
-    (0x02b56633, 0x7, 0x0, 0x7),
-    (0x02b56633, 0xfffffffffffffff9, 0x2, 0xffffffffffffffff),
-    (0x02b56633, 0x7, 0xfffffffffffffffe, 0x1),
-    (
-        0x02b56633,
-        0xfffffffffffffff9,
-        0xfffffffffffffffe,
-        0xffffffffffffffff,
-    ),
-    (0x02b56633, 0x8000000000000000, 0x0, 0x8000000000000000),
-    (0x02b56633, 0xdeadbeefcafef00d, 0x12345, 0xffffffffffffe9dc),
-    (0x02b57633, 0x1, 0xffffffffffffffff, 0x1),
-    (0x02b57633, 0xffffffffffffffff, 0x1, 0x0),
-    (
-        0x02b57633,
-        0x8000000000000000,
-        0xffffffffffffffff,
-        0x8000000000000000,
-    ),
-    (0x02b57633, 0x7fffffffffffffff, 0x1, 0x0),
-    (0x02b57633, 0xffffffffffffffff, 0xffffffffffffffff, 0x0),
-    (0x02b57633, 0x8000000000000000, 0x7fffffffffffffff, 0x1),
-    (
-        0x02b57633,
-        0x7fffffffffffffff,
-        0x8000000000000000,
-        0x7fffffffffffffff,
-    ),
-    (0x02b57633, 0x7, 0x0, 0x7),
-    (0x02b57633, 0xfffffffffffffff9, 0x2, 0x1),
-    (0x02b57633, 0x7, 0xfffffffffffffffe, 0x7),
-    (
-        0x02b57633,
-        0xfffffffffffffff9,
-        0xfffffffffffffffe,
-        0xfffffffffffffff9,
-    ),
-    (0x02b57633, 0x8000000000000000, 0x0, 0x8000000000000000),
-    (0x02b57633, 0xdeadbeefcafef00d, 0x12345, 0x3636),
-    (0x00b51633, 0x8000000000000001, 0x0, 0x8000000000000001),
-    (0x00b51633, 0x8000000000000001, 0x1, 0x2),
-    (0x00b51633, 0x8000000000000001, 0x1f, 0x80000000),
-    (0x00b51633, 0x8000000000000001, 0x20, 0x100000000),
-    (0x00b51633, 0x8000000000000001, 0x3f, 0x8000000000000000),
-    (0x00b51633, 0x8000000000000001, 0x40, 0x8000000000000001),
-    (0x00b51633, 0x123456789abcdef0, 0x5f, 0x4d5e6f7800000000),
-    (0x00b51633, 0xffffffff80000000, 0x4, 0xfffffff800000000),
-    (0x00b51633, 0x7fffffff, 0x21, 0xfffffffe00000000),
-    (0x00b55633, 0x8000000000000001, 0x0, 0x8000000000000001),
-    (0x00b55633, 0x8000000000000001, 0x1, 0x4000000000000000),
-    (0x00b55633, 0x8000000000000001, 0x1f, 0x100000000),
-    (0x00b55633, 0x8000000000000001, 0x20, 0x80000000),
-    (0x00b55633, 0x8000000000000001, 0x3f, 0x1),
-    (0x00b55633, 0x8000000000000001, 0x40, 0x8000000000000001),
-    (0x00b55633, 0x123456789abcdef0, 0x5f, 0x2468acf1),
-    (0x00b55633, 0xffffffff80000000, 0x4, 0xffffffff8000000),
-    (0x00b55633, 0x7fffffff, 0x21, 0x0),
-    (0x40b55633, 0x8000000000000001, 0x0, 0x8000000000000001),
-    (0x40b55633, 0x8000000000000001, 0x1, 0xc000000000000000),
-    (0x40b55633, 0x8000000000000001, 0x1f, 0xffffffff00000000),
-    (0x40b55633, 0x8000000000000001, 0x20, 0xffffffff80000000),
-    (0x40b55633, 0x8000000000000001, 0x3f, 0xffffffffffffffff),
-    (0x40b55633, 0x8000000000000001, 0x40, 0x8000000000000001),
-    (0x40b55633, 0x123456789abcdef0, 0x5f, 0x2468acf1),
-    (0x40b55633, 0xffffffff80000000, 0x4, 0xfffffffff8000000),
-    (0x40b55633, 0x7fffffff, 0x21, 0x0),
-    (0x00b5163b, 0x8000000000000001, 0x0, 0x1),
-    (0x00b5163b, 0x8000000000000001, 0x1, 0x2),
-    (0x00b5163b, 0x8000000000000001, 0x1f, 0xffffffff80000000),
-    (0x00b5163b, 0x8000000000000001, 0x20, 0x1),
-    (0x00b5163b, 0x8000000000000001, 0x3f, 0xffffffff80000000),
-    (0x00b5163b, 0x8000000000000001, 0x40, 0x1),
-    (0x00b5163b, 0x123456789abcdef0, 0x5f, 0x0),
-    (0x00b5163b, 0xffffffff80000000, 0x4, 0x0),
-    (0x00b5163b, 0x7fffffff, 0x21, 0xfffffffffffffffe),
-    (0x00b5563b, 0x8000000000000001, 0x0, 0x1),
-    (0x00b5563b, 0x8000000000000001, 0x1, 0x0),
-    (0x00b5563b, 0x8000000000000001, 0x1f, 0x0),
-    (0x00b5563b, 0x8000000000000001, 0x20, 0x1),
-    (0x00b5563b, 0x8000000000000001, 0x3f, 0x0),
-    (0x00b5563b, 0x8000000000000001, 0x40, 0x1),
-    (0x00b5563b, 0x123456789abcdef0, 0x5f, 0x1),
-    (0x00b5563b, 0xffffffff80000000, 0x4, 0x8000000),
-    (0x00b5563b, 0x7fffffff, 0x21, 0x3fffffff),
-    (0x40b5563b, 0x8000000000000001, 0x0, 0x1),
-    (0x40b5563b, 0x8000000000000001, 0x1, 0x0),
-    (0x40b5563b, 0x8000000000000001, 0x1f, 0x0),
-    (0x40b5563b, 0x8000000000000001, 0x20, 0x1),
-    (0x40b5563b, 0x8000000000000001, 0x3f, 0x0),
-    (0x40b5563b, 0x8000000000000001, 0x40, 0x1),
-    (0x40b5563b, 0x123456789abcdef0, 0x5f, 0xffffffffffffffff),
-    (0x40b5563b, 0xffffffff80000000, 0x4, 0xfffffffff8000000),
-    (0x40b5563b, 0x7fffffff, 0x21, 0x3fffffff),
-    (0x00b5063b, 0xffffffffffffffff, 0x1, 0x0),
-    (
-        0x00b5063b,
-        0x8000000000000000,
-        0xffffffffffffffff,
-        0xffffffffffffffff,
-    ),
-    (0x00b5063b, 0x7fffffffffffffff, 0x1, 0x0),
-    (0x00b5063b, 0x80000000, 0xffffffffffffffff, 0x7fffffff),
-    (0x00b5063b, 0x7fffffff, 0x1, 0xffffffff80000000),
-    (0x00b5063b, 0xffffffff80000000, 0xffffffff, 0x7fffffff),
-    (0x00b5063b, 0x7, 0x0, 0x7),
-    (0x00b5063b, 0x7, 0x100000000, 0x7),
-    (
-        0x00b5063b,
-        0x123456789abcdef0,
-        0xfffffffe,
-        0xffffffff9abcdeee,
-    ),
-    (0x40b5063b, 0xffffffffffffffff, 0x1, 0xfffffffffffffffe),
-    (0x40b5063b, 0x8000000000000000, 0xffffffffffffffff, 0x1),
-    (0x40b5063b, 0x7fffffffffffffff, 0x1, 0xfffffffffffffffe),
-    (
-        0x40b5063b,
-        0x80000000,
-        0xffffffffffffffff,
-        0xffffffff80000001,
-    ),
-    (0x40b5063b, 0x7fffffff, 0x1, 0x7ffffffe),
-    (
-        0x40b5063b,
-        0xffffffff80000000,
-        0xffffffff,
-        0xffffffff80000001,
-    ),
-    (0x40b5063b, 0x7, 0x0, 0x7),
-    (0x40b5063b, 0x7, 0x100000000, 0x7),
-    (
-        0x40b5063b,
-        0x123456789abcdef0,
-        0xfffffffe,
-        0xffffffff9abcdef2,
-    ),
-    (0x02b5063b, 0xffffffffffffffff, 0x1, 0xffffffffffffffff),
-    (0x02b5063b, 0x8000000000000000, 0xffffffffffffffff, 0x0),
-    (0x02b5063b, 0x7fffffffffffffff, 0x1, 0xffffffffffffffff),
-    (
-        0x02b5063b,
-        0x80000000,
-        0xffffffffffffffff,
-        0xffffffff80000000,
-    ),
-    (0x02b5063b, 0x7fffffff, 0x1, 0x7fffffff),
-    (
-        0x02b5063b,
-        0xffffffff80000000,
-        0xffffffff,
-        0xffffffff80000000,
-    ),
-    (0x02b5063b, 0x7, 0x0, 0x0),
-    (0x02b5063b, 0x7, 0x100000000, 0x0),
-    (
-        0x02b5063b,
-        0x123456789abcdef0,
-        0xfffffffe,
-        0xffffffffca864220,
-    ),
-    (
-        0x02b5463b,
-        0x80000000,
-        0xffffffffffffffff,
-        0xffffffff80000000,
-    ),
-    (0x02b5463b, 0x7fffffff, 0x1, 0x7fffffff),
-    (
-        0x02b5463b,
-        0xffffffff80000000,
-        0xffffffff,
-        0xffffffff80000000,
-    ),
-    (0x02b5463b, 0x7, 0x0, 0xffffffffffffffff),
-    (0x02b5463b, 0x7, 0x100000000, 0xffffffffffffffff),
-    (0x02b5463b, 0x123456789abcdef0, 0xfffffffe, 0x32a19088),
-    (0x02b5463b, 0xfffffffffffffff9, 0x2, 0xfffffffffffffffd),
-    (0x02b5463b, 0x7, 0xfffffffffffffffe, 0xfffffffffffffffd),
-    (0x02b5463b, 0xfffffffffffffff9, 0xfffffffffffffffe, 0x3),
-    (0x02b5563b, 0x80000000, 0xffffffffffffffff, 0x0),
-    (0x02b5563b, 0x7fffffff, 0x1, 0x7fffffff),
-    (0x02b5563b, 0xffffffff80000000, 0xffffffff, 0x0),
-    (0x02b5563b, 0x7, 0x0, 0xffffffffffffffff),
-    (0x02b5563b, 0x7, 0x100000000, 0xffffffffffffffff),
-    (0x02b5563b, 0x123456789abcdef0, 0xfffffffe, 0x0),
-    (0x02b5563b, 0xfffffffffffffff9, 0x2, 0x7ffffffc),
-    (0x02b5563b, 0x7, 0xfffffffffffffffe, 0x0),
-    (0x02b5563b, 0xfffffffffffffff9, 0xfffffffffffffffe, 0x0),
-    (0x02b5663b, 0x80000000, 0xffffffffffffffff, 0x0),
-    (0x02b5663b, 0x7fffffff, 0x1, 0x0),
-    (0x02b5663b, 0xffffffff80000000, 0xffffffff, 0x0),
-    (0x02b5663b, 0x7, 0x0, 0x7),
-    (0x02b5663b, 0x7, 0x100000000, 0x7),
-    (0x02b5663b, 0x123456789abcdef0, 0xfffffffe, 0x0),
-    (0x02b5663b, 0xfffffffffffffff9, 0x2, 0xffffffffffffffff),
-    (0x02b5663b, 0x7, 0xfffffffffffffffe, 0x1),
-    (
-        0x02b5663b,
-        0xfffffffffffffff9,
-        0xfffffffffffffffe,
-        0xffffffffffffffff,
-    ),
-    (
-        0x02b5763b,
-        0x80000000,
-        0xffffffffffffffff,
-        0xffffffff80000000,
-    ),
-    (0x02b5763b, 0x7fffffff, 0x1, 0x0),
-    (
-        0x02b5763b,
-        0xffffffff80000000,
-        0xffffffff,
-        0xffffffff80000000,
-    ),
-    (0x02b5763b, 0x7, 0x0, 0x7),
-    (0x02b5763b, 0x7, 0x100000000, 0x7),
-    (
-        0x02b5763b,
-        0x123456789abcdef0,
-        0xfffffffe,
-        0xffffffff9abcdef0,
-    ),
-    (0x02b5763b, 0xfffffffffffffff9, 0x2, 0x1),
-    (0x02b5763b, 0x7, 0xfffffffffffffffe, 0x7),
-    (
-        0x02b5763b,
-        0xfffffffffffffff9,
-        0xfffffffffffffffe,
-        0xfffffffffffffff9,
-    ),
-    (0x00050613, 0x0, 0x0, 0x0),
-    (0xfff50613, 0x1, 0x0, 0x0),
-    (0x00150613, 0xffffffffffffffff, 0x0, 0x0),
-    (0xfff50613, 0x8000000000000000, 0x0, 0x7fffffffffffffff),
-    (0x00150613, 0x7fffffffffffffff, 0x0, 0x8000000000000000),
-    (0x7ff50613, 0xffffffffffffffff, 0x0, 0x7fe),
-    (0x80050613, 0x7fffffffffffffff, 0x0, 0x7ffffffffffff7ff),
-    (0x7ff50613, 0x7ff, 0x0, 0xffe),
-    (0x00650613, 0x5, 0x0, 0xb),
-    (0x00052613, 0x0, 0x0, 0x0),
-    (0xfff52613, 0x1, 0x0, 0x0),
-    (0x00152613, 0xffffffffffffffff, 0x0, 0x1),
-    (0xfff52613, 0x8000000000000000, 0x0, 0x1),
-    (0x00152613, 0x7fffffffffffffff, 0x0, 0x0),
-    (0x7ff52613, 0xffffffffffffffff, 0x0, 0x1),
-    (0x80052613, 0x7fffffffffffffff, 0x0, 0x0),
-    (0x7ff52613, 0x7ff, 0x0, 0x0),
-    (0x00652613, 0x5, 0x0, 0x1),
-    (0x00053613, 0x0, 0x0, 0x0),
-    (0xfff53613, 0x1, 0x0, 0x1),
-    (0x00153613, 0xffffffffffffffff, 0x0, 0x0),
-    (0xfff53613, 0x8000000000000000, 0x0, 0x1),
-    (0x00153613, 0x7fffffffffffffff, 0x0, 0x0),
-    (0x7ff53613, 0xffffffffffffffff, 0x0, 0x0),
-    (0x80053613, 0x7fffffffffffffff, 0x0, 0x1),
-    (0x7ff53613, 0x7ff, 0x0, 0x0),
-    (0x00653613, 0x5, 0x0, 0x1),
-    (0x00054613, 0x0, 0x0, 0x0),
-    (0xfff54613, 0x1, 0x0, 0xfffffffffffffffe),
-    (0x00154613, 0xffffffffffffffff, 0x0, 0xfffffffffffffffe),
-    (0xfff54613, 0x8000000000000000, 0x0, 0x7fffffffffffffff),
-    (0x00154613, 0x7fffffffffffffff, 0x0, 0x7ffffffffffffffe),
-    (0x7ff54613, 0xffffffffffffffff, 0x0, 0xfffffffffffff800),
-    (0x80054613, 0x7fffffffffffffff, 0x0, 0x80000000000007ff),
-    (0x7ff54613, 0x7ff, 0x0, 0x0),
-    (0x00654613, 0x5, 0x0, 0x3),
-    (0x00056613, 0x0, 0x0, 0x0),
-    (0xfff56613, 0x1, 0x0, 0xffffffffffffffff),
-    (0x00156613, 0xffffffffffffffff, 0x0, 0xffffffffffffffff),
-    (0xfff56613, 0x8000000000000000, 0x0, 0xffffffffffffffff),
-    (0x00156613, 0x7fffffffffffffff, 0x0, 0x7fffffffffffffff),
-    (0x7ff56613, 0xffffffffffffffff, 0x0, 0xffffffffffffffff),
-    (0x80056613, 0x7fffffffffffffff, 0x0, 0xffffffffffffffff),
-    (0x7ff56613, 0x7ff, 0x0, 0x7ff),
-    (0x00656613, 0x5, 0x0, 0x7),
-    (0x00057613, 0x0, 0x0, 0x0),
-    (0xfff57613, 0x1, 0x0, 0x1),
-    (0x00157613, 0xffffffffffffffff, 0x0, 0x1),
-    (0xfff57613, 0x8000000000000000, 0x0, 0x8000000000000000),
-    (0x00157613, 0x7fffffffffffffff, 0x0, 0x1),
-    (0x7ff57613, 0xffffffffffffffff, 0x0, 0x7ff),
-    (0x80057613, 0x7fffffffffffffff, 0x0, 0x7ffffffffffff800),
-    (0x7ff57613, 0x7ff, 0x0, 0x7ff),
-    (0x00657613, 0x5, 0x0, 0x4),
-    (0x0005061b, 0x0, 0x0, 0x0),
-    (0x0015061b, 0x7fffffff, 0x0, 0xffffffff80000000),
-    (0xfff5061b, 0x80000000, 0x0, 0x7fffffff),
-    (0x7ff5061b, 0xffffffffffffffff, 0x0, 0x7fe),
-    (0x8005061b, 0xffffffff, 0x0, 0xfffffffffffff7ff),
-    (0x0055061b, 0x8000000000000000, 0x0, 0x5),
-    (0x0015061b, 0xffffffff7fffffff, 0x0, 0xffffffff80000000),
-    (0x00051613, 0x1, 0x0, 0x1),
-    (0x01f51613, 0x8000000000000000, 0x0, 0x0),
-    (0x02051613, 0x8000000000000000, 0x0, 0x0),
-    (0x03f51613, 0x8000000000000001, 0x0, 0x8000000000000000),
-    (0x03e51613, 0x7fffffffffffffff, 0x0, 0xc000000000000000),
-    (0x00751613, 0x123456789abcdef0, 0x0, 0x1a2b3c4d5e6f7800),
-    (0x00055613, 0x1, 0x0, 0x1),
-    (0x01f55613, 0x8000000000000000, 0x0, 0x100000000),
-    (0x02055613, 0x8000000000000000, 0x0, 0x80000000),
-    (0x03f55613, 0x8000000000000001, 0x0, 0x1),
-    (0x03e55613, 0x7fffffffffffffff, 0x0, 0x1),
-    (0x00755613, 0x123456789abcdef0, 0x0, 0x2468acf13579bd),
-    (0x40055613, 0x1, 0x0, 0x1),
-    (0x41f55613, 0x8000000000000000, 0x0, 0xffffffff00000000),
-    (0x42055613, 0x8000000000000000, 0x0, 0xffffffff80000000),
-    (0x43f55613, 0x8000000000000001, 0x0, 0xffffffffffffffff),
-    (0x43e55613, 0x7fffffffffffffff, 0x0, 0x1),
-    (0x40755613, 0x123456789abcdef0, 0x0, 0x2468acf13579bd),
-    (0x0005161b, 0x1, 0x0, 0x1),
-    (0x0005161b, 0x80000000, 0x0, 0xffffffff80000000),
-    (0x01f5161b, 0x80000001, 0x0, 0xffffffff80000000),
-    (0x0015161b, 0x7fffffff, 0x0, 0xfffffffffffffffe),
-    (0x0045161b, 0xffffffff00000000, 0x0, 0x0),
-    (0x0075161b, 0x123456789abcdef0, 0x0, 0x5e6f7800),
-    (0x0005561b, 0x1, 0x0, 0x1),
-    (0x0005561b, 0x80000000, 0x0, 0xffffffff80000000),
-    (0x01f5561b, 0x80000001, 0x0, 0x1),
-    (0x0015561b, 0x7fffffff, 0x0, 0x3fffffff),
-    (0x0045561b, 0xffffffff00000000, 0x0, 0x0),
-    (0x0075561b, 0x123456789abcdef0, 0x0, 0x13579bd),
-    (0x4005561b, 0x1, 0x0, 0x1),
-    (0x4005561b, 0x80000000, 0x0, 0xffffffff80000000),
-    (0x41f5561b, 0x80000001, 0x0, 0xffffffffffffffff),
-    (0x4015561b, 0x7fffffff, 0x0, 0x3fffffff),
-    (0x4045561b, 0xffffffff00000000, 0x0, 0x0),
-    (0x4075561b, 0x123456789abcdef0, 0x0, 0xffffffffff3579bd),
-    (0x00000637, 0x0, 0x0, 0x0),
-    (0x00001637, 0x0, 0x0, 0x1000),
-    (0x7ffff637, 0x0, 0x0, 0x7ffff000),
-    (0x80000637, 0x0, 0x0, 0xffffffff80000000),
-    (0xfffff637, 0x0, 0x0, 0xfffffffffffff000),
-    (0x12345637, 0x0, 0x0, 0x12345000),
-    (0x00000617, 0x0, 0x0, 0x0),
-    (0x00001617, 0x0, 0x0, 0x1000),
-    (0x7ffff617, 0x0, 0x0, 0x7ffff000),
-    (0x80000617, 0x0, 0x0, 0xffffffff80000000),
-    (0xfffff617, 0x0, 0x0, 0xfffffffffffff000),
-    (0x12345617, 0x0, 0x0, 0x12345000),
-    (0x00050603, 0x0, 0x8000000000000000, 0x0),
-    (0xff850603, 0x8, 0x7fffffffffffffff, 0xffffffffffffffff),
-    (
-        0x7ff50603,
-        0xfffffffffffff801,
-        0xffffffffffffffff,
-        0xffffffffffffffff,
-    ),
-    (0x80050603, 0x800, 0x800080ff, 0xffffffffffffffff),
-    (0x00050603, 0x1, 0xff807f00817f, 0xffffffffffffff81),
-    (0x00350603, 0x0, 0x8899aabbccddeeff, 0xffffffffffffffcc),
-    (0x00150603, 0x4, 0x123456789abcdef, 0x45),
-    (0x00051603, 0x0, 0x8000000000000000, 0x0),
-    (0xff851603, 0x8, 0x7fffffffffffffff, 0xffffffffffffffff),
-    (
-        0x7ff51603,
-        0xfffffffffffff801,
-        0xffffffffffffffff,
-        0xffffffffffffffff,
-    ),
-    (0x80051603, 0x800, 0x800080ff, 0xffffffffffff80ff),
-    (0x00051603, 0x1, 0xff807f00817f, 0x81),
-    (0x00351603, 0x0, 0x8899aabbccddeeff, 0xffffffffffffbbcc),
-    (0x00151603, 0x4, 0x123456789abcdef, 0x2345),
-    (0x00052603, 0x0, 0x8000000000000000, 0x0),
-    (0xff852603, 0x8, 0x7fffffffffffffff, 0xffffffffffffffff),
-    (
-        0x7ff52603,
-        0xfffffffffffff801,
-        0xffffffffffffffff,
-        0xffffffffffffffff,
-    ),
-    (0x80052603, 0x800, 0x800080ff, 0xffffffff800080ff),
-    (0x00052603, 0x1, 0xff807f00817f, 0xffffffff807f0081),
-    (0x00352603, 0x0, 0x8899aabbccddeeff, 0xffffffff99aabbcc),
-    (0x00152603, 0x4, 0x123456789abcdef, 0x12345),
-    (0x00053603, 0x0, 0x8000000000000000, 0x8000000000000000),
-    (0xff853603, 0x8, 0x7fffffffffffffff, 0x7fffffffffffffff),
-    (
-        0x7ff53603,
-        0xfffffffffffff801,
-        0xffffffffffffffff,
-        0xffffffffffffffff,
-    ),
-    (0x80053603, 0x800, 0x800080ff, 0x800080ff),
-    (0x00053603, 0x1, 0xff807f00817f, 0xff807f0081),
-    (0x00353603, 0x0, 0x8899aabbccddeeff, 0x8899aabbcc),
-    (0x00153603, 0x4, 0x123456789abcdef, 0x12345),
-    (0x00054603, 0x0, 0x8000000000000000, 0x0),
-    (0xff854603, 0x8, 0x7fffffffffffffff, 0xff),
-    (0x7ff54603, 0xfffffffffffff801, 0xffffffffffffffff, 0xff),
-    (0x80054603, 0x800, 0x800080ff, 0xff),
-    (0x00054603, 0x1, 0xff807f00817f, 0x81),
-    (0x00354603, 0x0, 0x8899aabbccddeeff, 0xcc),
-    (0x00154603, 0x4, 0x123456789abcdef, 0x45),
-    (0x00055603, 0x0, 0x8000000000000000, 0x0),
-    (0xff855603, 0x8, 0x7fffffffffffffff, 0xffff),
-    (0x7ff55603, 0xfffffffffffff801, 0xffffffffffffffff, 0xffff),
-    (0x80055603, 0x800, 0x800080ff, 0x80ff),
-    (0x00055603, 0x1, 0xff807f00817f, 0x81),
-    (0x00355603, 0x0, 0x8899aabbccddeeff, 0xbbcc),
-    (0x00155603, 0x4, 0x123456789abcdef, 0x2345),
-    (0x00056603, 0x0, 0x8000000000000000, 0x0),
-    (0xff856603, 0x8, 0x7fffffffffffffff, 0xffffffff),
-    (
-        0x7ff56603,
-        0xfffffffffffff801,
-        0xffffffffffffffff,
-        0xffffffff,
-    ),
-    (0x80056603, 0x800, 0x800080ff, 0x800080ff),
-    (0x00056603, 0x1, 0xff807f00817f, 0x807f0081),
-    (0x00356603, 0x0, 0x8899aabbccddeeff, 0x99aabbcc),
-    (0x00156603, 0x4, 0x123456789abcdef, 0x12345),
-    (0x00b50023, 0x0, 0x8000000000000000, 0x1122334455667700),
-    (0xfeb50c23, 0x8, 0xffffffffffffffff, 0x11223344556677ff),
-    (
-        0x7eb50fa3,
-        0xfffffffffffff801,
-        0x8899aabbccddeeff,
-        0x11223344556677ff,
-    ),
-    (0x80b50023, 0x800, 0x80, 0x1122334455667780),
-    (0x00b50023, 0x1, 0x123456789abcdef, 0x112233445566ef88),
-    (0x00b501a3, 0x0, 0x8899aabbccddeeff, 0x11223344ff667788),
-    (0xfeb50ea3, 0x0, 0x8899aabbccddeeff, 0x1122334455667788),
-    (0x00b51023, 0x0, 0x8000000000000000, 0x1122334455660000),
-    (0xfeb51c23, 0x8, 0xffffffffffffffff, 0x112233445566ffff),
-    (
-        0x7eb51fa3,
-        0xfffffffffffff801,
-        0x8899aabbccddeeff,
-        0x112233445566eeff,
-    ),
-    (0x80b51023, 0x800, 0x80, 0x1122334455660080),
-    (0x00b51023, 0x1, 0x123456789abcdef, 0x1122334455cdef88),
-    (0x00b511a3, 0x0, 0x8899aabbccddeeff, 0x112233eeff667788),
-    (0xfeb51ea3, 0x0, 0x8899aabbccddeeff, 0x1122334455667788),
-    (0x00b52023, 0x0, 0x8000000000000000, 0x1122334400000000),
-    (0xfeb52c23, 0x8, 0xffffffffffffffff, 0x11223344ffffffff),
-    (
-        0x7eb52fa3,
-        0xfffffffffffff801,
-        0x8899aabbccddeeff,
-        0x11223344ccddeeff,
-    ),
-    (0x80b52023, 0x800, 0x80, 0x1122334400000080),
-    (0x00b52023, 0x1, 0x123456789abcdef, 0x11223389abcdef88),
-    (0x00b521a3, 0x0, 0x8899aabbccddeeff, 0x11ccddeeff667788),
-    (0xfeb52ea3, 0x0, 0x8899aabbccddeeff, 0x11223344556677cc),
-    (0x00b53023, 0x0, 0x8000000000000000, 0x8000000000000000),
-    (0xfeb53c23, 0x8, 0xffffffffffffffff, 0xffffffffffffffff),
-    (
-        0x7eb53fa3,
-        0xfffffffffffff801,
-        0x8899aabbccddeeff,
-        0x8899aabbccddeeff,
-    ),
-    (0x80b53023, 0x800, 0x80, 0x80),
-    (0x00b53023, 0x1, 0x123456789abcdef, 0x23456789abcdef88),
-    (0x00b531a3, 0x0, 0x8899aabbccddeeff, 0xbbccddeeff667788),
-    (0xfeb53ea3, 0x0, 0x8899aabbccddeeff, 0x1122338899aabbcc),
-    (0x00b50463, 0x0, 0x0, 0x8),
-    (0x00b50463, 0x1, 0xffffffffffffffff, 0x4),
-    (0x00b50463, 0xffffffffffffffff, 0x1, 0x4),
-    (0x00b50463, 0x8000000000000000, 0xffffffffffffffff, 0x4),
-    (0x00b50463, 0x7fffffffffffffff, 0x1, 0x4),
-    (0x00b50463, 0xffffffffffffffff, 0xffffffffffffffff, 0x8),
-    (0x80b50063, 0x1, 0x2, 0x4),
-    (0x7eb50ee3, 0x1, 0x2, 0x4),
-    (0x00b500e3, 0x1, 0x2, 0x4),
-    (0x80b502e3, 0x1, 0x2, 0x4),
-    (0x80b50063, 0x2, 0x1, 0x4),
-    (0x7eb50ee3, 0x2, 0x1, 0x4),
-    (0x00b500e3, 0x2, 0x1, 0x4),
-    (0x80b502e3, 0x2, 0x1, 0x4),
-    (0x80b50063, 0x5, 0x5, 0xfffffffffffff000),
-    (0x7eb50ee3, 0x5, 0x5, 0xffc),
-    (0x00b51463, 0x0, 0x0, 0x4),
-    (0x00b51463, 0x1, 0xffffffffffffffff, 0x8),
-    (0x00b51463, 0xffffffffffffffff, 0x1, 0x8),
-    (0x00b51463, 0x8000000000000000, 0xffffffffffffffff, 0x8),
-    (0x00b51463, 0x7fffffffffffffff, 0x1, 0x8),
-    (0x00b51463, 0xffffffffffffffff, 0xffffffffffffffff, 0x4),
-    (0x80b51063, 0x1, 0x2, 0xfffffffffffff000),
-    (0x7eb51ee3, 0x1, 0x2, 0xffc),
-    (0x00b510e3, 0x1, 0x2, 0x800),
-    (0x80b512e3, 0x1, 0x2, 0xfffffffffffff804),
-    (0x80b51063, 0x2, 0x1, 0xfffffffffffff000),
-    (0x7eb51ee3, 0x2, 0x1, 0xffc),
-    (0x00b510e3, 0x2, 0x1, 0x800),
-    (0x80b512e3, 0x2, 0x1, 0xfffffffffffff804),
-    (0x80b51063, 0x5, 0x5, 0x4),
-    (0x7eb51ee3, 0x5, 0x5, 0x4),
-    (0x00b54463, 0x0, 0x0, 0x4),
-    (0x00b54463, 0x1, 0xffffffffffffffff, 0x4),
-    (0x00b54463, 0xffffffffffffffff, 0x1, 0x8),
-    (0x00b54463, 0x8000000000000000, 0xffffffffffffffff, 0x8),
-    (0x00b54463, 0x7fffffffffffffff, 0x1, 0x4),
-    (0x00b54463, 0xffffffffffffffff, 0xffffffffffffffff, 0x4),
-    (0x80b54063, 0x1, 0x2, 0xfffffffffffff000),
-    (0x7eb54ee3, 0x1, 0x2, 0xffc),
-    (0x00b540e3, 0x1, 0x2, 0x800),
-    (0x80b542e3, 0x1, 0x2, 0xfffffffffffff804),
-    (0x80b54063, 0x2, 0x1, 0x4),
-    (0x7eb54ee3, 0x2, 0x1, 0x4),
-    (0x00b540e3, 0x2, 0x1, 0x4),
-    (0x80b542e3, 0x2, 0x1, 0x4),
-    (0x80b54063, 0x5, 0x5, 0x4),
-    (0x7eb54ee3, 0x5, 0x5, 0x4),
-    (0x00b55463, 0x0, 0x0, 0x8),
-    (0x00b55463, 0x1, 0xffffffffffffffff, 0x8),
-    (0x00b55463, 0xffffffffffffffff, 0x1, 0x4),
-    (0x00b55463, 0x8000000000000000, 0xffffffffffffffff, 0x4),
-    (0x00b55463, 0x7fffffffffffffff, 0x1, 0x8),
-    (0x00b55463, 0xffffffffffffffff, 0xffffffffffffffff, 0x8),
-    (0x80b55063, 0x1, 0x2, 0x4),
-    (0x7eb55ee3, 0x1, 0x2, 0x4),
-    (0x00b550e3, 0x1, 0x2, 0x4),
-    (0x80b552e3, 0x1, 0x2, 0x4),
-    (0x80b55063, 0x2, 0x1, 0xfffffffffffff000),
-    (0x7eb55ee3, 0x2, 0x1, 0xffc),
-    (0x00b550e3, 0x2, 0x1, 0x800),
-    (0x80b552e3, 0x2, 0x1, 0xfffffffffffff804),
-    (0x80b55063, 0x5, 0x5, 0xfffffffffffff000),
-    (0x7eb55ee3, 0x5, 0x5, 0xffc),
-    (0x00b56463, 0x0, 0x0, 0x4),
-    (0x00b56463, 0x1, 0xffffffffffffffff, 0x8),
-    (0x00b56463, 0xffffffffffffffff, 0x1, 0x4),
-    (0x00b56463, 0x8000000000000000, 0xffffffffffffffff, 0x8),
-    (0x00b56463, 0x7fffffffffffffff, 0x1, 0x4),
-    (0x00b56463, 0xffffffffffffffff, 0xffffffffffffffff, 0x4),
-    (0x80b56063, 0x1, 0x2, 0xfffffffffffff000),
-    (0x7eb56ee3, 0x1, 0x2, 0xffc),
-    (0x00b560e3, 0x1, 0x2, 0x800),
-    (0x80b562e3, 0x1, 0x2, 0xfffffffffffff804),
-    (0x80b56063, 0x2, 0x1, 0x4),
-    (0x7eb56ee3, 0x2, 0x1, 0x4),
-    (0x00b560e3, 0x2, 0x1, 0x4),
-    (0x80b562e3, 0x2, 0x1, 0x4),
-    (0x80b56063, 0x5, 0x5, 0x4),
-    (0x7eb56ee3, 0x5, 0x5, 0x4),
-    (0x00b57463, 0x0, 0x0, 0x8),
-    (0x00b57463, 0x1, 0xffffffffffffffff, 0x4),
-    (0x00b57463, 0xffffffffffffffff, 0x1, 0x8),
-    (0x00b57463, 0x8000000000000000, 0xffffffffffffffff, 0x4),
-    (0x00b57463, 0x7fffffffffffffff, 0x1, 0x8),
-    (0x00b57463, 0xffffffffffffffff, 0xffffffffffffffff, 0x8),
-    (0x80b57063, 0x1, 0x2, 0x4),
-    (0x7eb57ee3, 0x1, 0x2, 0x4),
-    (0x00b570e3, 0x1, 0x2, 0x4),
-    (0x80b572e3, 0x1, 0x2, 0x4),
-    (0x80b57063, 0x2, 0x1, 0xfffffffffffff000),
-    (0x7eb57ee3, 0x2, 0x1, 0xffc),
-    (0x00b570e3, 0x2, 0x1, 0x800),
-    (0x80b572e3, 0x2, 0x1, 0xfffffffffffff804),
-    (0x80b57063, 0x5, 0x5, 0xfffffffffffff000),
-    (0x7eb57ee3, 0x5, 0x5, 0xffc),
-    (0x0080066f, 0x0, 0x0, 0x8),
-    (0xfc1ff66f, 0x0, 0x0, 0xffffffffffffffc0),
-    (0x0010066f, 0x0, 0x0, 0x800),
-    (0x0000166f, 0x0, 0x0, 0x1000),
-    (0x8000066f, 0x0, 0x0, 0xfffffffffff00000),
-    (0x7fdff66f, 0x0, 0x0, 0xffffc),
-    (0x5545566f, 0x0, 0x0, 0x55554),
-    (0xd54d566f, 0x0, 0x0, 0xfffffffffffd5554),
-    (0x00050667, 0x8, 0x0, 0x8),
-    (0x00050667, 0x9, 0x0, 0x8),
-    (0x7ff50667, 0xfffffffffffff82e, 0x0, 0x2c),
-    (0x80050667, 0x1000, 0x0, 0x800),
-    (0xff850667, 0x200, 0x0, 0x1f8),
-    (0x40050667, 0x0, 0x0, 0x400),
-    (0x00050567, 0xc, 0x0, 0xc),
-    (0x00050567, 0x40, 0x0, 0x40),
-];
+/// A row a line: word, a, b, and what is expected, in hexadecimal.
+pub const TABLE: &str = "00b50633 0 0 0
+00b50633 1 ffffffffffffffff 0
+00b50633 ffffffffffffffff 1 0
+00b50633 8000000000000000 ffffffffffffffff 7fffffffffffffff
+00b50633 7fffffffffffffff 1 8000000000000000
+00b50633 ffffffffffffffff ffffffffffffffff fffffffffffffffe
+00b50633 8000000000000000 7fffffffffffffff ffffffffffffffff
+00b50633 7fffffffffffffff 8000000000000000 ffffffffffffffff
+40b50633 0 0 0
+40b50633 1 ffffffffffffffff 2
+40b50633 ffffffffffffffff 1 fffffffffffffffe
+40b50633 8000000000000000 ffffffffffffffff 8000000000000001
+40b50633 7fffffffffffffff 1 7ffffffffffffffe
+40b50633 ffffffffffffffff ffffffffffffffff 0
+40b50633 8000000000000000 7fffffffffffffff 1
+40b50633 7fffffffffffffff 8000000000000000 ffffffffffffffff
+00b52633 0 0 0
+00b52633 1 ffffffffffffffff 0
+00b52633 ffffffffffffffff 1 1
+00b52633 8000000000000000 ffffffffffffffff 1
+00b52633 7fffffffffffffff 1 0
+00b52633 ffffffffffffffff ffffffffffffffff 0
+00b52633 8000000000000000 7fffffffffffffff 1
+00b52633 7fffffffffffffff 8000000000000000 0
+00b53633 0 0 0
+00b53633 1 ffffffffffffffff 1
+00b53633 ffffffffffffffff 1 0
+00b53633 8000000000000000 ffffffffffffffff 1
+00b53633 7fffffffffffffff 1 0
+00b53633 ffffffffffffffff ffffffffffffffff 0
+00b53633 8000000000000000 7fffffffffffffff 0
+00b53633 7fffffffffffffff 8000000000000000 1
+00b54633 0 0 0
+00b54633 1 ffffffffffffffff fffffffffffffffe
+00b54633 ffffffffffffffff 1 fffffffffffffffe
+00b54633 8000000000000000 ffffffffffffffff 7fffffffffffffff
+00b54633 7fffffffffffffff 1 7ffffffffffffffe
+00b54633 ffffffffffffffff ffffffffffffffff 0
+00b54633 8000000000000000 7fffffffffffffff ffffffffffffffff
+00b54633 7fffffffffffffff 8000000000000000 ffffffffffffffff
+00b56633 0 0 0
+00b56633 1 ffffffffffffffff ffffffffffffffff
+00b56633 ffffffffffffffff 1 ffffffffffffffff
+00b56633 8000000000000000 ffffffffffffffff ffffffffffffffff
+00b56633 7fffffffffffffff 1 7fffffffffffffff
+00b56633 ffffffffffffffff ffffffffffffffff ffffffffffffffff
+00b56633 8000000000000000 7fffffffffffffff ffffffffffffffff
+00b56633 7fffffffffffffff 8000000000000000 ffffffffffffffff
+00b57633 0 0 0
+00b57633 1 ffffffffffffffff 1
+00b57633 ffffffffffffffff 1 1
+00b57633 8000000000000000 ffffffffffffffff 8000000000000000
+00b57633 7fffffffffffffff 1 1
+00b57633 ffffffffffffffff ffffffffffffffff ffffffffffffffff
+00b57633 8000000000000000 7fffffffffffffff 0
+00b57633 7fffffffffffffff 8000000000000000 0
+02b50633 0 0 0
+02b50633 1 ffffffffffffffff ffffffffffffffff
+02b50633 ffffffffffffffff 1 ffffffffffffffff
+02b50633 8000000000000000 ffffffffffffffff 8000000000000000
+02b50633 7fffffffffffffff 1 7fffffffffffffff
+02b50633 ffffffffffffffff ffffffffffffffff 1
+02b50633 8000000000000000 7fffffffffffffff 8000000000000000
+02b50633 7fffffffffffffff 8000000000000000 8000000000000000
+02b51633 0 0 0
+02b51633 1 ffffffffffffffff ffffffffffffffff
+02b51633 ffffffffffffffff 1 ffffffffffffffff
+02b51633 8000000000000000 ffffffffffffffff 0
+02b51633 7fffffffffffffff 1 0
+02b51633 ffffffffffffffff ffffffffffffffff 0
+02b51633 8000000000000000 7fffffffffffffff c000000000000000
+02b51633 7fffffffffffffff 8000000000000000 c000000000000000
+02b52633 0 0 0
+02b52633 1 ffffffffffffffff 0
+02b52633 ffffffffffffffff 1 ffffffffffffffff
+02b52633 8000000000000000 ffffffffffffffff 8000000000000000
+02b52633 7fffffffffffffff 1 0
+02b52633 ffffffffffffffff ffffffffffffffff ffffffffffffffff
+02b52633 8000000000000000 7fffffffffffffff c000000000000000
+02b52633 7fffffffffffffff 8000000000000000 3fffffffffffffff
+02b53633 0 0 0
+02b53633 1 ffffffffffffffff 0
+02b53633 ffffffffffffffff 1 0
+02b53633 8000000000000000 ffffffffffffffff 7fffffffffffffff
+02b53633 7fffffffffffffff 1 0
+02b53633 ffffffffffffffff ffffffffffffffff fffffffffffffffe
+02b53633 8000000000000000 7fffffffffffffff 3fffffffffffffff
+02b53633 7fffffffffffffff 8000000000000000 3fffffffffffffff
+02b54633 1 ffffffffffffffff ffffffffffffffff
+02b54633 ffffffffffffffff 1 ffffffffffffffff
+02b54633 8000000000000000 ffffffffffffffff 8000000000000000
+02b54633 7fffffffffffffff 1 7fffffffffffffff
+02b54633 ffffffffffffffff ffffffffffffffff 1
+02b54633 8000000000000000 7fffffffffffffff ffffffffffffffff
+02b54633 7fffffffffffffff 8000000000000000 0
+02b54633 7 0 ffffffffffffffff
+02b54633 fffffffffffffff9 2 fffffffffffffffd
+02b54633 7 fffffffffffffffe fffffffffffffffd
+02b54633 fffffffffffffff9 fffffffffffffffe 3
+02b54633 8000000000000000 0 ffffffffffffffff
+02b54633 deadbeefcafef00d 12345 ffffe2b6aa67affd
+02b55633 1 ffffffffffffffff 0
+02b55633 ffffffffffffffff 1 ffffffffffffffff
+02b55633 8000000000000000 ffffffffffffffff 0
+02b55633 7fffffffffffffff 1 7fffffffffffffff
+02b55633 ffffffffffffffff ffffffffffffffff 1
+02b55633 8000000000000000 7fffffffffffffff 1
+02b55633 7fffffffffffffff 8000000000000000 0
+02b55633 7 0 ffffffffffffffff
+02b55633 fffffffffffffff9 2 7ffffffffffffffc
+02b55633 7 fffffffffffffffe 0
+02b55633 fffffffffffffff9 fffffffffffffffe 0
+02b55633 8000000000000000 0 ffffffffffffffff
+02b55633 deadbeefcafef00d 12345 c3b6fa62cc6b
+02b56633 1 ffffffffffffffff 0
+02b56633 ffffffffffffffff 1 0
+02b56633 8000000000000000 ffffffffffffffff 0
+02b56633 7fffffffffffffff 1 0
+02b56633 ffffffffffffffff ffffffffffffffff 0
+02b56633 8000000000000000 7fffffffffffffff ffffffffffffffff
+02b56633 7fffffffffffffff 8000000000000000 7fffffffffffffff
+02b56633 7 0 7
+02b56633 fffffffffffffff9 2 ffffffffffffffff
+02b56633 7 fffffffffffffffe 1
+02b56633 fffffffffffffff9 fffffffffffffffe ffffffffffffffff
+02b56633 8000000000000000 0 8000000000000000
+02b56633 deadbeefcafef00d 12345 ffffffffffffe9dc
+02b57633 1 ffffffffffffffff 1
+02b57633 ffffffffffffffff 1 0
+02b57633 8000000000000000 ffffffffffffffff 8000000000000000
+02b57633 7fffffffffffffff 1 0
+02b57633 ffffffffffffffff ffffffffffffffff 0
+02b57633 8000000000000000 7fffffffffffffff 1
+02b57633 7fffffffffffffff 8000000000000000 7fffffffffffffff
+02b57633 7 0 7
+02b57633 fffffffffffffff9 2 1
+02b57633 7 fffffffffffffffe 7
+02b57633 fffffffffffffff9 fffffffffffffffe fffffffffffffff9
+02b57633 8000000000000000 0 8000000000000000
+02b57633 deadbeefcafef00d 12345 3636
+00b51633 8000000000000001 0 8000000000000001
+00b51633 8000000000000001 1 2
+00b51633 8000000000000001 1f 80000000
+00b51633 8000000000000001 20 100000000
+00b51633 8000000000000001 3f 8000000000000000
+00b51633 8000000000000001 40 8000000000000001
+00b51633 123456789abcdef0 5f 4d5e6f7800000000
+00b51633 ffffffff80000000 4 fffffff800000000
+00b51633 7fffffff 21 fffffffe00000000
+00b55633 8000000000000001 0 8000000000000001
+00b55633 8000000000000001 1 4000000000000000
+00b55633 8000000000000001 1f 100000000
+00b55633 8000000000000001 20 80000000
+00b55633 8000000000000001 3f 1
+00b55633 8000000000000001 40 8000000000000001
+00b55633 123456789abcdef0 5f 2468acf1
+00b55633 ffffffff80000000 4 ffffffff8000000
+00b55633 7fffffff 21 0
+40b55633 8000000000000001 0 8000000000000001
+40b55633 8000000000000001 1 c000000000000000
+40b55633 8000000000000001 1f ffffffff00000000
+40b55633 8000000000000001 20 ffffffff80000000
+40b55633 8000000000000001 3f ffffffffffffffff
+40b55633 8000000000000001 40 8000000000000001
+40b55633 123456789abcdef0 5f 2468acf1
+40b55633 ffffffff80000000 4 fffffffff8000000
+40b55633 7fffffff 21 0
+00b5163b 8000000000000001 0 1
+00b5163b 8000000000000001 1 2
+00b5163b 8000000000000001 1f ffffffff80000000
+00b5163b 8000000000000001 20 1
+00b5163b 8000000000000001 3f ffffffff80000000
+00b5163b 8000000000000001 40 1
+00b5163b 123456789abcdef0 5f 0
+00b5163b ffffffff80000000 4 0
+00b5163b 7fffffff 21 fffffffffffffffe
+00b5563b 8000000000000001 0 1
+00b5563b 8000000000000001 1 0
+00b5563b 8000000000000001 1f 0
+00b5563b 8000000000000001 20 1
+00b5563b 8000000000000001 3f 0
+00b5563b 8000000000000001 40 1
+00b5563b 123456789abcdef0 5f 1
+00b5563b ffffffff80000000 4 8000000
+00b5563b 7fffffff 21 3fffffff
+40b5563b 8000000000000001 0 1
+40b5563b 8000000000000001 1 0
+40b5563b 8000000000000001 1f 0
+40b5563b 8000000000000001 20 1
+40b5563b 8000000000000001 3f 0
+40b5563b 8000000000000001 40 1
+40b5563b 123456789abcdef0 5f ffffffffffffffff
+40b5563b ffffffff80000000 4 fffffffff8000000
+40b5563b 7fffffff 21 3fffffff
+00b5063b ffffffffffffffff 1 0
+00b5063b 8000000000000000 ffffffffffffffff ffffffffffffffff
+00b5063b 7fffffffffffffff 1 0
+00b5063b 80000000 ffffffffffffffff 7fffffff
+00b5063b 7fffffff 1 ffffffff80000000
+00b5063b ffffffff80000000 ffffffff 7fffffff
+00b5063b 7 0 7
+00b5063b 7 100000000 7
+00b5063b 123456789abcdef0 fffffffe ffffffff9abcdeee
+40b5063b ffffffffffffffff 1 fffffffffffffffe
+40b5063b 8000000000000000 ffffffffffffffff 1
+40b5063b 7fffffffffffffff 1 fffffffffffffffe
+40b5063b 80000000 ffffffffffffffff ffffffff80000001
+40b5063b 7fffffff 1 7ffffffe
+40b5063b ffffffff80000000 ffffffff ffffffff80000001
+40b5063b 7 0 7
+40b5063b 7 100000000 7
+40b5063b 123456789abcdef0 fffffffe ffffffff9abcdef2
+02b5063b ffffffffffffffff 1 ffffffffffffffff
+02b5063b 8000000000000000 ffffffffffffffff 0
+02b5063b 7fffffffffffffff 1 ffffffffffffffff
+02b5063b 80000000 ffffffffffffffff ffffffff80000000
+02b5063b 7fffffff 1 7fffffff
+02b5063b ffffffff80000000 ffffffff ffffffff80000000
+02b5063b 7 0 0
+02b5063b 7 100000000 0
+02b5063b 123456789abcdef0 fffffffe ffffffffca864220
+02b5463b 80000000 ffffffffffffffff ffffffff80000000
+02b5463b 7fffffff 1 7fffffff
+02b5463b ffffffff80000000 ffffffff ffffffff80000000
+02b5463b 7 0 ffffffffffffffff
+02b5463b 7 100000000 ffffffffffffffff
+02b5463b 123456789abcdef0 fffffffe 32a19088
+02b5463b fffffffffffffff9 2 fffffffffffffffd
+02b5463b 7 fffffffffffffffe fffffffffffffffd
+02b5463b fffffffffffffff9 fffffffffffffffe 3
+02b5563b 80000000 ffffffffffffffff 0
+02b5563b 7fffffff 1 7fffffff
+02b5563b ffffffff80000000 ffffffff 0
+02b5563b 7 0 ffffffffffffffff
+02b5563b 7 100000000 ffffffffffffffff
+02b5563b 123456789abcdef0 fffffffe 0
+02b5563b fffffffffffffff9 2 7ffffffc
+02b5563b 7 fffffffffffffffe 0
+02b5563b fffffffffffffff9 fffffffffffffffe 0
+02b5663b 80000000 ffffffffffffffff 0
+02b5663b 7fffffff 1 0
+02b5663b ffffffff80000000 ffffffff 0
+02b5663b 7 0 7
+02b5663b 7 100000000 7
+02b5663b 123456789abcdef0 fffffffe 0
+02b5663b fffffffffffffff9 2 ffffffffffffffff
+02b5663b 7 fffffffffffffffe 1
+02b5663b fffffffffffffff9 fffffffffffffffe ffffffffffffffff
+02b5763b 80000000 ffffffffffffffff ffffffff80000000
+02b5763b 7fffffff 1 0
+02b5763b ffffffff80000000 ffffffff ffffffff80000000
+02b5763b 7 0 7
+02b5763b 7 100000000 7
+02b5763b 123456789abcdef0 fffffffe ffffffff9abcdef0
+02b5763b fffffffffffffff9 2 1
+02b5763b 7 fffffffffffffffe 7
+02b5763b fffffffffffffff9 fffffffffffffffe fffffffffffffff9
+00050613 0 0 0
+fff50613 1 0 0
+00150613 ffffffffffffffff 0 0
+fff50613 8000000000000000 0 7fffffffffffffff
+00150613 7fffffffffffffff 0 8000000000000000
+7ff50613 ffffffffffffffff 0 7fe
+80050613 7fffffffffffffff 0 7ffffffffffff7ff
+7ff50613 7ff 0 ffe
+00650613 5 0 b
+00052613 0 0 0
+fff52613 1 0 0
+00152613 ffffffffffffffff 0 1
+fff52613 8000000000000000 0 1
+00152613 7fffffffffffffff 0 0
+7ff52613 ffffffffffffffff 0 1
+80052613 7fffffffffffffff 0 0
+7ff52613 7ff 0 0
+00652613 5 0 1
+00053613 0 0 0
+fff53613 1 0 1
+00153613 ffffffffffffffff 0 0
+fff53613 8000000000000000 0 1
+00153613 7fffffffffffffff 0 0
+7ff53613 ffffffffffffffff 0 0
+80053613 7fffffffffffffff 0 1
+7ff53613 7ff 0 0
+00653613 5 0 1
+00054613 0 0 0
+fff54613 1 0 fffffffffffffffe
+00154613 ffffffffffffffff 0 fffffffffffffffe
+fff54613 8000000000000000 0 7fffffffffffffff
+00154613 7fffffffffffffff 0 7ffffffffffffffe
+7ff54613 ffffffffffffffff 0 fffffffffffff800
+80054613 7fffffffffffffff 0 80000000000007ff
+7ff54613 7ff 0 0
+00654613 5 0 3
+00056613 0 0 0
+fff56613 1 0 ffffffffffffffff
+00156613 ffffffffffffffff 0 ffffffffffffffff
+fff56613 8000000000000000 0 ffffffffffffffff
+00156613 7fffffffffffffff 0 7fffffffffffffff
+7ff56613 ffffffffffffffff 0 ffffffffffffffff
+80056613 7fffffffffffffff 0 ffffffffffffffff
+7ff56613 7ff 0 7ff
+00656613 5 0 7
+00057613 0 0 0
+fff57613 1 0 1
+00157613 ffffffffffffffff 0 1
+fff57613 8000000000000000 0 8000000000000000
+00157613 7fffffffffffffff 0 1
+7ff57613 ffffffffffffffff 0 7ff
+80057613 7fffffffffffffff 0 7ffffffffffff800
+7ff57613 7ff 0 7ff
+00657613 5 0 4
+0005061b 0 0 0
+0015061b 7fffffff 0 ffffffff80000000
+fff5061b 80000000 0 7fffffff
+7ff5061b ffffffffffffffff 0 7fe
+8005061b ffffffff 0 fffffffffffff7ff
+0055061b 8000000000000000 0 5
+0015061b ffffffff7fffffff 0 ffffffff80000000
+00051613 1 0 1
+01f51613 8000000000000000 0 0
+02051613 8000000000000000 0 0
+03f51613 8000000000000001 0 8000000000000000
+03e51613 7fffffffffffffff 0 c000000000000000
+00751613 123456789abcdef0 0 1a2b3c4d5e6f7800
+00055613 1 0 1
+01f55613 8000000000000000 0 100000000
+02055613 8000000000000000 0 80000000
+03f55613 8000000000000001 0 1
+03e55613 7fffffffffffffff 0 1
+00755613 123456789abcdef0 0 2468acf13579bd
+40055613 1 0 1
+41f55613 8000000000000000 0 ffffffff00000000
+42055613 8000000000000000 0 ffffffff80000000
+43f55613 8000000000000001 0 ffffffffffffffff
+43e55613 7fffffffffffffff 0 1
+40755613 123456789abcdef0 0 2468acf13579bd
+0005161b 1 0 1
+0005161b 80000000 0 ffffffff80000000
+01f5161b 80000001 0 ffffffff80000000
+0015161b 7fffffff 0 fffffffffffffffe
+0045161b ffffffff00000000 0 0
+0075161b 123456789abcdef0 0 5e6f7800
+0005561b 1 0 1
+0005561b 80000000 0 ffffffff80000000
+01f5561b 80000001 0 1
+0015561b 7fffffff 0 3fffffff
+0045561b ffffffff00000000 0 0
+0075561b 123456789abcdef0 0 13579bd
+4005561b 1 0 1
+4005561b 80000000 0 ffffffff80000000
+41f5561b 80000001 0 ffffffffffffffff
+4015561b 7fffffff 0 3fffffff
+4045561b ffffffff00000000 0 0
+4075561b 123456789abcdef0 0 ffffffffff3579bd
+00000637 0 0 0
+00001637 0 0 1000
+7ffff637 0 0 7ffff000
+80000637 0 0 ffffffff80000000
+fffff637 0 0 fffffffffffff000
+12345637 0 0 12345000
+00000617 0 0 0
+00001617 0 0 1000
+7ffff617 0 0 7ffff000
+80000617 0 0 ffffffff80000000
+fffff617 0 0 fffffffffffff000
+12345617 0 0 12345000
+00050603 0 8000000000000000 0
+ff850603 8 7fffffffffffffff ffffffffffffffff
+7ff50603 fffffffffffff801 ffffffffffffffff ffffffffffffffff
+80050603 800 800080ff ffffffffffffffff
+00050603 1 ff807f00817f ffffffffffffff81
+00350603 0 8899aabbccddeeff ffffffffffffffcc
+00150603 4 123456789abcdef 45
+00051603 0 8000000000000000 0
+ff851603 8 7fffffffffffffff ffffffffffffffff
+7ff51603 fffffffffffff801 ffffffffffffffff ffffffffffffffff
+80051603 800 800080ff ffffffffffff80ff
+00051603 1 ff807f00817f 81
+00351603 0 8899aabbccddeeff ffffffffffffbbcc
+00151603 4 123456789abcdef 2345
+00052603 0 8000000000000000 0
+ff852603 8 7fffffffffffffff ffffffffffffffff
+7ff52603 fffffffffffff801 ffffffffffffffff ffffffffffffffff
+80052603 800 800080ff ffffffff800080ff
+00052603 1 ff807f00817f ffffffff807f0081
+00352603 0 8899aabbccddeeff ffffffff99aabbcc
+00152603 4 123456789abcdef 12345
+00053603 0 8000000000000000 8000000000000000
+ff853603 8 7fffffffffffffff 7fffffffffffffff
+7ff53603 fffffffffffff801 ffffffffffffffff ffffffffffffffff
+80053603 800 800080ff 800080ff
+00053603 1 ff807f00817f ff807f0081
+00353603 0 8899aabbccddeeff 8899aabbcc
+00153603 4 123456789abcdef 12345
+00054603 0 8000000000000000 0
+ff854603 8 7fffffffffffffff ff
+7ff54603 fffffffffffff801 ffffffffffffffff ff
+80054603 800 800080ff ff
+00054603 1 ff807f00817f 81
+00354603 0 8899aabbccddeeff cc
+00154603 4 123456789abcdef 45
+00055603 0 8000000000000000 0
+ff855603 8 7fffffffffffffff ffff
+7ff55603 fffffffffffff801 ffffffffffffffff ffff
+80055603 800 800080ff 80ff
+00055603 1 ff807f00817f 81
+00355603 0 8899aabbccddeeff bbcc
+00155603 4 123456789abcdef 2345
+00056603 0 8000000000000000 0
+ff856603 8 7fffffffffffffff ffffffff
+7ff56603 fffffffffffff801 ffffffffffffffff ffffffff
+80056603 800 800080ff 800080ff
+00056603 1 ff807f00817f 807f0081
+00356603 0 8899aabbccddeeff 99aabbcc
+00156603 4 123456789abcdef 12345
+00b50023 0 8000000000000000 1122334455667700
+feb50c23 8 ffffffffffffffff 11223344556677ff
+7eb50fa3 fffffffffffff801 8899aabbccddeeff 11223344556677ff
+80b50023 800 80 1122334455667780
+00b50023 1 123456789abcdef 112233445566ef88
+00b501a3 0 8899aabbccddeeff 11223344ff667788
+feb50ea3 0 8899aabbccddeeff 1122334455667788
+00b51023 0 8000000000000000 1122334455660000
+feb51c23 8 ffffffffffffffff 112233445566ffff
+7eb51fa3 fffffffffffff801 8899aabbccddeeff 112233445566eeff
+80b51023 800 80 1122334455660080
+00b51023 1 123456789abcdef 1122334455cdef88
+00b511a3 0 8899aabbccddeeff 112233eeff667788
+feb51ea3 0 8899aabbccddeeff 1122334455667788
+00b52023 0 8000000000000000 1122334400000000
+feb52c23 8 ffffffffffffffff 11223344ffffffff
+7eb52fa3 fffffffffffff801 8899aabbccddeeff 11223344ccddeeff
+80b52023 800 80 1122334400000080
+00b52023 1 123456789abcdef 11223389abcdef88
+00b521a3 0 8899aabbccddeeff 11ccddeeff667788
+feb52ea3 0 8899aabbccddeeff 11223344556677cc
+00b53023 0 8000000000000000 8000000000000000
+feb53c23 8 ffffffffffffffff ffffffffffffffff
+7eb53fa3 fffffffffffff801 8899aabbccddeeff 8899aabbccddeeff
+80b53023 800 80 80
+00b53023 1 123456789abcdef 23456789abcdef88
+00b531a3 0 8899aabbccddeeff bbccddeeff667788
+feb53ea3 0 8899aabbccddeeff 1122338899aabbcc
+00b50463 0 0 8
+00b50463 1 ffffffffffffffff 4
+00b50463 ffffffffffffffff 1 4
+00b50463 8000000000000000 ffffffffffffffff 4
+00b50463 7fffffffffffffff 1 4
+00b50463 ffffffffffffffff ffffffffffffffff 8
+80b50063 1 2 4
+7eb50ee3 1 2 4
+00b500e3 1 2 4
+80b502e3 1 2 4
+80b50063 2 1 4
+7eb50ee3 2 1 4
+00b500e3 2 1 4
+80b502e3 2 1 4
+80b50063 5 5 fffffffffffff000
+7eb50ee3 5 5 ffc
+00b51463 0 0 4
+00b51463 1 ffffffffffffffff 8
+00b51463 ffffffffffffffff 1 8
+00b51463 8000000000000000 ffffffffffffffff 8
+00b51463 7fffffffffffffff 1 8
+00b51463 ffffffffffffffff ffffffffffffffff 4
+80b51063 1 2 fffffffffffff000
+7eb51ee3 1 2 ffc
+00b510e3 1 2 800
+80b512e3 1 2 fffffffffffff804
+80b51063 2 1 fffffffffffff000
+7eb51ee3 2 1 ffc
+00b510e3 2 1 800
+80b512e3 2 1 fffffffffffff804
+80b51063 5 5 4
+7eb51ee3 5 5 4
+00b54463 0 0 4
+00b54463 1 ffffffffffffffff 4
+00b54463 ffffffffffffffff 1 8
+00b54463 8000000000000000 ffffffffffffffff 8
+00b54463 7fffffffffffffff 1 4
+00b54463 ffffffffffffffff ffffffffffffffff 4
+80b54063 1 2 fffffffffffff000
+7eb54ee3 1 2 ffc
+00b540e3 1 2 800
+80b542e3 1 2 fffffffffffff804
+80b54063 2 1 4
+7eb54ee3 2 1 4
+00b540e3 2 1 4
+80b542e3 2 1 4
+80b54063 5 5 4
+7eb54ee3 5 5 4
+00b55463 0 0 8
+00b55463 1 ffffffffffffffff 8
+00b55463 ffffffffffffffff 1 4
+00b55463 8000000000000000 ffffffffffffffff 4
+00b55463 7fffffffffffffff 1 8
+00b55463 ffffffffffffffff ffffffffffffffff 8
+80b55063 1 2 4
+7eb55ee3 1 2 4
+00b550e3 1 2 4
+80b552e3 1 2 4
+80b55063 2 1 fffffffffffff000
+7eb55ee3 2 1 ffc
+00b550e3 2 1 800
+80b552e3 2 1 fffffffffffff804
+80b55063 5 5 fffffffffffff000
+7eb55ee3 5 5 ffc
+00b56463 0 0 4
+00b56463 1 ffffffffffffffff 8
+00b56463 ffffffffffffffff 1 4
+00b56463 8000000000000000 ffffffffffffffff 8
+00b56463 7fffffffffffffff 1 4
+00b56463 ffffffffffffffff ffffffffffffffff 4
+80b56063 1 2 fffffffffffff000
+7eb56ee3 1 2 ffc
+00b560e3 1 2 800
+80b562e3 1 2 fffffffffffff804
+80b56063 2 1 4
+7eb56ee3 2 1 4
+00b560e3 2 1 4
+80b562e3 2 1 4
+80b56063 5 5 4
+7eb56ee3 5 5 4
+00b57463 0 0 8
+00b57463 1 ffffffffffffffff 4
+00b57463 ffffffffffffffff 1 8
+00b57463 8000000000000000 ffffffffffffffff 4
+00b57463 7fffffffffffffff 1 8
+00b57463 ffffffffffffffff ffffffffffffffff 8
+80b57063 1 2 4
+7eb57ee3 1 2 4
+00b570e3 1 2 4
+80b572e3 1 2 4
+80b57063 2 1 fffffffffffff000
+7eb57ee3 2 1 ffc
+00b570e3 2 1 800
+80b572e3 2 1 fffffffffffff804
+80b57063 5 5 fffffffffffff000
+7eb57ee3 5 5 ffc
+0080066f 0 0 8
+fc1ff66f 0 0 ffffffffffffffc0
+0010066f 0 0 800
+0000166f 0 0 1000
+8000066f 0 0 fffffffffff00000
+7fdff66f 0 0 ffffc
+5545566f 0 0 55554
+d54d566f 0 0 fffffffffffd5554
+00050667 8 0 8
+00050667 9 0 8
+7ff50667 fffffffffffff82e 0 2c
+80050667 1000 0 800
+ff850667 200 0 1f8
+40050667 0 0 400
+00050567 c 0 c
+00050567 40 0 40";
