@@ -8,7 +8,6 @@ use Rattle.dt_base.specs.Fields.{little_endian}
 use Rattle.dt_rv64.specs.declared.instruction.Instr.{Instr}
 use Rattle.dt_rv64.specs.declared.instruction.Instr.TheVariants.{Fence}
 use Rattle.dt_rv64.specs.Instruction.{instr}
-use Rattle.dt_asm.specs.declared.encoder.TheConstants.{FENCE}
 use Rattle.dt_asm.specs.declared.item.Item.{Item}
 use Rattle.dt_asm.specs.declared.error.AsmErr.{AsmErr}
 use Rattle.dt_asm.specs.declared.error.AsmErr.TheVariants.{NoLabel, TwoLabels, Far, BadField, NoMemory, TooLong}
@@ -40,13 +39,13 @@ number_of : (w : ℕ) → w < 2 ^ 32 → w % 256 + 256 * (w / 256 % 256 + 256 * 
 number_of w h = omega arith
 
 -- the four bytes of a word that decodes to it are an instruction's
-pub is_word_of : (i : Instr) (w : ℕ) (bytes : List ℕ) → bytes ≡ w % 256 ∷ w / 256 % 256 ∷ w / 65536 % 256 ∷ w / 16777216 % 256 ∷ [] → w < 2 ^ 32 → instr w ≡ i → (i ≡ Fence → Some w ≡ Some FENCE) → IsWordOf i bytes
+pub is_word_of : (i : Instr) (w : ℕ) (bytes : List ℕ) → bytes ≡ w % 256 ∷ w / 256 % 256 ∷ w / 65536 % 256 ∷ w / 16777216 % 256 ∷ [] → w < 2 ^ 32 → instr w ≡ i → (i ≡ Fence → Some w ≡ Some 0x0000000F) → IsWordOf i bytes
 is_word_of i w bytes e h decoded bare =
     let number : little_endian bytes ≡ w = ap little_endian e ∙ number_of w h in
     record {
       four = ap length e;
       decoded = ap instr number ∙ decoded;
-      bare = λ f. let same : Some w ≡ Some FENCE = bare f in let w_is : w ≡ FENCE = cc in number ∙ w_is;
+      bare = λ f. let same : Some w ≡ Some 0x0000000F = bare f in let w_is : w ≡ 0x0000000F = cc in number ∙ w_is;
     }
 
 total-append : (items more : List Item) → total (items ++ more) ≡ total items + total more

@@ -50,8 +50,8 @@ fn add_item(code: &mut Vec<u8>, items: &[Item], at: u64, item: &Item) -> Result<
             add_word(code, &branch_by(*funct3, *rs1, *rs2, offset))
         }
         Item::Jump(label) => {
-            let immediate = distance(items, at, *label);
-            add_word(code, &Instr::Jal { rd: 0, immediate })
+            let imm = distance(items, at, *label);
+            add_word(code, &Instr::Jal { rd: 0, imm })
         }
         Item::Bytes(bytes) => Ok(code.extend_from_slice(bytes.as_slice())?),
         Item::Label(_) => Ok(()),
@@ -72,40 +72,16 @@ fn add_word(code: &mut Vec<u8>, i: &Instr) -> Result<(), AsmErr>
 }
 
 // The branch with a funct3.
-fn branch_by(funct3: u8, rs1: u8, rs2: u8, immediate: i64) -> Instr
-    ensures { result ≡ branch_in funct3 rs1 rs2 immediate }
+fn branch_by(funct3: u8, rs1: u8, rs2: u8, imm: i64) -> Instr
+    ensures { result ≡ branch_in funct3 rs1 rs2 imm }
 {
     match funct3 {
-        0 => Instr::Beq {
-            rs1,
-            rs2,
-            immediate,
-        },
-        1 => Instr::Bne {
-            rs1,
-            rs2,
-            immediate,
-        },
-        4 => Instr::Blt {
-            rs1,
-            rs2,
-            immediate,
-        },
-        5 => Instr::Bge {
-            rs1,
-            rs2,
-            immediate,
-        },
-        6 => Instr::Bltu {
-            rs1,
-            rs2,
-            immediate,
-        },
-        7 => Instr::Bgeu {
-            rs1,
-            rs2,
-            immediate,
-        },
+        0 => Instr::Beq { rs1, rs2, imm },
+        1 => Instr::Bne { rs1, rs2, imm },
+        4 => Instr::Blt { rs1, rs2, imm },
+        5 => Instr::Bge { rs1, rs2, imm },
+        6 => Instr::Bltu { rs1, rs2, imm },
+        7 => Instr::Bgeu { rs1, rs2, imm },
         _ => Instr::Unknown,
     }
 }

@@ -37,7 +37,7 @@ const JAL: u32 = 0x6f;
 const SYSTEM: u32 = 0x73;
 
 // The words without fields.
-pub const FENCE: u32 = 0x0000_000f;
+const FENCE: u32 = 0x0000_000f;
 
 const ECALL: u32 = 0x0000_0073;
 
@@ -47,7 +47,7 @@ const EBREAK: u32 = 0x0010_0073;
 pub fn encode(i: &Instr) -> Option<u32>
     ensures round { IfSome result (λ word. instr word ≡ i.now) }
     ensures some { is_some result ≡ fits i.now }
-    ensures bare { i.now ≡ Fence → result ≡ Some FENCE }
+    ensures bare { i.now ≡ Fence → result ≡ Some 0x0000000F }
 {
     match i {
         Instr::Lui { .. } | Instr::Auipc { .. } | Instr::Jal { .. } | Instr::Jalr { .. } =>
@@ -117,10 +117,10 @@ fn upper_or_jump(i: &Instr) -> Option<u32>
     ensures some { is_some result ≡ (is_jump i.now && fits i.now) }
 {
     match *i {
-        Instr::Lui { rd, immediate } => upper_word(LUI, rd, immediate),
-        Instr::Auipc { rd, immediate } => upper_word(AUIPC, rd, immediate),
-        Instr::Jal { rd, immediate } => jump_word(JAL, rd, immediate),
-        Instr::Jalr { rd, rs1, immediate } => immediate_word(JALR, 0, rd, rs1, immediate),
+        Instr::Lui { rd, imm } => upper_word(LUI, rd, imm),
+        Instr::Auipc { rd, imm } => upper_word(AUIPC, rd, imm),
+        Instr::Jal { rd, imm } => jump_word(JAL, rd, imm),
+        Instr::Jalr { rd, rs1, imm } => immediate_word(JALR, 0, rd, rs1, imm),
         _ => None,
     }
 }
@@ -132,36 +132,12 @@ fn branch(i: &Instr) -> Option<u32>
     ensures some { is_some result ≡ (is_branch i.now && fits i.now) }
 {
     match *i {
-        Instr::Beq {
-            rs1,
-            rs2,
-            immediate,
-        } => branch_word(BRANCH, 0, rs1, rs2, immediate),
-        Instr::Bne {
-            rs1,
-            rs2,
-            immediate,
-        } => branch_word(BRANCH, 1, rs1, rs2, immediate),
-        Instr::Blt {
-            rs1,
-            rs2,
-            immediate,
-        } => branch_word(BRANCH, 4, rs1, rs2, immediate),
-        Instr::Bge {
-            rs1,
-            rs2,
-            immediate,
-        } => branch_word(BRANCH, 5, rs1, rs2, immediate),
-        Instr::Bltu {
-            rs1,
-            rs2,
-            immediate,
-        } => branch_word(BRANCH, 6, rs1, rs2, immediate),
-        Instr::Bgeu {
-            rs1,
-            rs2,
-            immediate,
-        } => branch_word(BRANCH, 7, rs1, rs2, immediate),
+        Instr::Beq { rs1, rs2, imm } => branch_word(BRANCH, 0, rs1, rs2, imm),
+        Instr::Bne { rs1, rs2, imm } => branch_word(BRANCH, 1, rs1, rs2, imm),
+        Instr::Blt { rs1, rs2, imm } => branch_word(BRANCH, 4, rs1, rs2, imm),
+        Instr::Bge { rs1, rs2, imm } => branch_word(BRANCH, 5, rs1, rs2, imm),
+        Instr::Bltu { rs1, rs2, imm } => branch_word(BRANCH, 6, rs1, rs2, imm),
+        Instr::Bgeu { rs1, rs2, imm } => branch_word(BRANCH, 7, rs1, rs2, imm),
         _ => None,
     }
 }
@@ -173,13 +149,13 @@ fn load(i: &Instr) -> Option<u32>
     ensures some { is_some result ≡ (is_load i.now && fits i.now) }
 {
     match *i {
-        Instr::Lb { rd, rs1, immediate } => immediate_word(LOAD, 0, rd, rs1, immediate),
-        Instr::Lh { rd, rs1, immediate } => immediate_word(LOAD, 1, rd, rs1, immediate),
-        Instr::Lw { rd, rs1, immediate } => immediate_word(LOAD, 2, rd, rs1, immediate),
-        Instr::Ld { rd, rs1, immediate } => immediate_word(LOAD, 3, rd, rs1, immediate),
-        Instr::Lbu { rd, rs1, immediate } => immediate_word(LOAD, 4, rd, rs1, immediate),
-        Instr::Lhu { rd, rs1, immediate } => immediate_word(LOAD, 5, rd, rs1, immediate),
-        Instr::Lwu { rd, rs1, immediate } => immediate_word(LOAD, 6, rd, rs1, immediate),
+        Instr::Lb { rd, rs1, imm } => immediate_word(LOAD, 0, rd, rs1, imm),
+        Instr::Lh { rd, rs1, imm } => immediate_word(LOAD, 1, rd, rs1, imm),
+        Instr::Lw { rd, rs1, imm } => immediate_word(LOAD, 2, rd, rs1, imm),
+        Instr::Ld { rd, rs1, imm } => immediate_word(LOAD, 3, rd, rs1, imm),
+        Instr::Lbu { rd, rs1, imm } => immediate_word(LOAD, 4, rd, rs1, imm),
+        Instr::Lhu { rd, rs1, imm } => immediate_word(LOAD, 5, rd, rs1, imm),
+        Instr::Lwu { rd, rs1, imm } => immediate_word(LOAD, 6, rd, rs1, imm),
         _ => None,
     }
 }
@@ -191,26 +167,10 @@ fn store(i: &Instr) -> Option<u32>
     ensures some { is_some result ≡ (is_store i.now && fits i.now) }
 {
     match *i {
-        Instr::Sb {
-            rs1,
-            rs2,
-            immediate,
-        } => store_word(STORE, 0, rs1, rs2, immediate),
-        Instr::Sh {
-            rs1,
-            rs2,
-            immediate,
-        } => store_word(STORE, 1, rs1, rs2, immediate),
-        Instr::Sw {
-            rs1,
-            rs2,
-            immediate,
-        } => store_word(STORE, 2, rs1, rs2, immediate),
-        Instr::Sd {
-            rs1,
-            rs2,
-            immediate,
-        } => store_word(STORE, 3, rs1, rs2, immediate),
+        Instr::Sb { rs1, rs2, imm } => store_word(STORE, 0, rs1, rs2, imm),
+        Instr::Sh { rs1, rs2, imm } => store_word(STORE, 1, rs1, rs2, imm),
+        Instr::Sw { rs1, rs2, imm } => store_word(STORE, 2, rs1, rs2, imm),
+        Instr::Sd { rs1, rs2, imm } => store_word(STORE, 3, rs1, rs2, imm),
         _ => None,
     }
 }
@@ -222,12 +182,12 @@ fn op_immediate(i: &Instr) -> Option<u32>
     ensures some { is_some result ≡ (is_op_imm i.now && fits i.now) }
 {
     match *i {
-        Instr::Addi { rd, rs1, immediate } => immediate_word(OP_IMM, 0, rd, rs1, immediate),
-        Instr::Slti { rd, rs1, immediate } => immediate_word(OP_IMM, 2, rd, rs1, immediate),
-        Instr::Sltiu { rd, rs1, immediate } => immediate_word(OP_IMM, 3, rd, rs1, immediate),
-        Instr::Xori { rd, rs1, immediate } => immediate_word(OP_IMM, 4, rd, rs1, immediate),
-        Instr::Ori { rd, rs1, immediate } => immediate_word(OP_IMM, 6, rd, rs1, immediate),
-        Instr::Andi { rd, rs1, immediate } => immediate_word(OP_IMM, 7, rd, rs1, immediate),
+        Instr::Addi { rd, rs1, imm } => immediate_word(OP_IMM, 0, rd, rs1, imm),
+        Instr::Slti { rd, rs1, imm } => immediate_word(OP_IMM, 2, rd, rs1, imm),
+        Instr::Sltiu { rd, rs1, imm } => immediate_word(OP_IMM, 3, rd, rs1, imm),
+        Instr::Xori { rd, rs1, imm } => immediate_word(OP_IMM, 4, rd, rs1, imm),
+        Instr::Ori { rd, rs1, imm } => immediate_word(OP_IMM, 6, rd, rs1, imm),
+        Instr::Andi { rd, rs1, imm } => immediate_word(OP_IMM, 7, rd, rs1, imm),
         Instr::Slli { rd, rs1, shift } => shift_word(OP_IMM, 1, 0, rd, rs1, shift),
         Instr::Srli { rd, rs1, shift } => shift_word(OP_IMM, 5, 0, rd, rs1, shift),
         Instr::Srai { rd, rs1, shift } => shift_word(OP_IMM, 5, 0x10, rd, rs1, shift),
@@ -282,7 +242,7 @@ fn op_immediate_32(i: &Instr) -> Option<u32>
     ensures some { is_some result ≡ (is_op_imm_32 i.now && fits i.now) }
 {
     match *i {
-        Instr::Addiw { rd, rs1, immediate } => immediate_word(OP_IMM_32, 0, rd, rs1, immediate),
+        Instr::Addiw { rd, rs1, imm } => immediate_word(OP_IMM_32, 0, rd, rs1, imm),
         Instr::Slliw { rd, rs1, shift } => register_word(OP_IMM_32, 1, 0, rd, rs1, shift),
         Instr::Srliw { rd, rs1, shift } => register_word(OP_IMM_32, 5, 0, rd, rs1, shift),
         Instr::Sraiw { rd, rs1, shift } => register_word(OP_IMM_32, 5, 0x20, rd, rs1, shift),
@@ -327,7 +287,7 @@ fn op_32_multiply(i: &Instr) -> Option<u32>
 fn system(i: &Instr) -> Option<u32>
     ensures round { IfSome result (λ word. instr word ≡ i.now) }
     ensures some { is_some result ≡ (is_system i.now && fits i.now) }
-    ensures bare { i.now ≡ Fence → result ≡ Some FENCE }
+    ensures bare { i.now ≡ Fence → result ≡ Some 0x0000000F }
 {
     match *i {
         Instr::Fence => Some(FENCE),

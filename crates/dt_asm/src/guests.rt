@@ -112,15 +112,15 @@ fn fork(guest: &mut Guest) -> Result<(), NoMemory>
 }
 
 // LUI.
-fn lui(rd: u8, immediate: i64) -> Instr
-    ensures { result ≡ Lui rd immediate }
+fn lui(rd: u8, imm: i64) -> Instr
+    ensures { result ≡ Lui rd imm }
 {
-    Instr::Lui { rd, immediate }
+    Instr::Lui { rd, imm }
 }
 
 // ADDI.
-fn addi(rd: u8, rs1: u8, immediate: i64) -> Instr
-    ensures { result ≡ Addi rd rs1 immediate }
+fn addi(rd: u8, rs1: u8, imm: i64) -> Instr
+    ensures { result ≡ Addi rd rs1 imm }
 {
-    Instr::Addi { rd, rs1, immediate }
+    Instr::Addi { rd, rs1, imm }
 }

@@ -85,7 +85,7 @@ fn short(register: u8, number: i64) -> Instr
     Instr::Addi {
         rd: register,
         rs1: 0,
-        immediate: number,
+        imm: number,
     }
 }
 
@@ -96,7 +96,7 @@ fn word_high(register: u8, number: i64) -> Instr
 {
     Instr::Lui {
         rd: register,
-        immediate: low_32(without_low_12(number)),
+        imm: low_32(without_low_12(number)),
     }
 }
 
@@ -107,7 +107,7 @@ fn word_low(register: u8, number: i64) -> Instr
     Instr::Addiw {
         rd: register,
         rs1: register,
-        immediate: low_12(number),
+        imm: low_12(number),
     }
 }
 
@@ -129,7 +129,7 @@ fn low_added(register: u8, number: i64) -> Instr
     Instr::Addi {
         rd: register,
         rs1: register,
-        immediate: low_12(number),
+        imm: low_12(number),
     }
 }
 

@@ -21,14 +21,14 @@ pub fn register_word(code: u32, minor: u32, upper: u32, rd: u8, rs1: u8, rs2: u8
 }
 
 // I.
-pub fn immediate_word(code: u32, minor: u32, rd: u8, rs1: u8, immediate: i64) -> Option<u32>
+pub fn immediate_word(code: u32, minor: u32, rd: u8, rs1: u8, imm: i64) -> Option<u32>
     requires code { code < 2 ^ 7 }
     requires minor { minor < 2 ^ 3 }
-    ensures some { is_some result ≡ fits_i rd rs1 immediate }
-    ensures word { IfSome result (IsI code minor rd rs1 immediate) }
+    ensures some { is_some result ≡ fits_i rd rs1 imm }
+    ensures word { IfSome result (IsI code minor rd rs1 imm) }
 {
     if rd < REGISTERS && rs1 < REGISTERS {
-        let bits = low_bits(immediate)?;
+        let bits = low_bits(imm)?;
         Some(code + (u32::from(rd) << 7) + (minor << 12) + (u32::from(rs1) << 15) + (bits << 20))
     } else {
         None
@@ -71,14 +71,14 @@ pub fn counter_word(code: u32, minor: u32, rd: u8, counter: u16) -> Option<u32>
 }
 
 // S.
-pub fn store_word(code: u32, minor: u32, rs1: u8, rs2: u8, immediate: i64) -> Option<u32>
+pub fn store_word(code: u32, minor: u32, rs1: u8, rs2: u8, imm: i64) -> Option<u32>
     requires code { code < 2 ^ 7 }
     requires minor { minor < 2 ^ 3 }
-    ensures some { is_some result ≡ fits_s rs1 rs2 immediate }
-    ensures word { IfSome result (IsS code minor rs1 rs2 immediate) }
+    ensures some { is_some result ≡ fits_s rs1 rs2 imm }
+    ensures word { IfSome result (IsS code minor rs1 rs2 imm) }
 {
     if rs1 < REGISTERS && rs2 < REGISTERS {
-        let bits = low_bits(immediate)?;
+        let bits = low_bits(imm)?;
         Some(assembled(code, bits & 0x1f, minor, rs1, rs2, bits >> 5))
     } else {
         None
@@ -87,14 +87,14 @@ pub fn store_word(code: u32, minor: u32, rs1: u8, rs2: u8, immediate: i64) -> Op
 
 // B: bits 4 to 1 and bit 11 stand at the place of rd, bits 12 and 10 to 5 at that of funct7.
 #[tactic(auto, using(crate::proofs::Pieces::near_whole))]
-pub fn branch_word(code: u32, minor: u32, rs1: u8, rs2: u8, immediate: i64) -> Option<u32>
+pub fn branch_word(code: u32, minor: u32, rs1: u8, rs2: u8, imm: i64) -> Option<u32>
     requires code { code < 2 ^ 7 }
     requires minor { minor < 2 ^ 3 }
-    ensures some { is_some result ≡ fits_b rs1 rs2 immediate }
-    ensures word { IfSome result (IsB code minor rs1 rs2 immediate) }
+    ensures some { is_some result ≡ fits_b rs1 rs2 imm }
+    ensures word { IfSome result (IsB code minor rs1 rs2 imm) }
 {
     if rs1 < REGISTERS && rs2 < REGISTERS {
-        let bits = near_bits(immediate)?;
+        let bits = near_bits(imm)?;
         let low = near_low(bits);
         let high = near_high(bits);
         Some(assembled(code, low, minor, rs1, rs2, high))
@@ -124,13 +124,13 @@ fn near_high(bits: u32) -> u32
 }
 
 // U.
-pub fn upper_word(code: u32, rd: u8, immediate: i64) -> Option<u32>
+pub fn upper_word(code: u32, rd: u8, imm: i64) -> Option<u32>
     requires code { code < 2 ^ 7 }
-    ensures some { is_some result ≡ fits_u rd immediate }
-    ensures word { IfSome result (IsU code rd immediate) }
+    ensures some { is_some result ≡ fits_u rd imm }
+    ensures word { IfSome result (IsU code rd imm) }
 {
     if rd < REGISTERS {
-        let bits = upper_bits(immediate)?;
+        let bits = upper_bits(imm)?;
         Some(code + (u32::from(rd) << 7) + (bits << 12))
     } else {
         None
@@ -138,13 +138,13 @@ pub fn upper_word(code: u32, rd: u8, immediate: i64) -> Option<u32>
 }
 
 // J.
-pub fn jump_word(code: u32, rd: u8, immediate: i64) -> Option<u32>
+pub fn jump_word(code: u32, rd: u8, imm: i64) -> Option<u32>
     requires code { code < 2 ^ 7 }
-    ensures some { is_some result ≡ fits_j rd immediate }
-    ensures word { IfSome result (IsJ code rd immediate) }
+    ensures some { is_some result ≡ fits_j rd imm }
+    ensures word { IfSome result (IsJ code rd imm) }
 {
     if rd < REGISTERS {
-        let bits = far_bits(immediate)?;
+        let bits = far_bits(imm)?;
         let low = (bits >> 12 & 0xff) + ((bits >> 11 & 1) << 8);
         let high = (bits >> 1 & 0x3ff) + (bits >> 20 << 10);
         Some(code + (u32::from(rd) << 7) + (low << 12) + (high << 21))
@@ -154,17 +154,17 @@ pub fn jump_word(code: u32, rd: u8, immediate: i64) -> Option<u32>
 }
 
 // Whether a B immediate can hold the number.
-pub fn is_near(immediate: i64) -> bool
-    ensures { result ≡ nears immediate }
+pub fn is_near(imm: i64) -> bool
+    ensures { result ≡ nears imm }
 {
-    -4096 <= immediate && immediate < 4096 && immediate % 2 == 0
+    -4096 <= imm && imm < 4096 && imm % 2 == 0
 }
 
 // Whether a J immediate can hold the number.
-pub fn is_far(immediate: i64) -> bool
-    ensures { result ≡ reaches immediate }
+pub fn is_far(imm: i64) -> bool
+    ensures { result ≡ reaches imm }
 {
-    -0x10_0000 <= immediate && immediate < 0x10_0000 && immediate % 2 == 0
+    -0x10_0000 <= imm && imm < 0x10_0000 && imm % 2 == 0
 }
 
 // The word of these fields.
@@ -182,50 +182,50 @@ fn assembled(code: u32, rd: u32, minor: u32, rs1: u8, rs2: u8, upper: u32) -> u3
 }
 
 // The twelve bits of an I or S immediate.
-fn low_bits(immediate: i64) -> Option<u32>
-    ensures some { is_some result ≡ is_low immediate }
-    ensures bits { IfSome result (IsBits 12 immediate) }
+fn low_bits(imm: i64) -> Option<u32>
+    ensures some { is_some result ≡ is_low imm }
+    ensures bits { IfSome result (IsBits 12 imm) }
 {
-    if -2048 <= immediate && immediate < 2048 {
-        Some((immediate.cast_unsigned() & 0xfff) as u32)
+    if -2048 <= imm && imm < 2048 {
+        Some((imm.cast_unsigned() & 0xfff) as u32)
     } else {
         None
     }
 }
 
 // The thirteen bits of a B immediate, the lowest of which is 0.
-fn near_bits(immediate: i64) -> Option<u32>
-    ensures some { is_some result ≡ nears immediate }
-    ensures bits { IfSome result (λ bits. IsBits 13 immediate bits) }
+fn near_bits(imm: i64) -> Option<u32>
+    ensures some { is_some result ≡ nears imm }
+    ensures bits { IfSome result (λ bits. IsBits 13 imm bits) }
     ensures even { IfSome result (λ bits. bits % 2 ≡ 0) }
 {
-    if is_near(immediate) {
-        Some((immediate.cast_unsigned() & 0x1fff) as u32)
+    if is_near(imm) {
+        Some((imm.cast_unsigned() & 0x1fff) as u32)
     } else {
         None
     }
 }
 
 // The twenty upper bits of a U immediate.
-fn upper_bits(immediate: i64) -> Option<u32>
-    ensures some { is_some result ≡ is_upper immediate }
-    ensures bits { IfSome result (λ bits. IsBits 32 immediate (bits * 2 ^ 12)) }
+fn upper_bits(imm: i64) -> Option<u32>
+    ensures some { is_some result ≡ is_upper imm }
+    ensures bits { IfSome result (λ bits. IsBits 32 imm (bits * 2 ^ 12)) }
 {
-    if -0x8000_0000 <= immediate && immediate < 0x8000_0000 && immediate % 4096 == 0 {
-        Some((immediate.cast_unsigned() >> 12 & 0xf_ffff) as u32)
+    if -0x8000_0000 <= imm && imm < 0x8000_0000 && imm % 4096 == 0 {
+        Some((imm.cast_unsigned() >> 12 & 0xf_ffff) as u32)
     } else {
         None
     }
 }
 
 // The twenty-one bits of a J immediate, the lowest of which is 0.
-fn far_bits(immediate: i64) -> Option<u32>
-    ensures some { is_some result ≡ reaches immediate }
-    ensures bits { IfSome result (λ bits. IsBits 21 immediate bits) }
+fn far_bits(imm: i64) -> Option<u32>
+    ensures some { is_some result ≡ reaches imm }
+    ensures bits { IfSome result (λ bits. IsBits 21 imm bits) }
     ensures even { IfSome result (λ bits. bits % 2 ≡ 0) }
 {
-    if is_far(immediate) {
-        Some((immediate.cast_unsigned() & 0x1f_ffff) as u32)
+    if is_far(imm) {
+        Some((imm.cast_unsigned() & 0x1f_ffff) as u32)
     } else {
         None
     }

@@ -83,6 +83,6 @@ fn keep(guest: &mut Guest, at: i64) -> Result<(), NoMemory> {
     guest.ins(Instr::Sd {
         rs1: T0,
         rs2: A0,
-        immediate: 0,
+        imm: 0,
     })
 }

@@ -2,11 +2,15 @@
 #![tactic(auto)]
 
 #[cfg(test)]
+mod assembler;
+#[cfg(test)]
 mod bench;
 #[cfg(test)]
 mod calls;
 #[cfg(test)]
 mod copies;
+#[cfg(test)]
+mod encodings;
 #[cfg(test)]
 mod faults;
 #[cfg(test)]

@@ -60,7 +60,7 @@ fn refuses_short_files_and_unknown_words(rt: HostRuntime) -> Result<(), Fail> {
             Instr::Addi {
                 rd: 17,
                 rs1: 0,
-                immediate: 139
+                imm: 139
             }
         )
     );
@@ -70,7 +70,7 @@ fn refuses_short_files_and_unknown_words(rt: HostRuntime) -> Result<(), Fail> {
             Instr::Addi {
                 rd: 10,
                 rs1: 0,
-                immediate: -1
+                imm: -1
             }
         )
     );

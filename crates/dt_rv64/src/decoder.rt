@@ -18,15 +18,15 @@ pub fn decode(word: u32) -> Instr
     match operation(word) {
         0x37 => Instr::Lui {
             rd: destination(word),
-            immediate: upper_immediate(word),
+            imm: upper_immediate(word),
         },
         0x17 => Instr::Auipc {
             rd: destination(word),
-            immediate: upper_immediate(word),
+            imm: upper_immediate(word),
         },
         0x6f => Instr::Jal {
             rd: destination(word),
-            immediate: jump_immediate(word),
+            imm: jump_immediate(word),
         },
         0x67 => jump_register(word),
         0x63 => branch(word),
@@ -48,9 +48,9 @@ fn jump_register(word: u32) -> Instr
 {
     let rd = destination(word);
     let rs1 = first_source(word);
-    let immediate = low_immediate(word);
+    let imm = low_immediate(word);
     match minor(word) {
-        0 => Instr::Jalr { rd, rs1, immediate },
+        0 => Instr::Jalr { rd, rs1, imm },
         _ => Instr::Unknown,
     }
 }
@@ -61,38 +61,14 @@ fn branch(word: u32) -> Instr
 {
     let rs1 = first_source(word);
     let rs2 = second_source(word);
-    let immediate = branch_immediate(word);
+    let imm = branch_immediate(word);
     match minor(word) {
-        0 => Instr::Beq {
-            rs1,
-            rs2,
-            immediate,
-        },
-        1 => Instr::Bne {
-            rs1,
-            rs2,
-            immediate,
-        },
-        4 => Instr::Blt {
-            rs1,
-            rs2,
-            immediate,
-        },
-        5 => Instr::Bge {
-            rs1,
-            rs2,
-            immediate,
-        },
-        6 => Instr::Bltu {
-            rs1,
-            rs2,
-            immediate,
-        },
-        7 => Instr::Bgeu {
-            rs1,
-            rs2,
-            immediate,
-        },
+        0 => Instr::Beq { rs1, rs2, imm },
+        1 => Instr::Bne { rs1, rs2, imm },
+        4 => Instr::Blt { rs1, rs2, imm },
+        5 => Instr::Bge { rs1, rs2, imm },
+        6 => Instr::Bltu { rs1, rs2, imm },
+        7 => Instr::Bgeu { rs1, rs2, imm },
         _ => Instr::Unknown,
     }
 }
@@ -103,15 +79,15 @@ fn load(word: u32) -> Instr
 {
     let rd = destination(word);
     let rs1 = first_source(word);
-    let immediate = low_immediate(word);
+    let imm = low_immediate(word);
     match minor(word) {
-        0 => Instr::Lb { rd, rs1, immediate },
-        1 => Instr::Lh { rd, rs1, immediate },
-        2 => Instr::Lw { rd, rs1, immediate },
-        3 => Instr::Ld { rd, rs1, immediate },
-        4 => Instr::Lbu { rd, rs1, immediate },
-        5 => Instr::Lhu { rd, rs1, immediate },
-        6 => Instr::Lwu { rd, rs1, immediate },
+        0 => Instr::Lb { rd, rs1, imm },
+        1 => Instr::Lh { rd, rs1, imm },
+        2 => Instr::Lw { rd, rs1, imm },
+        3 => Instr::Ld { rd, rs1, imm },
+        4 => Instr::Lbu { rd, rs1, imm },
+        5 => Instr::Lhu { rd, rs1, imm },
+        6 => Instr::Lwu { rd, rs1, imm },
         _ => Instr::Unknown,
     }
 }
@@ -122,28 +98,12 @@ fn store(word: u32) -> Instr
 {
     let rs1 = first_source(word);
     let rs2 = second_source(word);
-    let immediate = store_immediate(word);
+    let imm = store_immediate(word);
     match minor(word) {
-        0 => Instr::Sb {
-            rs1,
-            rs2,
-            immediate,
-        },
-        1 => Instr::Sh {
-            rs1,
-            rs2,
-            immediate,
-        },
-        2 => Instr::Sw {
-            rs1,
-            rs2,
-            immediate,
-        },
-        3 => Instr::Sd {
-            rs1,
-            rs2,
-            immediate,
-        },
+        0 => Instr::Sb { rs1, rs2, imm },
+        1 => Instr::Sh { rs1, rs2, imm },
+        2 => Instr::Sw { rs1, rs2, imm },
+        3 => Instr::Sd { rs1, rs2, imm },
         _ => Instr::Unknown,
     }
 }
@@ -154,16 +114,16 @@ fn op_immediate(word: u32) -> Instr
 {
     let rd = destination(word);
     let rs1 = first_source(word);
-    let immediate = low_immediate(word);
+    let imm = low_immediate(word);
     match minor(word) {
-        0 => Instr::Addi { rd, rs1, immediate },
+        0 => Instr::Addi { rd, rs1, imm },
         1 => shift_left(word),
-        2 => Instr::Slti { rd, rs1, immediate },
-        3 => Instr::Sltiu { rd, rs1, immediate },
-        4 => Instr::Xori { rd, rs1, immediate },
+        2 => Instr::Slti { rd, rs1, imm },
+        3 => Instr::Sltiu { rd, rs1, imm },
+        4 => Instr::Xori { rd, rs1, imm },
         5 => shift_right(word),
-        6 => Instr::Ori { rd, rs1, immediate },
-        _ => Instr::Andi { rd, rs1, immediate },
+        6 => Instr::Ori { rd, rs1, imm },
+        _ => Instr::Andi { rd, rs1, imm },
     }
 }
 
@@ -200,9 +160,9 @@ fn op_immediate_32(word: u32) -> Instr
 {
     let rd = destination(word);
     let rs1 = first_source(word);
-    let immediate = low_immediate(word);
+    let imm = low_immediate(word);
     match minor(word) {
-        0 => Instr::Addiw { rd, rs1, immediate },
+        0 => Instr::Addiw { rd, rs1, imm },
         1 => shift_left_32(word),
         5 => shift_right_32(word),
         _ => Instr::Unknown,

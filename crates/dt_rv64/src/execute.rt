@@ -25,8 +25,8 @@ impl Machine {
         ensures { executed self.old instruction ≡ record { step = result; machine = self.new } }
     {
         match instruction {
-            Instr::Jal { rd, immediate } => self.jump(rd, self.pc.wrapping_add_signed(immediate)),
-            Instr::Jalr { rd, rs1, immediate } => self.jump_register(rd, rs1, immediate),
+            Instr::Jal { rd, imm } => self.jump(rd, self.pc.wrapping_add_signed(imm)),
+            Instr::Jalr { rd, rs1, imm } => self.jump_register(rd, rs1, imm),
             Instr::Fence => self.advance(),
             Instr::Ecall => Step::Call,
             Instr::Ebreak => Step::Fault(SIGTRAP),
@@ -43,42 +43,18 @@ impl Machine {
         ensures { executed self.old instruction ≡ record { step = result; machine = self.new } }
     {
         match instruction {
-            Instr::Beq {
-                rs1,
-                rs2,
-                immediate,
-            } => self.branch(self.reg(rs1) == self.reg(rs2), immediate),
-            Instr::Bne {
-                rs1,
-                rs2,
-                immediate,
-            } => self.branch(self.reg(rs1) != self.reg(rs2), immediate),
-            Instr::Blt {
-                rs1,
-                rs2,
-                immediate,
-            } => self.branch(
+            Instr::Beq { rs1, rs2, imm } => self.branch(self.reg(rs1) == self.reg(rs2), imm),
+            Instr::Bne { rs1, rs2, imm } => self.branch(self.reg(rs1) != self.reg(rs2), imm),
+            Instr::Blt { rs1, rs2, imm } => self.branch(
                 self.reg(rs1).cast_signed() < self.reg(rs2).cast_signed(),
-                immediate,
+                imm,
             ),
-            Instr::Bge {
-                rs1,
-                rs2,
-                immediate,
-            } => self.branch(
+            Instr::Bge { rs1, rs2, imm } => self.branch(
                 self.reg(rs1).cast_signed() >= self.reg(rs2).cast_signed(),
-                immediate,
+                imm,
             ),
-            Instr::Bltu {
-                rs1,
-                rs2,
-                immediate,
-            } => self.branch(self.reg(rs1) < self.reg(rs2), immediate),
-            Instr::Bgeu {
-                rs1,
-                rs2,
-                immediate,
-            } => self.branch(self.reg(rs1) >= self.reg(rs2), immediate),
+            Instr::Bltu { rs1, rs2, imm } => self.branch(self.reg(rs1) < self.reg(rs2), imm),
+            Instr::Bgeu { rs1, rs2, imm } => self.branch(self.reg(rs1) >= self.reg(rs2), imm),
             _ => self.load(instruction, data),
         }
     }
@@ -90,32 +66,32 @@ impl Machine {
         ensures { executed self.old instruction ≡ record { step = result; machine = self.new } }
     {
         match instruction {
-            Instr::Lb { rd, rs1, immediate } => {
-                let read = self.space.load1_near(data, self.address(rs1, immediate));
+            Instr::Lb { rd, rs1, imm } => {
+                let read = self.space.load1_near(data, self.address(rs1, imm));
                 self.fill(rd, signed_8(read))
             }
-            Instr::Lh { rd, rs1, immediate } => {
-                let read = self.space.load2_near(data, self.address(rs1, immediate));
+            Instr::Lh { rd, rs1, imm } => {
+                let read = self.space.load2_near(data, self.address(rs1, imm));
                 self.fill(rd, signed_16(read))
             }
-            Instr::Lw { rd, rs1, immediate } => {
-                let read = self.space.load4_near(data, self.address(rs1, immediate));
+            Instr::Lw { rd, rs1, imm } => {
+                let read = self.space.load4_near(data, self.address(rs1, imm));
                 self.fill(rd, signed_32(read))
             }
-            Instr::Ld { rd, rs1, immediate } => {
-                let read = self.space.load8_near(data, self.address(rs1, immediate));
+            Instr::Ld { rd, rs1, imm } => {
+                let read = self.space.load8_near(data, self.address(rs1, imm));
                 self.fill(rd, read)
             }
-            Instr::Lbu { rd, rs1, immediate } => {
-                let read = self.space.load1_near(data, self.address(rs1, immediate));
+            Instr::Lbu { rd, rs1, imm } => {
+                let read = self.space.load1_near(data, self.address(rs1, imm));
                 self.fill(rd, read)
             }
-            Instr::Lhu { rd, rs1, immediate } => {
-                let read = self.space.load2_near(data, self.address(rs1, immediate));
+            Instr::Lhu { rd, rs1, imm } => {
+                let read = self.space.load2_near(data, self.address(rs1, imm));
                 self.fill(rd, read)
             }
-            Instr::Lwu { rd, rs1, immediate } => {
-                let read = self.space.load4_near(data, self.address(rs1, immediate));
+            Instr::Lwu { rd, rs1, imm } => {
+                let read = self.space.load4_near(data, self.address(rs1, imm));
                 self.fill(rd, read)
             }
             _ => self.store(instruction, data),
@@ -129,26 +105,26 @@ impl Machine {
         ensures { executed self.old instruction ≡ record { step = result; machine = self.new } }
     {
         match instruction {
-            Instr::Sb {
-                rs1,
-                rs2,
-                immediate,
-            } => self.store_1(data, self.address(rs1, immediate), self.reg(rs2)),
-            Instr::Sh {
-                rs1,
-                rs2,
-                immediate,
-            } => self.store_2(data, self.address(rs1, immediate), self.reg(rs2)),
-            Instr::Sw {
-                rs1,
-                rs2,
-                immediate,
-            } => self.store_4(data, self.address(rs1, immediate), self.reg(rs2)),
-            Instr::Sd {
-                rs1,
-                rs2,
-                immediate,
-            } => self.store_8(data, self.address(rs1, immediate), self.reg(rs2)),
+            Instr::Sb { rs1, rs2, imm } => self.store_1(
+                data,
+                self.address(rs1, imm),
+                self.reg(rs2),
+            ),
+            Instr::Sh { rs1, rs2, imm } => self.store_2(
+                data,
+                self.address(rs1, imm),
+                self.reg(rs2),
+            ),
+            Instr::Sw { rs1, rs2, imm } => self.store_4(
+                data,
+                self.address(rs1, imm),
+                self.reg(rs2),
+            ),
+            Instr::Sd { rs1, rs2, imm } => self.store_8(
+                data,
+                self.address(rs1, imm),
+                self.reg(rs2),
+            ),
             _ => self.compute_immediate(instruction),
         }
     }
@@ -160,32 +136,20 @@ impl Machine {
         ensures { executed self.old instruction ≡ record { step = result; machine = self.new } }
     {
         match instruction {
-            Instr::Lui { rd, immediate } => self.put(rd, immediate.cast_unsigned()),
-            Instr::Auipc { rd, immediate } => self.put(rd, self.pc.wrapping_add_signed(immediate)),
-            Instr::Addi { rd, rs1, immediate } => self.put(
+            Instr::Lui { rd, imm } => self.put(rd, imm.cast_unsigned()),
+            Instr::Auipc { rd, imm } => self.put(rd, self.pc.wrapping_add_signed(imm)),
+            Instr::Addi { rd, rs1, imm } => self.put(
                 rd,
-                self.reg(rs1).wrapping_add(immediate.cast_unsigned()),
+                self.reg(rs1).wrapping_add(imm.cast_unsigned()),
             ),
-            Instr::Slti { rd, rs1, immediate } => self.put(
+            Instr::Slti { rd, rs1, imm } => self.put(rd, less(self.reg(rs1), imm.cast_unsigned())),
+            Instr::Sltiu { rd, rs1, imm } => self.put(
                 rd,
-                less(self.reg(rs1), immediate.cast_unsigned()),
+                less_unsigned(self.reg(rs1), imm.cast_unsigned()),
             ),
-            Instr::Sltiu { rd, rs1, immediate } => self.put(
-                rd,
-                less_unsigned(self.reg(rs1), immediate.cast_unsigned()),
-            ),
-            Instr::Xori { rd, rs1, immediate } => self.put(
-                rd,
-                self.reg(rs1) ^ immediate.cast_unsigned(),
-            ),
-            Instr::Ori { rd, rs1, immediate } => self.put(
-                rd,
-                self.reg(rs1) | immediate.cast_unsigned(),
-            ),
-            Instr::Andi { rd, rs1, immediate } => self.put(
-                rd,
-                self.reg(rs1) & immediate.cast_unsigned(),
-            ),
+            Instr::Xori { rd, rs1, imm } => self.put(rd, self.reg(rs1) ^ imm.cast_unsigned()),
+            Instr::Ori { rd, rs1, imm } => self.put(rd, self.reg(rs1) | imm.cast_unsigned()),
+            Instr::Andi { rd, rs1, imm } => self.put(rd, self.reg(rs1) & imm.cast_unsigned()),
             Instr::Slli { rd, rs1, shift } => self.put(rd, left(self.reg(rs1), u64::from(shift))),
             Instr::Srli { rd, rs1, shift } => self.put(rd, right(self.reg(rs1), u64::from(shift))),
             Instr::Srai { rd, rs1, shift } => self.put(
@@ -227,9 +191,9 @@ impl Machine {
         ensures { executed self.old instruction ≡ record { step = result; machine = self.new } }
     {
         match instruction {
-            Instr::Addiw { rd, rs1, immediate } => self.put(
+            Instr::Addiw { rd, rs1, imm } => self.put(
                 rd,
-                add_32(self.reg(rs1), immediate.cast_unsigned()),
+                add_32(self.reg(rs1), imm.cast_unsigned()),
             ),
             Instr::Slliw { rd, rs1, shift } => self.put(
                 rd,

@@ -5,59 +5,59 @@
 #[derive(Clone, Copy, Debug)]
 pub enum Instr {
     /// Load upper immediate: the immediate with its twelve zeros.
-    Lui { rd: u8, immediate: i64 },
+    Lui { rd: u8, imm: i64 },
     /// Add upper immediate to the program counter.
-    Auipc { rd: u8, immediate: i64 },
+    Auipc { rd: u8, imm: i64 },
     /// Jump and link, by an offset.
-    Jal { rd: u8, immediate: i64 },
+    Jal { rd: u8, imm: i64 },
     /// Jump and link, to a register and an offset.
-    Jalr { rd: u8, rs1: u8, immediate: i64 },
+    Jalr { rd: u8, rs1: u8, imm: i64 },
     /// Branch where equal.
-    Beq { rs1: u8, rs2: u8, immediate: i64 },
+    Beq { rs1: u8, rs2: u8, imm: i64 },
     /// Branch where not equal.
-    Bne { rs1: u8, rs2: u8, immediate: i64 },
+    Bne { rs1: u8, rs2: u8, imm: i64 },
     /// Branch where less, signed.
-    Blt { rs1: u8, rs2: u8, immediate: i64 },
+    Blt { rs1: u8, rs2: u8, imm: i64 },
     /// Branch where not less, signed.
-    Bge { rs1: u8, rs2: u8, immediate: i64 },
+    Bge { rs1: u8, rs2: u8, imm: i64 },
     /// Branch where less, unsigned.
-    Bltu { rs1: u8, rs2: u8, immediate: i64 },
+    Bltu { rs1: u8, rs2: u8, imm: i64 },
     /// Branch where not less, unsigned.
-    Bgeu { rs1: u8, rs2: u8, immediate: i64 },
+    Bgeu { rs1: u8, rs2: u8, imm: i64 },
     /// Load a byte, sign-extended.
-    Lb { rd: u8, rs1: u8, immediate: i64 },
+    Lb { rd: u8, rs1: u8, imm: i64 },
     /// Load two bytes, sign-extended.
-    Lh { rd: u8, rs1: u8, immediate: i64 },
+    Lh { rd: u8, rs1: u8, imm: i64 },
     /// Load four bytes, sign-extended.
-    Lw { rd: u8, rs1: u8, immediate: i64 },
+    Lw { rd: u8, rs1: u8, imm: i64 },
     /// Load eight bytes.
-    Ld { rd: u8, rs1: u8, immediate: i64 },
+    Ld { rd: u8, rs1: u8, imm: i64 },
     /// Load a byte, zero-extended.
-    Lbu { rd: u8, rs1: u8, immediate: i64 },
+    Lbu { rd: u8, rs1: u8, imm: i64 },
     /// Load two bytes, zero-extended.
-    Lhu { rd: u8, rs1: u8, immediate: i64 },
+    Lhu { rd: u8, rs1: u8, imm: i64 },
     /// Load four bytes, zero-extended.
-    Lwu { rd: u8, rs1: u8, immediate: i64 },
+    Lwu { rd: u8, rs1: u8, imm: i64 },
     /// Store a byte.
-    Sb { rs1: u8, rs2: u8, immediate: i64 },
+    Sb { rs1: u8, rs2: u8, imm: i64 },
     /// Store two bytes.
-    Sh { rs1: u8, rs2: u8, immediate: i64 },
+    Sh { rs1: u8, rs2: u8, imm: i64 },
     /// Store four bytes.
-    Sw { rs1: u8, rs2: u8, immediate: i64 },
+    Sw { rs1: u8, rs2: u8, imm: i64 },
     /// Store eight bytes.
-    Sd { rs1: u8, rs2: u8, immediate: i64 },
+    Sd { rs1: u8, rs2: u8, imm: i64 },
     /// Add immediate.
-    Addi { rd: u8, rs1: u8, immediate: i64 },
+    Addi { rd: u8, rs1: u8, imm: i64 },
     /// Set where less than the immediate, signed.
-    Slti { rd: u8, rs1: u8, immediate: i64 },
+    Slti { rd: u8, rs1: u8, imm: i64 },
     /// Set where less than the immediate, unsigned.
-    Sltiu { rd: u8, rs1: u8, immediate: i64 },
+    Sltiu { rd: u8, rs1: u8, imm: i64 },
     /// Exclusive or with the immediate.
-    Xori { rd: u8, rs1: u8, immediate: i64 },
+    Xori { rd: u8, rs1: u8, imm: i64 },
     /// Or with the immediate.
-    Ori { rd: u8, rs1: u8, immediate: i64 },
+    Ori { rd: u8, rs1: u8, imm: i64 },
     /// And with the immediate.
-    Andi { rd: u8, rs1: u8, immediate: i64 },
+    Andi { rd: u8, rs1: u8, imm: i64 },
     /// Shift left.
     Slli { rd: u8, rs1: u8, shift: u8 },
     /// Shift right, logical.
@@ -101,7 +101,7 @@ pub enum Instr {
     /// Remainder, unsigned.
     Remu { rd: u8, rs1: u8, rs2: u8 },
     /// Add immediate, 32 bits.
-    Addiw { rd: u8, rs1: u8, immediate: i64 },
+    Addiw { rd: u8, rs1: u8, imm: i64 },
     /// Shift left, 32 bits.
     Slliw { rd: u8, rs1: u8, shift: u8 },
     /// Shift right, logical, 32 bits.

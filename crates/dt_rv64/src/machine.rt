@@ -117,10 +117,10 @@ impl Machine {
     }
 
     // Jumps to an offset from what a register held before the jump, with bit 0 cleared.
-    pub(crate) fn jump_register(&mut self, rd: u8, rs1: u8, immediate: i64) -> Step
-        ensures { jumped self.old rd (even (address self.old rs1 immediate)) ≡ record { step = result; machine = self.new } }
+    pub(crate) fn jump_register(&mut self, rd: u8, rs1: u8, imm: i64) -> Step
+        ensures { jumped self.old rd (even (address self.old rs1 imm)) ≡ record { step = result; machine = self.new } }
     {
-        let target = cleared(self.address(rs1, immediate));
+        let target = cleared(self.address(rs1, imm));
         self.jump(rd, target)
     }
 

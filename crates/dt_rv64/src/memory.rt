@@ -9,10 +9,10 @@ use dt_space::{Miss, Near};
 
 impl Machine {
     // The address of a load or a store.
-    pub(crate) fn address(&self, rs1: u8, immediate: i64) -> u64
-        ensures { result ≡ address self.now rs1 immediate }
+    pub(crate) fn address(&self, rs1: u8, imm: i64) -> u64
+        ensures { result ≡ address self.now rs1 imm }
     {
-        self.reg(rs1).wrapping_add_signed(immediate)
+        self.reg(rs1).wrapping_add_signed(imm)
     }
 
     // Loads a register with what was read.

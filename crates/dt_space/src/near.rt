@@ -16,12 +16,12 @@ impl Near {
 
     // Where the page of this number may stand.
     #[inline(always)]
-    pub fn place(&self, number: u64) -> usize {
+    pub(crate) fn place(&self, number: u64) -> usize {
         self.places[(number % 64) as usize] as usize
     }
 
     // Keeps the place of the page of this number.
-    pub fn keep(&mut self, number: u64, place: u16) {
+    pub(crate) fn keep(&mut self, number: u64, place: u16) {
         self.places[(number % 64) as usize] = place;
     }
 }
