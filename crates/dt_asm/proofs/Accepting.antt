@@ -1,12 +1,11 @@
 -- The file of a guest is one that a reader of executables accepts.
-use Rattle.std.proofs.Common.{◌≡◌, ◌≤◌, ◌<◌, ◌^◌, ℕ, zero, suc, ◌+◌, ◌*◌, ◌/◌, ◌%◌, Bool, true, false, cond, Option, Some, None, List, [], ◌∷◌, ◌++◌, length, take, drop, max, refl, sym, ap, subst, ◌∙◌, arith}
+use Rattle.std.proofs.Common.{◌≡◌, ◌≤◌, ◌<◌, ◌^◌, ℕ, ◌+◌, true, cond, Option, Some, None, List, ◌++◌, length, take, drop, max, sym, ap, subst, ◌∙◌, arith}
 use Rattle.std.specs.Prelude.{nat_le, IfSome}
 use Rattle.std.proofs.lemmas.List.{take-append-drop}
 use Rattle.std.proofs.lemmas.Bool.Decides.{nat_tests}
 use Rattle.dt_base.specs.declared.limits.TheConstants.{FILE_LIMIT}
 use Rattle.dt_base.specs.Fields.{little_endian, low_bytes, field_at}
-use Rattle.dt_asm.specs.declared.headers.TheConstants.{HEADERS_SIZE}
-use Rattle.dt_asm.specs.Item.{GuestView, total}
+use Rattle.dt_asm.specs.Item.{GuestView}
 use Rattle.dt_asm.specs.Header.{file_header, program_header}
 use Rattle.dt_asm.specs.File.{file_size, segment_header, IsFileOf}
 use Rattle.dt_asm.specs.Accepted.{IsRoom, IsAccepted}

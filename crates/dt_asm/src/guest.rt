@@ -1,5 +1,5 @@
 // A guest: items one after the other, and the file that they make.
-ghost use Rattle.std.specs.Prelude.{◌≡◌, ◌<◌, ◌+◌, ◌^◌, ◌∷◌, ◌++◌, [], map, IfOk, IfErr, OnOk, OnErr, None, Some, pos};
+ghost use Rattle.std.specs.Prelude.{◌≡◌, ◌<◌, ◌+◌, ◌^◌, ◌∷◌, ◌++◌, [], map, IfOk, IfErr, IsOk, OnOk, OnErr, None, Some, pos};
 ghost use Rattle.dt_asm.specs.declared.item.Item.TheVariants.{Code, Branch, Jump, Bytes, Label};
 ghost use Rattle.dt_asm.specs.Item.{total, with_items};
 ghost use Rattle.dt_asm.specs.Refusal.{refusal_of};
@@ -59,9 +59,11 @@ impl Guest {
         }
     }
 
-    /// Makes the memory this many bytes long, or as long as the file where that is more, and writable.
+    /// Makes the memory this many bytes long, or as long as the file where that is more, and writable. The last size that is given
+    /// holds; it takes no memory.
     pub fn memsz(&mut self, size: u32) -> Result<(), NoMemory>
-        ensures { self.new ≡ record { items = self.old.items; memory = Some size } }
+        ensures size { self.new ≡ record { items = self.old.items; memory = Some size } }
+        ensures done { IsOk result }
     {
         self.memory = Some(size);
         Ok(())

@@ -16,4 +16,3 @@ pub use encoder::encode;
 pub use error::AsmErr;
 pub use guest::Guest;
 pub use guests::{cat1, hello, trio};
-pub use item::Item;

@@ -1,4 +1,4 @@
-use Rattle.std.proofs.Common.{◌≡◌, ℕ, ◌+◌, ◌-◌, ◌*◌, ◌<◌, ◌≤◌, length}
+use Rattle.std.proofs.Common.{◌*◌, ◌≤◌}
 use Rattle.dt_bench.proofs.speed.run.Given as goal
 
 abbrev pub invariant-loop : goal.invariant-loop
