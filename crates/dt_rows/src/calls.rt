@@ -22,8 +22,6 @@ const A1: u8 = 11;
 
 const A2: u8 = 12;
 
-const A3: u8 = 13;
-
 const WRITE: u32 = 64;
 
 const EXIT: u32 = 93;
@@ -31,8 +29,8 @@ const EXIT: u32 = 93;
 /// What a guest does.
 #[derive(Clone, Copy, Debug)]
 pub enum Does {
-    /// A call with these arguments.
-    Call(u32, [i64; 4]),
+    /// The call of this number with three arguments.
+    Call(u32, i64, i64, i64),
     /// A counter is read.
     Counter(u16),
     /// Eight bytes are stored at an address of its memory.
@@ -62,11 +60,10 @@ pub fn keeping(alloc: Global, acts: &[Does]) -> Result<Vec<u8>, AsmErr> {
 
 fn perform(guest: &mut Guest, act: Does) -> Result<(), NoMemory> {
     match act {
-        Does::Call(number, [first, second, third, fourth]) => {
+        Does::Call(number, first, second, third) => {
             guest.li(A0, first)?;
             guest.li(A1, second)?;
             guest.li(A2, third)?;
-            guest.li(A3, fourth)?;
             guest.call(number)
         }
         Does::Counter(counter) => guest.ins(Instr::ReadCounter { rd: A0, counter }),

@@ -38,11 +38,6 @@ const FILES_INDEX: &[u8] = b"{\"version\":1,\"entries\":[\
     {\"path\":\"/f\",\"type\":\"file\",\"mode\":420,\"blob\":\"f\"},\
     {\"path\":\"/p\",\"type\":\"file\",\"mode\":493,\"blob\":\"p\"}]}";
 
-// A call without a fourth argument.
-fn call(number: u32, first: i64, second: i64, third: i64) -> Does {
-    Does::Call(number, [first, second, third, 0])
-}
-
 // What a run of `/p` shows before its tree.
 fn front(came: &Came) -> &[u8] {
     let mut end = came.out.len();
@@ -120,13 +115,13 @@ fn a_read_takes_what_is_asked_for_and_left(rt: HostRuntime) -> Result<(), Fail> 
     let alloc = rt.alloc();
     let acts = [
         Does::Store(PATH, *b"/f\0\0\0\0\0\0"),
-        call(OPENAT, AT_FDCWD, PATH, 0),
-        call(READ, 3, BUFFER, 10_000),
-        call(READ, 3, BUFFER, 10_000),
-        call(OPENAT, AT_FDCWD, PATH, 0),
-        call(READ, 4, BUFFER, 9_000),
-        call(READ, 4, BUFFER, 9_000),
-        call(READ, 4, BUFFER, 9_000),
+        Does::Call(OPENAT, AT_FDCWD, PATH, 0),
+        Does::Call(READ, 3, BUFFER, 10_000),
+        Does::Call(READ, 3, BUFFER, 10_000),
+        Does::Call(OPENAT, AT_FDCWD, PATH, 0),
+        Does::Call(READ, 4, BUFFER, 9_000),
+        Does::Call(READ, 4, BUFFER, 9_000),
+        Does::Call(READ, 4, BUFFER, 9_000),
     ];
     let program = keeping(alloc, &acts)?;
     let bytes = ten_thousand(alloc)?;
@@ -149,46 +144,46 @@ fn answers_of_calls_on_files(rt: HostRuntime) -> Result<(), Fail> {
         (Does::Store(PATH + 24, *b"//f\0\0\0\0\0"), None),
         (Does::Store(PATH + 32, *b"f\0\0\0\0\0\0\0"), None),
         // The three that are open at the start: an empty input and two outputs.
-        (call(READ, 0, 0, 100), Some(0)),
-        (call(WRITE, 0, PATH, 1), Some(EBADF)),
-        (call(READ, 1, BUFFER, 1), Some(EBADF)),
-        (call(READ, 3, BUFFER, 1), Some(EBADF)),
-        (call(CLOSE, 3, 0, 0), Some(EBADF)),
-        (call(CLOSE, -1, 0, 0), Some(EBADF)),
-        (call(OPENAT, AT_FDCWD, PATH, 0), Some(3)),
-        (call(WRITE, 3, PATH, 1), Some(EBADF)),
+        (Does::Call(READ, 0, 0, 100), Some(0)),
+        (Does::Call(WRITE, 0, PATH, 1), Some(EBADF)),
+        (Does::Call(READ, 1, BUFFER, 1), Some(EBADF)),
+        (Does::Call(READ, 3, BUFFER, 1), Some(EBADF)),
+        (Does::Call(CLOSE, 3, 0, 0), Some(EBADF)),
+        (Does::Call(CLOSE, -1, 0, 0), Some(EBADF)),
+        (Does::Call(OPENAT, AT_FDCWD, PATH, 0), Some(3)),
+        (Does::Call(WRITE, 3, PATH, 1), Some(EBADF)),
         // A path may end with the memory: here is its last byte, a NUL.
-        (call(OPENAT, AT_FDCWD, 0x2_ffff, 0), Some(ENOENT)),
+        (Does::Call(OPENAT, AT_FDCWD, 0x2_ffff, 0), Some(ENOENT)),
         // A miss leaves the place; a read of nothing looks at no address.
-        (call(READ, 3, 0, 2), Some(EFAULT)),
-        (call(READ, 3, 0, 0), Some(0)),
-        (call(READ, 3, BUFFER, 2), Some(2)),
-        (call(READ, 0x1_0000_0003, BUFFER, 2), Some(1)),
-        (call(READ, 3, 0, 2), Some(0)),
+        (Does::Call(READ, 3, 0, 2), Some(EFAULT)),
+        (Does::Call(READ, 3, 0, 0), Some(0)),
+        (Does::Call(READ, 3, BUFFER, 2), Some(2)),
+        (Does::Call(READ, 0x1_0000_0003, BUFFER, 2), Some(1)),
+        (Does::Call(READ, 3, 0, 2), Some(0)),
         // Only the bytes that come have to fit: the page after the memory is not there.
-        (call(OPENAT, AT_FDCWD, PATH, 0), Some(4)),
-        (call(READ, 4, 0x2_fffd, 100), Some(3)),
-        (call(CLOSE, 4, 0, 0), Some(0)),
-        (call(READ, 4, BUFFER, 1), Some(EBADF)),
-        (call(OPENAT, AT_FDCWD, PATH, 0), Some(4)),
-        (call(READ, 4, 0x2_fffe, 100), Some(EFAULT)),
+        (Does::Call(OPENAT, AT_FDCWD, PATH, 0), Some(4)),
+        (Does::Call(READ, 4, 0x2_fffd, 100), Some(3)),
+        (Does::Call(CLOSE, 4, 0, 0), Some(0)),
+        (Does::Call(READ, 4, BUFFER, 1), Some(EBADF)),
+        (Does::Call(OPENAT, AT_FDCWD, PATH, 0), Some(4)),
+        (Does::Call(READ, 4, 0x2_fffe, 100), Some(EFAULT)),
         // Paths that lead to no file.
-        (call(OPENAT, AT_FDCWD, PATH + 8, 0), Some(ENOENT)),
-        (call(OPENAT, AT_FDCWD, PATH + 24, 0), Some(ENOENT)),
-        (call(OPENAT, AT_FDCWD, PATH + 32, 0), Some(ENOENT)),
-        (call(OPENAT, AT_FDCWD, PATH + 7, 0), Some(ENOENT)),
-        (call(OPENAT, AT_FDCWD, 0, 0), Some(EFAULT)),
+        (Does::Call(OPENAT, AT_FDCWD, PATH + 8, 0), Some(ENOENT)),
+        (Does::Call(OPENAT, AT_FDCWD, PATH + 24, 0), Some(ENOENT)),
+        (Does::Call(OPENAT, AT_FDCWD, PATH + 32, 0), Some(ENOENT)),
+        (Does::Call(OPENAT, AT_FDCWD, PATH + 7, 0), Some(ENOENT)),
+        (Does::Call(OPENAT, AT_FDCWD, 0, 0), Some(EFAULT)),
         // And here that byte is a letter, read from the file above.
-        (call(OPENAT, AT_FDCWD, 0x2_ffff, 0), Some(EFAULT)),
+        (Does::Call(OPENAT, AT_FDCWD, 0x2_ffff, 0), Some(EFAULT)),
         // The root is a directory.
-        (call(OPENAT, AT_FDCWD, PATH + 16, 0), Some(5)),
-        (call(READ, 5, BUFFER, 1), Some(EISDIR)),
-        (call(READ, 5, 0, 0), Some(EISDIR)),
+        (Does::Call(OPENAT, AT_FDCWD, PATH + 16, 0), Some(5)),
+        (Does::Call(READ, 5, BUFFER, 1), Some(EISDIR)),
+        (Does::Call(READ, 5, 0, 0), Some(EISDIR)),
         // The lowest free number is given, 1 among them.
-        (call(CLOSE, 1, 0, 0), Some(0)),
-        (call(WRITE, 1, PATH, 1), Some(EBADF)),
-        (call(OPENAT, AT_FDCWD, PATH, 0), Some(1)),
-        (call(READ, 1, BUFFER, 9), Some(3)),
+        (Does::Call(CLOSE, 1, 0, 0), Some(0)),
+        (Does::Call(WRITE, 1, PATH, 1), Some(EBADF)),
+        (Does::Call(OPENAT, AT_FDCWD, PATH, 0), Some(1)),
+        (Does::Call(READ, 1, BUFFER, 9), Some(3)),
     ];
     let mut acts = Vec::new(alloc);
     let mut answers = Vec::new(alloc);
@@ -241,9 +236,9 @@ fn paths_that_are_too_long(rt: HostRuntime) -> Result<(), Fail> {
         path[0] = b'/';
         let acts = [
             Does::Store(PATH, *b"/f\0\0\0\0\0\0"),
-            call(OPENAT, AT_FDCWD, PATH, 0),
-            call(READ, 3, BUFFER, 5_000),
-            call(OPENAT, AT_FDCWD, BUFFER, 0),
+            Does::Call(OPENAT, AT_FDCWD, PATH, 0),
+            Does::Call(READ, 3, BUFFER, 5_000),
+            Does::Call(OPENAT, AT_FDCWD, BUFFER, 0),
         ];
         let program = keeping(alloc, &acts)?;
         let files = image(&path, &program);
@@ -266,17 +261,17 @@ fn a_process_has_64_descriptors(rt: HostRuntime) -> Result<(), Fail> {
     acts.push(Does::Store(PATH, *b"/f\0\0\0\0\0\0"))?;
     acts.push(Does::Store(PATH + 8, *b"/g\0\0\0\0\0\0"))?;
     for descriptor in 3..64 {
-        acts.push(call(OPENAT, AT_FDCWD, PATH, 0))?;
+        acts.push(Does::Call(OPENAT, AT_FDCWD, PATH, 0))?;
         answers.push(descriptor)?;
     }
     // Where none is free that is told before the path is looked up, but after it is read.
     let rows = [
-        (call(OPENAT, AT_FDCWD, PATH, 0), EMFILE),
-        (call(OPENAT, AT_FDCWD, PATH + 8, 0), EMFILE),
-        (call(OPENAT, AT_FDCWD, PATH + 7, 0), ENOENT),
-        (call(OPENAT, AT_FDCWD, 0, 0), EFAULT),
-        (call(CLOSE, 10, 0, 0), 0),
-        (call(OPENAT, AT_FDCWD, PATH, 0), 10),
+        (Does::Call(OPENAT, AT_FDCWD, PATH, 0), EMFILE),
+        (Does::Call(OPENAT, AT_FDCWD, PATH + 8, 0), EMFILE),
+        (Does::Call(OPENAT, AT_FDCWD, PATH + 7, 0), ENOENT),
+        (Does::Call(OPENAT, AT_FDCWD, 0, 0), EFAULT),
+        (Does::Call(CLOSE, 10, 0, 0), 0),
+        (Does::Call(OPENAT, AT_FDCWD, PATH, 0), 10),
     ];
     for (act, answer) in rows {
         acts.push(act)?;
@@ -295,7 +290,7 @@ fn flags_are_not_known_yet(rt: HostRuntime) -> Result<(), Fail> {
     for (flags, status) in [(1, 10), (0x80000, 10), (0x1_0000_0000, 0)] {
         let acts = [
             Does::Store(PATH, *b"/f\0\0\0\0\0\0"),
-            call(OPENAT, AT_FDCWD, PATH, flags),
+            Does::Call(OPENAT, AT_FDCWD, PATH, flags),
         ];
         let program = keeping(alloc, &acts)?;
         let files = image(b"abc", &program);
