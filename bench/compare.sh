@@ -1,5 +1,6 @@
 # Runs two programs in turn, five times, and compares the best speed of each: sh compare.sh OURS PLAIN.
 set -e
+[ -x "$1" ] && [ -x "$2" ] || { echo "compare.sh: a program is not there" >&2; exit 1; }
 for turn in 1 2 3 4 5; do
     "$1" run | sed 's/^/ours /'
     "$2" | sed 's/^/plain /'
