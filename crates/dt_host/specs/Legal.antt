@@ -1,5 +1,6 @@
 -- Which answers of a host are legal: for each call a relation of the world before it, what was asked, the answer, and the world after it.
 use Rattle.std.specs.Prelude.{◌≡◌, ℕ, ◌-◌, ◌^◌, ◌<◌, ◌≤◌, min, List, [], ◌++◌, length, take, drop, None, Result, MatchResult}
+use Rattle.dt_host.specs.declared.entry.HostEntry.{HostEntry}
 use Rattle.dt_host.specs.declared.kind.NodeKind.{NodeKind}
 use Rattle.dt_host.specs.declared.kind.NodeKind.TheVariants.{File}
 use Rattle.dt_host.specs.Sink.{MovesSome}
@@ -23,6 +24,10 @@ Makes old kind result new = MatchResult result (MadeAt old kind new) (λ _. new 
 abbrev pub Binds : {A E : Type 0} → World → ℕ → List ℕ → ℕ → Result A E → World → Type 0
 Binds old d name n result new =
     MatchResult result (λ _. new ≡ with_forest old (with_entry old.forest d name n)) (λ _. new ≡ old)
+
+-- an entry that `names` found, as its name and its number
+abbrev pub named : HostEntry → List ℕ × ℕ
+named found = (found.name, found.ino)
 
 -- so many bytes of a file, from a place on, came into the front of a buffer; the file's size is a 64-bit number, as all numbers of a host are
 pub record Reads (bytes : List ℕ) (off : ℕ) (old new : List ℕ) (count : ℕ) : Type 0 where

@@ -1,10 +1,14 @@
-ghost use Rattle.std.specs.Prelude.{◌≡◌, ℕ, ◌+◌, ◌<◌, ◌≤◌, ◌^◌, None, length, IfOk, IsErrOf};
+ghost use Rattle.std.specs.Prelude.{◌≡◌, ℕ, ◌+◌, ◌<◌, ◌≤◌, ◌^◌, None, length, map, IfOk, IfSome, IsErrOf};
+ghost use Rattle.std.specs.List.Sorted.{IsPermutation};
+ghost use Rattle.std.specs.FinMap.{entries};
 ghost use Rattle.dt_host.specs.Cause.{HasCause};
-ghost use Rattle.dt_host.specs.World.{World, IsLive, IsFile, IsDir, entry, content};
-ghost use Rattle.dt_host.specs.Legal.{Makes, Binds, Reads, Writes};
+ghost use Rattle.dt_host.specs.World.{World, IsLive, IsFile, IsDir, file_at, names_at, entry, content};
+ghost use Rattle.dt_host.specs.Legal.{Makes, Binds, named, Reads, Writes};
 
+use crate::entry::HostEntry;
 use crate::error::HostErr;
 use crate::kind::NodeKind;
+use crate::raw::RawStat;
 use dt_base::FILE_LIMIT;
 
 /// The host that keeps the nodes of a container. Its numbers, orders and lengths are its own choice.
@@ -48,6 +52,26 @@ pub trait Host {
         ensures cause { HasCause (count self.old) (count self.new)
             (IsErrOf result HostErr.Failed) };
 
+    /// The entries of a directory, each once, in any order.
+    fn names(&mut self, dir: u64) -> Result<Vec<HostEntry>, HostErr>
+        requires { IsDir (view self.old).forest dir }
+        ensures ok { IfOk result
+            (λ found. IsPermutation
+            (entries (names_at (view self.old).forest dir)) (map named found.items)) }
+        ensures stays { view self.new ≡ view self.old }
+        ensures cause { HasCause (count self.old) (count self.new)
+            (IsErrOf result HostErr.Failed) };
+
+    /// What is said of a node. The size of a file is true; the rest is anything.
+    fn raw(&mut self, ino: u64) -> Result<RawStat, HostErr>
+        requires { IsLive (view self.old).forest ino }
+        ensures ok { IfOk result
+            (λ raw. IfSome (file_at (view self.old).forest ino)
+            (λ bytes. raw.size ≡ length bytes)) }
+        ensures stays { view self.new ≡ view self.old }
+        ensures cause { HasCause (count self.old) (count self.new)
+            (IsErrOf result HostErr.Failed) };
+
     /// Reads bytes of a file from `off` on into the front of `buf`, and answers how many.
     /// It is 0 exactly where the buffer is empty or nothing stands from `off` on.
     fn read_at(&mut self, ino: u64, off: u64, buf: &mut [u8]) -> Result<usize, HostErr>
@@ -65,6 +89,32 @@ pub trait Host {
         requires some { 0 < length bytes.now }
         requires fits { off + length bytes.now ≤ FILE_LIMIT }
         ensures legal { Writes (view self.old) ino off bytes.now result (view self.new) }
+        ensures cause { HasCause (count self.old) (count self.new)
+            (IsErrOf result HostErr.Failed) };
+
+    /// Which of those that wait stops next: any place among them.
+    fn next_stop(&mut self, waiting: &[u32]) -> Result<usize, HostErr>
+        requires { 0 < length waiting.now }
+        ensures ok { IfOk result (λ place. place < length waiting.now) }
+        ensures stays { view self.new ≡ view self.old }
+        ensures cause { HasCause (count self.old) (count self.new)
+            (IsErrOf result HostErr.Failed) };
+
+    /// The time of the host's clock: anything.
+    fn clock(&mut self) -> Result<u64, HostErr>
+        ensures stays { view self.new ≡ view self.old }
+        ensures cause { HasCause (count self.old) (count self.new)
+            (IsErrOf result HostErr.Failed) };
+
+    /// The count of the host's cycles: anything.
+    fn cycles(&mut self) -> Result<u64, HostErr>
+        ensures stays { view self.new ≡ view self.old }
+        ensures cause { HasCause (count self.old) (count self.new)
+            (IsErrOf result HostErr.Failed) };
+
+    /// Fills a buffer with any bytes. After an error they may be any, too.
+    fn random(&mut self, buf: &mut [u8]) -> Result<(), HostErr>
+        ensures stays { view self.new ≡ view self.old }
         ensures cause { HasCause (count self.old) (count self.new)
             (IsErrOf result HostErr.Failed) };
 

@@ -1,16 +1,20 @@
--- The nodes of a tree by number, as a forest: what stands there, and what a change of one makes of all.
-use Rattle.std.proofs.Common.{◌≡◌, ◌≢◌, ℕ, List, [], Option, Some, None, refl, sym, ap, subst, ◌∙◌, inl, inr}
+-- The nodes of a tree by number, as a forest with its orders: what stands there, and what a change of one makes of all.
+use Rattle.std.proofs.Common.{◌≡◌, ◌≢◌, ℕ, List, [], ◌∷◌, ◌++◌, Option, Some, None, refl, sym, ap, subst, ◌∙◌, inl, inr}
 use Rattle.std.proofs.lemmas.Bool.{cases_eq}
-use Rattle.std.specs.Prelude.{IsSome, IfSome, option_and_then, unwrap_or}
+use Rattle.std.specs.Prelude.{IsSome, IfSome, option_map, option_and_then, unwrap_or}
 use Rattle.std.specs.Ordering.{nat_cmp}
 use Rattle.std.specs.Cmp.{nat_cmp_total}
+use Rattle.std.specs.BTreeMap as tree
 use Rattle.std.specs.BTreeMap.{BTreeMap}
 use Rattle.std.specs.FinMap.{get, insert, empty, get-empty, same_map, nat_cmp-IsAntisymmetric}
 use Rattle.std.specs.Cmp.Lexicographic.{slice_cmp}
+use Rattle.dt_host.specs.Entries.{map_of}
 use Rattle.dt_host.specs.World.{Forest, Node, Names, file, dir, file_at, dir_at, file_bytes, dir_names, IsFile, IsDir, content, names_at, entry, with_node, with_bytes, with_entry, overwritten}
 use Rattle.dt_host.proofs.Maps.{at_insert}
+use Rattle.dt_host.proofs.MapOf.{get-map_of}
 use Rattle.dt_memhost.specs.declared.node.MemNode.{MemNode}
-use Rattle.dt_memhost.specs.Node.{node_in, nodes_of}
+use Rattle.dt_memhost.specs.Node.{node_of, node_in, nodes_of, entries_of, order_in, orders_of}
+use Rattle.dt_memhost.specs.Order.{Order, with_last}
 use Rattle.dt_memhost.proofs.Numbered.{get-nodes_of}
 
 -- the forest of a tree of nodes, with that root
@@ -37,24 +41,56 @@ entry-forest_of nodes root d name =
     in_names (dir_at (forest_of nodes root) d) name
     ∙ ap (option_and_then (λ names. get names name)) (dir_at-forest_of nodes root d)
 
+-- the orders of a tree of nodes
+pub get-orders_of : (nodes : BTreeMap ℕ MemNode) (q : ℕ) → get (orders_of nodes.entries) q ≡ order_in nodes q
+get-orders_of nodes q = get-map_of nat_cmp_total (λ n. n) entries_of q nodes.entries
+
+-- a map of what a tree of nodes has by number, where all but one stay
+module _ {Y : Type 0} (value : MemNode → Y) (old new : BTreeMap ℕ MemNode) (n : ℕ) (others : (q : ℕ) → q ≢ n → option_map value (tree.get nat_cmp new q) ≡ option_map value (tree.get nat_cmp old q)) where
+  get_value : (nodes : BTreeMap ℕ MemNode) (q : ℕ) → get (map_of {R = nat_cmp} (λ n. n) value nodes.entries) q ≡ option_map value (tree.get nat_cmp nodes q)
+  get_value nodes q = get-map_of nat_cmp_total (λ n. n) value q nodes.entries
+
+  -- that one was put there
+  pub put_value : (y : Y) → option_map value (tree.get nat_cmp new n) ≡ Some y → map_of {R = nat_cmp} (λ n. n) value new.entries ≡ insert (map_of (λ n. n) value old.entries) n y
+  put_value y here = same_map nat_cmp_total nat_cmp-IsAntisymmetric _ _ (λ q.
+      at_insert nat_cmp_total nat_cmp-IsAntisymmetric (λ found. get (map_of {R = nat_cmp} (λ n. n) value new.entries) q ≡ found) (map_of (λ n. n) value old.entries) n y q
+      (λ is. get_value new q ∙ ap (λ p. option_map value (tree.get nat_cmp new p)) is ∙ here)
+      (λ apart. get_value new q ∙ others q apart ∙ sym (get_value old q)))
+
+  -- that one stays too
+  pub same_values : option_map value (tree.get nat_cmp new n) ≡ option_map value (tree.get nat_cmp old n) → map_of {R = nat_cmp} (λ n. n) value new.entries ≡ map_of (λ n. n) value old.entries
+  same_values here = same_map nat_cmp_total nat_cmp-IsAntisymmetric _ _ (λ q. get_value new q ∙ by_number q ∙ sym (get_value old q))
+    where
+      by_number : (q : ℕ) → option_map value (tree.get nat_cmp new q) ≡ option_map value (tree.get nat_cmp old q)
+      by_number q =
+          elim (cases_eq q n) as (λ _. option_map value (tree.get nat_cmp new q) ≡ option_map value (tree.get nat_cmp old q)) [ inl is ↦ ap (λ p. option_map value (tree.get nat_cmp new p)) is ∙ here ∙ ap (λ p. option_map value (tree.get nat_cmp old p)) (sym is) | inr apart ↦ others q apart ]
+
+-- the order of a directory grows by one entry at its end
+pub order_pushed : (old new : BTreeMap ℕ MemNode) (n : ℕ) (name : List ℕ) (to : ℕ) → ((q : ℕ) → q ≢ n → order_in new q ≡ order_in old q) → IsSome (order_in old n) → order_in new n ≡ option_map (λ order. order ++ (name, to) ∷ []) (order_in old n) → orders_of new.entries ≡ with_last (orders_of old.entries) n name to
+order_pushed old new n name to others some here =
+    put_value entries_of old new n others _ (here ∙ in_order (order_in old n) some)
+    ∙ ap (λ found. insert (orders_of old.entries) n (unwrap_or found [] ++ (name, to) ∷ [])) (sym (get-orders_of old n))
+  where
+    in_order : (found : Option Order) → IsSome found → option_map (λ order. order ++ (name, to) ∷ []) found ≡ Some (unwrap_or found [] ++ (name, to) ∷ [])
+    in_order None h = cc
+    in_order (Some order) h = refl
+
+-- a directory has an order
+pub has_order : (nodes : BTreeMap ℕ MemNode) (d : ℕ) → IsSome (option_and_then dir_names (node_in nodes d)) → IsSome (order_in nodes d)
+has_order nodes d h = of_node (tree.get nat_cmp nodes d) h
+  where
+    of_node : (found : Option MemNode) → IsSome (option_and_then dir_names (option_map node_of found)) → IsSome (option_map entries_of found)
+    of_node None h = cc
+    of_node (Some node) h = refl
+
 module _ (old new : BTreeMap ℕ MemNode) (root n : ℕ) (others : (q : ℕ) → q ≢ n → node_in new q ≡ node_in old q) where
   -- where all but one stay, that one was put there
   pub put_node : (node : Node) → node_in new n ≡ Some node → forest_of new root ≡ with_node (forest_of old root) n node
-  put_node node here =
-      ap (λ nodes. record { nodes = nodes; root = root }) (same_map nat_cmp_total nat_cmp-IsAntisymmetric _ _ (λ q.
-      at_insert nat_cmp_total nat_cmp-IsAntisymmetric (λ found. get (nodes_of new.entries) q ≡ found) (nodes_of old.entries) n node q
-      (λ is. get-nodes_of new q ∙ ap (node_in new) is ∙ here)
-      (λ apart. get-nodes_of new q ∙ others q apart ∙ sym (get-nodes_of old q))))
+  put_node node here = ap (λ nodes. record { nodes = nodes; root = root }) (put_value node_of old new n others node here)
 
   -- where that one stays too, nothing changed
   pub same_forest : node_in new n ≡ node_in old n → forest_of new root ≡ forest_of old root
-  same_forest here =
-      ap (λ nodes. record { nodes = nodes; root = root }) (same_map nat_cmp_total nat_cmp-IsAntisymmetric _ _ (λ q.
-      get-nodes_of new q ∙ by_number q ∙ sym (get-nodes_of old q)))
-    where
-      by_number : (q : ℕ) → node_in new q ≡ node_in old q
-      by_number q =
-          elim (cases_eq q n) as (λ _. node_in new q ≡ node_in old q) [ inl is ↦ ap (node_in new) is ∙ here ∙ ap (node_in old) (sym is) | inr apart ↦ others q apart ]
+  same_forest here = ap (λ nodes. record { nodes = nodes; root = root }) (same_values node_of old new n others here)
 
   -- an entry put into that one's names
   pub put_entry : (name : List ℕ) (to : ℕ) → IsDir (forest_of old root) n → IfSome (option_and_then dir_names (node_in old n)) (λ names. node_in new n ≡ Some (dir (insert names name to))) → forest_of new root ≡ with_entry (forest_of old root) n name to

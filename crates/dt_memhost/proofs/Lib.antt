@@ -1,3 +1,6 @@
 pub mod Named
 pub mod Numbered
 pub mod Forests
+pub mod Arranged
+pub mod Worded
+pub mod Started

@@ -1,16 +1,35 @@
--- The entries of a directory as a map by name.
-use Rattle.std.proofs.Common.{◌≡◌, ℕ, List, [], ◌∷◌, ◌++◌, ◌&&◌, Option, Some, None, Vec, refl, sym, ◌∙◌, arith, nat_eq}
+-- The entries of a directory, in the order of their binding and as a map by name.
+use Rattle.std.proofs.Common.{◌≡◌, ℕ, List, [], ◌∷◌, ◌++◌, length, map, cond, false, ◌&&◌, Option, Some, None, Vec, refl, sym, ap, subst, ◌∙◌, arith, nat_eq}
+use Rattle.std.proofs.lemmas.List.{map-append}
+use Rattle.std.proofs.lemmas.List.Sorted.{IsPermutation-refl, IsPermutation-cons, IsPermutation-trans, IsPermutation-middle}
 use Rattle.std.specs.Prelude.{option_map, vec_items}
 use Rattle.std.specs.declared.cmp.Ordering.{Ordering}
 use Rattle.std.specs.declared.cmp.Ordering.TheVariants.{Less, Equal, Greater}
 use Rattle.std.specs.Ordering.{nat_cmp, is_eq, ordering_then}
+use Rattle.std.specs.List.{AllByRecursion, IsDistinct}
+use Rattle.std.specs.List.Sorted.{IsPermutation}
 use Rattle.std.specs.Cmp.Lexicographic.{slice_cmp, pointwise, nat_list_cmp_total}
-use Rattle.std.specs.Map.{lookup}
-use Rattle.std.specs.FinMap.{get, insert}
+use Rattle.std.specs.Map.{lookup, keys_of}
+use Rattle.std.specs.FinMap.{entries, empty, get, insert, get-entries, get-from_entries, entries-insert, from_entries_push, len-entries, len-empty}
+use Rattle.std.specs.FinMap.Entries.{find, put, by_order}
 use Rattle.std.proofs.lemmas.Bool.Decides.{nat_tests}
+use Rattle.dt_host.specs.Entries.{map_of}
 use Rattle.dt_host.proofs.Maps.{names_tie}
-use Rattle.dt_host.proofs.MapOf.{get-map_of, map_of-push}
-use Rattle.dt_memhost.specs.Dir.{names_of}
+use Rattle.dt_host.proofs.MapOf.{get-map_of}
+use Rattle.dt_memhost.specs.Order.{Order}
+use Rattle.dt_memhost.specs.Dir.{order_of, names_of}
+
+none_left : {A : Type 0} (xs : List A) → length xs ≡ 0 → xs ≡ []
+none_left [] e = refl
+none_left (x ∷ xs) e = absurd (omega arith)
+
+-- two lists that look alike still do with alike elements at their ends
+pub alike_pushed : {A B C : Type 0} (f : A → C) (g : B → C) (xs : List A) (ys : List B) (x : A) (y : B) → map f xs ≡ map g ys → f x ≡ g y → map f (xs ++ x ∷ []) ≡ map g (ys ++ y ∷ [])
+alike_pushed f g xs ys x y front last =
+    map-append f xs (x ∷ [])
+    ∙ ap (λ zs. zs ++ f x ∷ []) front
+    ∙ ap (λ z. map g ys ++ z ∷ []) last
+    ∙ sym (map-append g ys (y ∷ []))
 
 number_tie : (x y : ℕ) → nat_eq x y ≡ is_eq (nat_cmp x y)
 number_tie x y = grind (arith, nat_tests)
@@ -30,17 +49,60 @@ bytes_tie (x ∷ xs) (y ∷ ys) =
     let rest = bytes_tie xs ys in
     let both = then_tie (nat_cmp x y) (slice_cmp nat_cmp xs ys) in cc
 
+-- the map of a list of entries by the bytes of their names
+names_as_map : {Z : Type 0} (entries : List (Vec ℕ Z × ℕ)) → names_of (order_of entries) ≡ map_of vec_items (λ n. n) entries
+unfolding map_of
+names_as_map entries = refl
+
 same_found : {X : Type 0} (found : Option X) → option_map (λ x. x) found ≡ found
 same_found None = refl
 same_found (Some x) = refl
 
 -- the number under a name is what a look-up by bytes finds
-pub get-names_of : {Z : Type 0} (entries : List (Vec ℕ Z × ℕ)) (name : List ℕ) → get (names_of entries) name ≡ lookup (λ key. pointwise nat_eq name key.items) entries
+pub get-names_of : {Z : Type 0} (entries : List (Vec ℕ Z × ℕ)) (name : List ℕ) → get (names_of (order_of entries)) name ≡ lookup (λ key. pointwise nat_eq name key.items) entries
 get-names_of {Z} entries name =
-    get-map_of nat_list_cmp_total vec_items (λ n. n) name entries
+    ap (λ names. get names name) (names_as_map entries)
+    ∙ get-map_of nat_list_cmp_total vec_items (λ n. n) name entries
     ∙ same_found _
     ∙ sym (λ i. lookup (λ (key : Vec ℕ Z). bytes_tie name key.items i) entries)
 
 -- a new name goes last
-pub names_of-push : {Z : Type 0} (entries : List (Vec ℕ Z × ℕ)) (name : Vec ℕ Z) (n : ℕ) → get (names_of entries) name.items ≡ None → names_of (entries ++ (name, n) ∷ []) ≡ insert (names_of entries) name.items n
-names_of-push entries name n none = map_of-push nat_list_cmp_total vec_items (λ n. n) names_tie entries name n none
+pub order_of-push : {Z : Type 0} (entries : List (Vec ℕ Z × ℕ)) (name : Vec ℕ Z) (n : ℕ) → order_of (entries ++ (name, n) ∷ []) ≡ order_of entries ++ (name.items, n) ∷ []
+order_of-push {Z} entries name n = map-append (λ (e : Vec ℕ Z × ℕ). (e.0.items, e.1)) entries ((name, n) ∷ [])
+
+pub names_of-push : (order : Order) (name : List ℕ) (n : ℕ) → get (names_of order) name ≡ None → names_of (order ++ (name, n) ∷ []) ≡ insert (names_of order) name n
+names_of-push order name n none =
+    from_entries_push nat_list_cmp_total names_tie order name n (sym (get-from_entries nat_list_cmp_total order name) ∙ none)
+
+-- an entry whose name is new is one entry more
+put_new : (k : List ℕ) (v : ℕ) (es : Order) → find (slice_cmp nat_cmp) k es ≡ None → IsPermutation (put (slice_cmp nat_cmp) k v es) ((k, v) ∷ es)
+put_new k v [] none = IsPermutation-refl ((k, v) ∷ [])
+put_new k v (e ∷ es) none =
+    elim (slice_cmp nat_cmp k e.0) as (λ r. cond (is_eq r) (Some e.1) (find (slice_cmp nat_cmp) k es) ≡ None → IsPermutation (by_order r ((k, v) ∷ e ∷ es) ((e.0, v) ∷ es) (e ∷ put (slice_cmp nat_cmp) k v es)) ((k, v) ∷ e ∷ es)) [
+      | Less ↦ λ _. IsPermutation-refl ((k, v) ∷ e ∷ es)
+      | Equal ↦ λ h. cc
+      | Greater ↦ λ h.
+          IsPermutation-trans _ _ _ (IsPermutation-cons e _ _ (put_new k v es h)) (IsPermutation-middle (e ∷ []) (k, v) es)
+    ] none
+
+-- no entry of a list has this name, where no name is equal to it
+none_named : {Z : Type 0} (name : Vec ℕ Z) (es : List (Vec ℕ Z × ℕ)) → AllByRecursion (λ (key : Vec ℕ Z). pointwise nat_eq name.items key.items ≡ false) (keys_of es) → find (slice_cmp nat_cmp) name.items (order_of es) ≡ None
+none_named name [] h = refl
+none_named name (e ∷ es) h =
+    ap (λ b. cond b (Some e.1) (find (slice_cmp nat_cmp) name.items (order_of es))) (sym (bytes_tie name.items e.0.items) ∙ h.0)
+    ∙ none_named name es h.1
+
+-- where no name stands twice, the map has each entry once
+pub each_entry : {Z : Type 0} (es : List (Vec ℕ Z × ℕ)) → IsDistinct (λ (x y : Vec ℕ Z). pointwise nat_eq x.items y.items) (keys_of es) → IsPermutation (entries (names_of (order_of es))) (order_of es)
+unfolding IsDistinct
+each_entry [] h = subst (λ found. IsPermutation found []) (sym no_entries) (IsPermutation-refl [])
+  where
+    no_entries : entries (empty {X = ℕ} {R = slice_cmp nat_cmp}) ≡ []
+    no_entries = none_left (entries (empty {X = ℕ} {R = slice_cmp nat_cmp})) (sym (len-entries (empty {X = ℕ} {R = slice_cmp nat_cmp})) ∙ len-empty (slice_cmp nat_cmp) ℕ)
+each_entry (e ∷ es) h =
+    let names = names_of (order_of es) in
+    let rest = each_entry es h.1 in
+    let none : find (slice_cmp nat_cmp) e.0.items (entries names) ≡ None =
+    sym (get-entries names e.0.items) ∙ get-from_entries nat_list_cmp_total (order_of es) e.0.items ∙ none_named e.0 es h.0 in
+    subst (λ found. IsPermutation found ((e.0.items, e.1) ∷ order_of es)) (sym (entries-insert nat_list_cmp_total names e.0.items e.1))
+    (IsPermutation-trans _ _ _ (put_new e.0.items e.1 (entries names) none) (IsPermutation-cons (e.0.items, e.1) _ _ rest))

@@ -1,13 +1,16 @@
 -- The codes by which the states here may stand in a model.
 use Rattle.std.specs.Prelude.{ℕ, List, refl}
 use Rattle.std.specs.Coded.{Coded, code_by, coded×, coded_ℕ, coded_list}
-use Rattle.dt_host.specs.Codes.{files_code, world_code}
+use Rattle.std.specs.FinMap.{code}
+use Rattle.dt_host.specs.Codes.{files_code, forest_code, world_code}
 use Rattle.dt_host.specs.Store.{Files}
-use Rattle.dt_host.specs.World.{World}
+use Rattle.dt_host.specs.World.{World, Forest}
 use Rattle.rand_chacha.specs.ChaCha.{ChaCha}
 use Rattle.dt_memhost.specs.Picks.{Picks}
 use Rattle.dt_memhost.specs.Script.{Script}
 use Rattle.dt_memhost.specs.Store.{StoreState}
+use Rattle.dt_memhost.specs.Order.{Order, Orders}
+use Rattle.dt_memhost.specs.Forest.{Ordered}
 use Rattle.dt_memhost.specs.Host.{HostState}
 
 -- a stream, as its key, its number and its place
@@ -30,7 +33,20 @@ abbrev pub store_code : Coded StoreState
 store_code =
     code_by (Files × Script) (coded× files_code script_code) (λ s. (s.files, s.script)) (λ p. record { files = p.0; script = p.1 }) (λ _. refl)
 
+-- the entries of a directory in the order of their binding
+abbrev pub order_code : Coded Order
+order_code = coded_list (coded× (coded_list coded_ℕ) coded_ℕ)
+
+-- these by number
+abbrev pub orders_code : Coded Orders
+orders_code = code coded_ℕ order_code
+
+-- a forest with its orders, as the pair
+abbrev pub ordered_code : Coded Ordered
+ordered_code =
+    code_by (Forest × Orders) (coded× forest_code orders_code) (λ o. (o.forest, o.orders)) (λ p. record { forest = p.0; orders = p.1 }) (λ _. refl)
+
 -- a host, as what it keeps and its script
 abbrev pub host_code : Coded HostState
 host_code =
-    code_by (World × Script) (coded× world_code script_code) (λ s. (s.view, s.script)) (λ p. record { view = p.0; script = p.1 }) (λ _. refl)
+    code_by (World × (Orders × Script)) (coded× world_code (coded× orders_code script_code)) (λ s. (s.view, (s.orders, s.script))) (λ p. record { view = p.0; orders = p.1.0; script = p.1.1 }) (λ _. refl)

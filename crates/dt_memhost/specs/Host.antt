@@ -1,17 +1,22 @@
 -- A host in memory, and how it answers: a call that is listed fails and is counted, and any other chooses by words.
-use Rattle.std.specs.Prelude.{◌≡◌, ℕ, ◌-◌, min, ◌==◌, List, ◌++◌, length, take, drop, Option, Ok, Err, Result, MatchBool, MatchResult, if◌then◌else◌}
+use Rattle.std.specs.Prelude.{◌≡◌, ℕ, ◌-◌, ◌%◌, min, ◌==◌, List, [], ◌++◌, length, take, drop, map, Option, Vec, Ok, Err, Result, MatchBool, MatchResult, if◌then◌else◌}
 use Rattle.dt_host.specs.declared.kind.NodeKind.{NodeKind}
+use Rattle.std.specs.FinMap.{insert}
+use Rattle.dt_host.specs.declared.entry.HostEntry.{HostEntry}
+use Rattle.dt_host.specs.declared.raw.RawStat.{RawStat}
 use Rattle.dt_host.specs.declared.error.HostErr.{HostErr}
 use Rattle.dt_host.specs.declared.error.HostErr.TheVariants.{Failed, NoMemory}
 use Rattle.dt_host.specs.World.{World, with_forest, with_node, with_entry, entry, content}
-use Rattle.dt_host.specs.Legal.{new_node, written}
+use Rattle.dt_host.specs.Legal.{new_node, named, written}
 use Rattle.dt_memhost.specs.Picks.{length_by}
-use Rattle.dt_memhost.specs.Script.{Script, fails_next, counted, failed, picked, restarted, word_of}
+use Rattle.dt_memhost.specs.Script.{Script, fails_next, counted, failed, picked, picked_all, restarted, word_of, words_of}
+use Rattle.dt_memhost.specs.Order.{Orders, order_at, with_last, picked_order}
 use Rattle.dt_memhost.specs.Number.{Numbers}
 
--- what the host keeps, and the script
+-- what the host keeps, the order of binding in its nodes, and the script
 pub record HostState : Type 0 where
   pub view : World
+  pub orders : Orders
   pub script : Script
 
 -- a call that fails is counted, and changes nothing else
@@ -46,6 +51,7 @@ FindsBy old d name result new =
 pub record MakesNumber (old : HostState) (kind : NodeKind) (new : HostState) (n : ℕ) : Type 0 where
   pub chosen : Numbers old.view.forest.nodes (word_of old.script) n
   pub view : new.view ≡ with_forest old.view (with_node old.view.forest n (new_node kind))
+  pub orders : new.orders ≡ insert old.orders n []
   pub script : new.script ≡ picked (counted old.script)
 
 -- how it answers `make`
@@ -57,6 +63,7 @@ MakesBy old kind result new =
 -- the entry is added
 pub record BindsEntry (old : HostState) (d : ℕ) (name : List ℕ) (n : ℕ) (new : HostState) : Type 0 where
   pub view : new.view ≡ with_forest old.view (with_entry old.view.forest d name n)
+  pub orders : new.orders ≡ with_last old.orders d name n
   pub script : new.script ≡ counted old.script
 
 -- how it answers `bind`
@@ -73,6 +80,61 @@ pub record Restarts {A : Type 0} (old : HostState) (number : ℕ) (answer : A) (
 -- how it answers `disturb`: the words that are left are dropped, and the stream of the number begins
 abbrev pub DisturbsBy : {A : Type 0} → HostState → ℕ → A → Result A HostErr → HostState → Type 0
 DisturbsBy old number answer result new = UnlessListed old result new (Restarts old number answer result new)
+
+-- the entries come in the order that words choose, one word for each
+pub record ListsBy (old : HostState) (d : ℕ) (new : HostState) (found : List HostEntry) : Type 0 where
+  pub chosen : let order = order_at old.orders d in
+      map named found ≡ picked_order (words_of (length order) old.script) order
+  pub kept : let count = length (order_at old.orders d) in
+      new ≡ record old { script = picked_all count (counted old.script) }
+
+-- how it answers `names`; where memory runs out no word was taken
+abbrev pub NamesBy : {Z : Type 0} → HostState → ℕ → Result (Vec HostEntry Z) HostErr → HostState → Type 0
+NamesBy old d result new =
+    UnlessListed old result new
+    (MatchResult result (λ found. ListsBy old d new found.items) (Starves old (counted old.script) new))
+
+-- what is said of a node: the size of a file, which is 0 for any other node, and three words
+abbrev pub raw_by : World → ℕ → Script → RawStat
+raw_by w n s = record {
+  size = length (content w.forest n);
+  device = word_of s;
+  mtime = word_of (picked s);
+  blocks = word_of (picked (picked s));
+}
+
+-- an answer by a choice, which leaves what the host keeps
+pub record Chooses {A : Type 0} (old : HostState) (answer : A) (script : Script) (result : Result A HostErr) (new : HostState) : Type 0 where
+  pub chosen : result ≡ Ok answer
+  pub kept : new ≡ record old { script = script }
+
+-- how it answers `raw`
+abbrev pub RawBy : HostState → ℕ → Result RawStat HostErr → HostState → Type 0
+RawBy old n result new =
+    UnlessListed old result new
+    (Chooses old (raw_by old.view n old.script) (picked (picked (picked (counted old.script)))) result new)
+
+-- how it answers `next_stop`: a place below this length, by a word
+abbrev pub StopsBy : HostState → ℕ → Result ℕ HostErr → HostState → Type 0
+StopsBy old count result new =
+    UnlessListed old result new
+    (Chooses old (word_of old.script % count) (picked (counted old.script)) result new)
+
+-- how it answers `clock` and `cycles`: a word
+abbrev pub WordBy : HostState → Result ℕ HostErr → HostState → Type 0
+WordBy old result new =
+    UnlessListed old result new (Chooses old (word_of old.script) (picked (counted old.script)) result new)
+
+-- each byte of a buffer is the lowest of a word
+pub record Fills {A : Type 0} (old : HostState) (before after : List ℕ) (answer : A) (result : Result A HostErr) (new : HostState) : Type 0 where
+  pub told : result ≡ Ok answer
+  pub bytes : after ≡ map (λ word. word % 256) (words_of (length before) old.script)
+  pub kept : new ≡ record old { script = picked_all (length before) (counted old.script) }
+
+-- how it answers `random`
+abbrev pub FillsBy : {A : Type 0} → HostState → List ℕ → List ℕ → A → Result A HostErr → HostState → Type 0
+FillsBy old before after answer result new =
+    UnlessListed old result new (Fills old before after answer result new)
 
 -- the greatest length of a read
 abbrev pub most_read : List ℕ → ℕ → List ℕ → ℕ
@@ -105,6 +167,7 @@ ReadsBy old n off before after result new =
 pub record WritesCount (old : HostState) (n off : ℕ) (bytes : List ℕ) (new : HostState) (count : ℕ) : Type 0 where
   pub chosen : count ≡ length_by (word_of old.script) (length bytes)
   pub view : new.view ≡ written old.view n off (take count bytes)
+  pub orders : new.orders ≡ old.orders
   pub script : new.script ≡ picked (counted old.script)
 
 -- how it answers `write_at`

@@ -2,8 +2,10 @@ pub mod Picks
 pub mod Script
 pub mod Sink
 pub mod Store
+pub mod Order
 pub mod Dir
 pub mod Node
+pub mod Forest
 pub mod Number
 pub mod Host
 pub mod Codes

@@ -1,5 +1,5 @@
 -- What a node in memory is to a reader of contracts.
-use Rattle.std.specs.Prelude.{ℕ, List, Option, option_map}
+use Rattle.std.specs.Prelude.{ℕ, List, [], Option, option_map}
 use Rattle.std.specs.Ordering.{nat_cmp}
 use Rattle.std.specs.BTreeMap as tree
 use Rattle.std.specs.BTreeMap.{BTreeMap}
@@ -8,16 +8,31 @@ use Rattle.dt_host.specs.Entries.{map_of}
 use Rattle.dt_host.specs.World.{Node, file, dir}
 use Rattle.dt_memhost.specs.declared.node.MemNode.{MemNode}
 use Rattle.dt_memhost.specs.declared.node.MemNode.TheVariants.{File, Dir}
+use Rattle.dt_memhost.specs.Order.{Order, Orders}
+use Rattle.dt_memhost.specs.Dir.{names_of}
 
 -- the node that it stands for
 abbrev pub node_of : MemNode → Node
 node_of (File bytes) = file bytes.items
-node_of (Dir names) = dir names
+node_of (Dir order) = dir (names_of order)
+
+-- its entries in the order of their binding
+abbrev pub entries_of : MemNode → Order
+entries_of (File bytes) = []
+entries_of (Dir order) = order
 
 -- the nodes of a list of entries
 abbrev pub nodes_of : List (ℕ × MemNode) → FinMap nat_cmp Node
 nodes_of entries = map_of (λ n. n) node_of entries
 
+-- the order of binding in each of them
+abbrev pub orders_of : List (ℕ × MemNode) → Orders
+orders_of entries = map_of (λ n. n) entries_of entries
+
 -- the node under a number
 abbrev pub node_in : BTreeMap ℕ MemNode → ℕ → Option Node
 node_in nodes n = option_map node_of (tree.get nat_cmp nodes n)
+
+-- the order of binding in the node under a number
+abbrev pub order_in : BTreeMap ℕ MemNode → ℕ → Option Order
+order_in nodes n = option_map entries_of (tree.get nat_cmp nodes n)

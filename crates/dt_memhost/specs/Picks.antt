@@ -1,5 +1,5 @@
 -- The words that choices are made by: those of a list, then those of a ChaCha8 stream.
-use Rattle.std.specs.Prelude.{ℕ, ◌+◌, ◌%◌, List, [], ◌∷◌, ◌++◌, replicate}
+use Rattle.std.specs.Prelude.{ℕ, zero, suc, ◌+◌, ◌%◌, List, [], ◌∷◌, ◌++◌, replicate}
 use Rattle.std.specs.Int.{w64, to_le_bytes}
 use Rattle.rand_chacha.specs.ChaCha.{ChaCha, next_word, of_seed}
 
@@ -25,6 +25,16 @@ next_in (word ∷ words) stream = (word, record { words = words; stream = stream
 -- the next word, and what is left
 abbrev pub next_of : Picks → ℕ × Picks
 next_of p = next_in p.words p.stream
+
+-- the next words, so many
+unfoldable pub next_words : ℕ → Picks → List ℕ
+next_words zero p = []
+next_words (suc more) p = (next_of p).0 ∷ next_words more (next_of p).1
+
+-- what is left after so many words
+unfoldable pub after_words : ℕ → Picks → Picks
+after_words zero p = p
+after_words (suc more) p = after_words more (next_of p).1
 
 -- the length that a word chooses, from 1 to this greatest value
 abbrev pub length_by : ℕ → ℕ → ℕ

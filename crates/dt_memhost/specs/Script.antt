@@ -1,7 +1,7 @@
 -- What a host, a store or a sink in memory goes by: the words of its choices and the calls that fail.
 use Rattle.std.specs.Prelude.{ℕ, ◌+◌, ◌-◌, ◌^◌, ◌==◌, min, Bool, List, []}
 use Rattle.std.specs.List.{list_any}
-use Rattle.dt_memhost.specs.Picks.{Picks, picks_of, next_of}
+use Rattle.dt_memhost.specs.Picks.{Picks, picks_of, next_of, next_words, after_words}
 
 -- the words, the numbers of the calls that fail, and how many calls were made and how many failed
 pub record Script : Type 0 where
@@ -30,6 +30,10 @@ failed s = record s { calls = one_more s.calls; faults = one_more s.faults }
 abbrev pub picked : Script → Script
 picked s = record s { picks = (next_of s.picks).1 }
 
+-- the script once so many words were taken
+abbrev pub picked_all : ℕ → Script → Script
+picked_all n s = record s { picks = after_words n s.picks }
+
 -- the script whose words are those of the stream of a number
 abbrev pub restarted : Script → ℕ → Script
 restarted s number = record s { picks = picks_of [] number }
@@ -37,6 +41,10 @@ restarted s number = record s { picks = picks_of [] number }
 -- the next word
 abbrev pub word_of : Script → ℕ
 word_of s = (next_of s.picks).0
+
+-- the next words, so many
+abbrev pub words_of : ℕ → Script → List ℕ
+words_of n s = next_words n s.picks
 
 -- the script of these words and failing calls, before any call
 abbrev pub script_of : Picks → List ℕ → Script

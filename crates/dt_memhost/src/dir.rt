@@ -1,7 +1,11 @@
-ghost use Rattle.std.specs.Prelude.{◌≡◌, None, OnOk, OnErr};
-ghost use Rattle.std.specs.FinMap.{empty, get, insert};
+ghost use Rattle.std.specs.Prelude.{◌≡◌, None, [], ◌∷◌, ◌++◌, map, IfOk, OnOk, OnErr};
+ghost use Rattle.std.specs.List.Sorted.{IsPermutation};
+ghost use Rattle.std.specs.FinMap.{entries, get, insert};
+ghost use Rattle.dt_host.specs.Legal.{named};
+ghost use Rattle.dt_memhost.specs.Dir.{names_of};
 
-use dt_base::NoMemory;
+use dt_base::{Blob, NoMemory};
+use dt_host::HostEntry;
 use indexmap::IndexMap;
 use std::alloc::Global;
 use std::marker::Model;
@@ -13,20 +17,17 @@ pub(crate) struct Entries {
 }
 
 impl Model for Entries {
-    ghost use Rattle.dt_host.specs.World.{Names};
-    ghost use Rattle.dt_host.specs.Codes.{names_code};
-    ghost use Rattle.dt_memhost.specs.Dir.{names_of};
+    ghost use Rattle.dt_memhost.specs.Order.{Order};
+    ghost use Rattle.dt_memhost.specs.Dir.{order_of};
 
-    ghost Value = { Names };
+    ghost Value = { Order };
 
-    ghost coded = { names_code };
-
-    ghost view = { λ d. names_of d.names.entries };
+    ghost view = { λ d. order_of d.names.entries };
 }
 
 impl Entries {
     pub(crate) fn new(alloc: Global) -> Entries
-        ensures { result ≡ empty }
+        ensures { result ≡ [] }
     {
         Entries {
             names: IndexMap::new(alloc),
@@ -35,15 +36,31 @@ impl Entries {
 
     // The number under a name.
     pub(crate) fn find(&self, name: &[u8]) -> Option<u64>
-        ensures { result ≡ get self.now name.now }
+        ensures { result ≡ get (names_of self.now) name.now }
     {
         self.names.get(name).copied()
     }
 
-    // Adds an entry whose name isn't there.
+    // A copy of the entries, in the order of their binding.
+    pub(crate) fn list(&self, alloc: Global) -> Result<Vec<HostEntry>, NoMemory>
+        ensures order { IfOk result (λ found. map named found.items ≡ self.now) }
+        ensures each { IfOk result
+            (λ found. IsPermutation (entries (names_of self.now)) (map named found.items)) }
+    {
+        let mut found = Vec::with_capacity(alloc, self.names.len())?;
+        for (name, number) in &self.names {
+            let name = Blob::new(Vec::from_slice(alloc, name)?);
+            found.push(HostEntry { name, ino: *number })?;
+        }
+        Ok(found)
+    }
+
+    // Adds an entry whose name isn't there. It goes last.
     pub(crate) fn bind(&mut self, name: Vec<u8>, number: u64) -> Result<(), NoMemory>
-        requires { get self.old name.items ≡ None }
-        ensures ok { OnOk result (self.new ≡ insert self.old name.items number) }
+        requires { get (names_of self.old) name.items ≡ None }
+        ensures ok { OnOk result (self.new ≡ self.old ++ (name.items, number) ∷ []) }
+        ensures names { OnOk result
+            (names_of self.new ≡ insert (names_of self.old) name.items number) }
         ensures err { OnErr result (self.new ≡ self.old) }
     {
         self.names.insert(name, number)?;

@@ -1,15 +1,18 @@
-ghost use Rattle.std.specs.Prelude.{◌≡◌, ◌≤◌, None, length, option_map, option_copied, vec_items, IfOk, IfSome, OnOk, OnErr};
-ghost use Rattle.std.specs.FinMap.{get};
-ghost use Rattle.dt_host.specs.World.{IsFile, IsDir, file_at, content, entry, with_node, with_bytes, with_entry, overwritten, empty_forest};
-ghost use Rattle.dt_host.specs.Legal.{new_node};
+ghost use Rattle.std.specs.Prelude.{◌≡◌, ◌≤◌, None, length, map, option_map, option_copied, vec_items, IfOk, IfSome, OnOk, OnErr};
+ghost use Rattle.std.specs.List.Sorted.{IsPermutation};
+ghost use Rattle.std.specs.FinMap.{entries, get};
+ghost use Rattle.dt_host.specs.World.{IsFile, IsDir, file_at, names_at, content, entry, overwritten};
+ghost use Rattle.dt_host.specs.Legal.{named};
 ghost use Rattle.dt_memhost.specs.Number.{Numbers};
+ghost use Rattle.dt_memhost.specs.Order.{order_at};
+ghost use Rattle.dt_memhost.specs.Forest.{empty_ordered, made, bound, rewritten};
 
 use crate::dir::Entries;
 use crate::node::MemNode;
 use crate::nodes::Nodes;
 use crate::{nodes, number};
 use dt_base::NoMemory;
-use dt_host::NodeKind;
+use dt_host::{HostEntry, NodeKind};
 use std::alloc::Global;
 use std::collections::BTreeMap;
 use std::marker::Model;
@@ -26,21 +29,21 @@ pub(crate) struct MemForest {
 }
 
 impl Model for MemForest {
-    ghost use Rattle.dt_host.specs.World.{Forest};
-    ghost use Rattle.dt_host.specs.Codes.{forest_code};
-    ghost use Rattle.dt_memhost.specs.Node.{nodes_of};
+    ghost use Rattle.dt_memhost.specs.Forest.{Ordered};
+    ghost use Rattle.dt_memhost.specs.Codes.{ordered_code};
+    ghost use Rattle.dt_memhost.specs.Node.{nodes_of, orders_of};
 
-    ghost Value = { Forest };
+    ghost Value = { Ordered };
 
-    ghost coded = { forest_code };
+    ghost coded = { ordered_code };
 
-    ghost view = { λ f. record { nodes = nodes_of f.nodes.entries; root = f.root } };
+    ghost view = { λ f. record { forest = record { nodes = nodes_of f.nodes.entries; root = f.root }; orders = orders_of f.nodes.entries } };
 }
 
 impl MemForest {
     // Nothing but a root without entries.
     pub(crate) fn new(alloc: Global) -> Result<MemForest, NoMemory>
-        ensures { IfOk result (λ f. f ≡ empty_forest 1) }
+        ensures { IfOk result (λ f. f ≡ empty_ordered 1) }
     {
         let mut nodes = BTreeMap::new(alloc);
         nodes.insert(ROOT, MemNode::Dir(Entries::new(alloc)))?;
@@ -53,38 +56,60 @@ impl MemForest {
 
     // The number of the root.
     pub(crate) fn root(&self) -> u64
-        ensures { result ≡ self.now.root }
+        ensures { result ≡ self.now.forest.root }
     {
         self.root
     }
 
     // The bytes of the file of that number.
     pub(crate) fn bytes_at(&self, number: u64) -> Option<&Vec<u8>>
-        ensures file { option_map vec_items (option_copied result) ≡ file_at self.now number }
-        ensures bytes { IfSome result (λ bytes. content self.now number ≡ bytes.now.items) }
+        ensures file { option_map vec_items (option_copied result) ≡ file_at self.now.forest number }
+        ensures bytes { IfSome result (λ bytes. content self.now.forest number ≡ bytes.now.items) }
     {
         nodes::bytes_at(&self.nodes, number)
     }
 
     // The number that a directory has under a name.
     pub(crate) fn find(&self, dir: u64, name: &[u8]) -> Option<u64>
-        ensures { result ≡ entry self.now dir name.now }
+        ensures { result ≡ entry self.now.forest dir name.now }
     {
         nodes::find(&self.nodes, dir, name)
     }
 
+    // The size of the file of that number, and 0 where there is no file.
+    pub(crate) fn size(&self, number: u64) -> u64
+        ensures { result ≡ length (content self.now.forest number) }
+    {
+        match self.bytes_at(number) {
+            Some(bytes) => bytes.len() as u64,
+            None => 0,
+        }
+    }
+
+    // A copy of the entries of a directory, in the order of their binding.
+    pub(crate) fn list(&self, dir: u64) -> Result<Vec<HostEntry>, NoMemory>
+        requires { IsDir self.now.forest dir }
+        ensures order { IfOk result
+            (λ found. map named found.items ≡ order_at self.now.orders dir) }
+        ensures each { IfOk result
+            (λ found. IsPermutation
+            (entries (names_at self.now.forest dir)) (map named found.items)) }
+    {
+        nodes::list(&self.nodes, dir, self.alloc)
+    }
+
     // The number of a new node, by a word.
     pub(crate) fn number_by(&self, word: u32) -> u64
-        ensures chosen { Numbers self.now.nodes word result }
+        ensures chosen { Numbers self.now.forest.nodes word result }
         ensures positive { 1 ≤ result }
-        ensures free { get self.now.nodes result ≡ None }
+        ensures free { get self.now.forest.nodes result ≡ None }
     {
         number::number_by(&self.nodes, word)
     }
 
     // Puts a new node under a number.
     pub(crate) fn make(&mut self, number: u64, kind: NodeKind) -> Result<(), NoMemory>
-        ensures ok { OnOk result (self.new ≡ with_node self.old number (new_node kind)) }
+        ensures ok { OnOk result (self.new ≡ made self.old number kind) }
         ensures err { OnErr result (self.new ≡ self.old) }
     {
         let node = MemNode::new(self.alloc, kind);
@@ -94,9 +119,9 @@ impl MemForest {
 
     // Adds an entry to a directory, whose name isn't there.
     pub(crate) fn bind(&mut self, dir: u64, name: &[u8], number: u64) -> Result<(), NoMemory>
-        requires directory { IsDir self.old dir }
-        requires unnamed { entry self.old dir name.now ≡ None }
-        ensures ok { OnOk result (self.new ≡ with_entry self.old dir name.now number) }
+        requires directory { IsDir self.old.forest dir }
+        requires unnamed { entry self.old.forest dir name.now ≡ None }
+        ensures ok { OnOk result (self.new ≡ bound self.old dir name.now number) }
         ensures err { OnErr result (self.new ≡ self.old) }
     {
         let name = Vec::from_slice(self.alloc, name)?;
@@ -105,10 +130,11 @@ impl MemForest {
 
     // Writes over a file from a place in it on.
     pub(crate) fn write(&mut self, number: u64, off: usize, piece: &[u8]) -> Result<(), NoMemory>
-        requires file { IsFile self.old number }
-        requires joined { off ≤ length (content self.old number) }
+        requires file { IsFile self.old.forest number }
+        requires joined { off ≤ length (content self.old.forest number) }
         ensures ok { OnOk result (self.new
-            ≡ with_bytes self.old number (overwritten (content self.old number) off piece.now)) }
+            ≡ rewritten self.old number
+            (overwritten (content self.old.forest number) off piece.now)) }
         ensures err { OnErr result (self.new ≡ self.old) }
     {
         nodes::write(&mut self.nodes, number, off, piece)

@@ -1,16 +1,20 @@
-ghost use Rattle.std.specs.Prelude.{◌≡◌, ◌+◌, ◌<◌, ◌≤◌, None, length, IfOk, OnErr, IsErrOf};
+ghost use Rattle.std.specs.Prelude.{◌≡◌, ◌+◌, ◌<◌, ◌≤◌, None, length, map, IfOk, IfSome, OnErr, IsErrOf};
+ghost use Rattle.std.specs.List.Sorted.{IsPermutation};
+ghost use Rattle.std.specs.FinMap.{entries};
 ghost use Rattle.dt_host.specs.Cause.{HasCause};
-ghost use Rattle.dt_host.specs.World.{IsLive, IsFile, IsDir, entry, content, empty_world, IsEmptyStart};
-ghost use Rattle.dt_host.specs.Legal.{Makes, Binds, Reads, Writes};
+ghost use Rattle.dt_host.specs.World.{IsLive, IsFile, IsDir, file_at, names_at, entry, content, empty_world, IsEmptyStart};
+ghost use Rattle.dt_host.specs.Legal.{Makes, Binds, named, Reads, Writes};
 ghost use Rattle.dt_memhost.specs.Script.{script_of};
-ghost use Rattle.dt_memhost.specs.Host.{RootsBy, FindsBy, MakesBy, BindsBy, ReadsBy, WritesBy, DisturbsBy};
+ghost use Rattle.dt_memhost.specs.Forest.{empty_ordered};
+ghost use Rattle.dt_memhost.specs.Host.{RootsBy, FindsBy, MakesBy, BindsBy, NamesBy, RawBy, ReadsBy, WritesBy, StopsBy, WordBy, FillsBy, DisturbsBy};
 
 use crate::forest::MemForest;
+use crate::order::arrange;
 use crate::picker::Picker;
 use crate::script::Script;
 use crate::transfer::copy_front;
 use dt_base::{FILE_LIMIT, NoMemory};
-use dt_host::{Host, HostErr, NodeKind};
+use dt_host::{Host, HostEntry, HostErr, NodeKind, RawStat};
 use std::alloc::Global;
 use std::marker::Model;
 
@@ -30,7 +34,7 @@ impl Model for MemHost {
 
     ghost coded = { host_code };
 
-    ghost view = { λ h. record { view = record { forest = h.forest }; script = h.script } };
+    ghost view = { λ h. record { view = record { forest = h.forest.forest }; orders = h.forest.orders; script = h.script } };
 }
 
 impl MemHost {
@@ -38,7 +42,7 @@ impl MemHost {
     /// `fails`, numbers below 2^64 - 1 counted from 1.
     pub fn new(alloc: Global, picker: Picker, fails: Vec<u64>) -> Result<MemHost, NoMemory>
         ensures exact { IfOk result
-            (λ h. h ≡ record { view = empty_world 1; script = script_of picker fails.items }) }
+            (λ h. h ≡ record { view = empty_world 1; orders = (empty_ordered 1).orders; script = script_of picker fails.items }) }
         ensures start { IfOk result (λ h. IsEmptyStart h.view) }
     {
         Ok(MemHost {
@@ -119,6 +123,46 @@ impl Host for MemHost {
         Ok(self.forest.find(dir, name))
     }
 
+    fn names(&mut self, dir: u64) -> Result<Vec<HostEntry>, HostErr>
+        requires { IsDir self.old.view.forest dir }
+        ensures exact { NamesBy self.old dir result self.new }
+        ensures ok { IfOk result
+            (λ found. IsPermutation
+            (entries (names_at self.old.view.forest dir)) (map named found.items)) }
+        ensures stays { self.new.view ≡ self.old.view }
+        ensures cause { HasCause self.old.script.faults self.new.script.faults
+            (IsErrOf result HostErr.Failed) }
+    {
+        let _before = self.faults();
+        if self.script.fails(false) {
+            return Err(HostErr::Failed);
+        }
+        let mut found = self.forest.list(dir)?;
+        arrange(&mut found, &mut self.script);
+        Ok(found)
+    }
+
+    fn raw(&mut self, ino: u64) -> Result<RawStat, HostErr>
+        requires { IsLive self.old.view.forest ino }
+        ensures exact { RawBy self.old ino result self.new }
+        ensures ok { IfOk result
+            (λ raw. IfSome (file_at self.old.view.forest ino) (λ bytes. raw.size ≡ length bytes)) }
+        ensures stays { self.new.view ≡ self.old.view }
+        ensures cause { HasCause self.old.script.faults self.new.script.faults
+            (IsErrOf result HostErr.Failed) }
+    {
+        let _before = self.faults();
+        if self.script.fails(false) {
+            return Err(HostErr::Failed);
+        }
+        Ok(RawStat {
+            size: self.forest.size(ino),
+            device: u64::from(self.script.word()),
+            mtime: u64::from(self.script.word()),
+            blocks: u64::from(self.script.word()),
+        })
+    }
+
     fn read_at(&mut self, ino: u64, off: u64, buf: &mut [u8]) -> Result<usize, HostErr>
         requires { IsFile self.old.view.forest ino }
         ensures exact { ReadsBy self.old ino off buf.old buf.new result self.new }
@@ -163,6 +207,62 @@ impl Host for MemHost {
         let (front, _) = bytes.split_at(count);
         self.forest.write(ino, off as usize, front)?;
         Ok(count)
+    }
+
+    fn next_stop(&mut self, waiting: &[u32]) -> Result<usize, HostErr>
+        requires { 0 < length waiting.now }
+        ensures exact { StopsBy self.old (length waiting.now) result self.new }
+        ensures ok { IfOk result (λ place. place < length waiting.now) }
+        ensures stays { self.new.view ≡ self.old.view }
+        ensures cause { HasCause self.old.script.faults self.new.script.faults
+            (IsErrOf result HostErr.Failed) }
+    {
+        let _before = self.faults();
+        if self.script.fails(false) {
+            return Err(HostErr::Failed);
+        }
+        Ok(self.script.place(waiting.len()))
+    }
+
+    fn clock(&mut self) -> Result<u64, HostErr>
+        ensures exact { WordBy self.old result self.new }
+        ensures stays { self.new.view ≡ self.old.view }
+        ensures cause { HasCause self.old.script.faults self.new.script.faults
+            (IsErrOf result HostErr.Failed) }
+    {
+        let _before = self.faults();
+        if self.script.fails(false) {
+            return Err(HostErr::Failed);
+        }
+        Ok(u64::from(self.script.word()))
+    }
+
+    fn cycles(&mut self) -> Result<u64, HostErr>
+        ensures exact { WordBy self.old result self.new }
+        ensures stays { self.new.view ≡ self.old.view }
+        ensures cause { HasCause self.old.script.faults self.new.script.faults
+            (IsErrOf result HostErr.Failed) }
+    {
+        let _before = self.faults();
+        if self.script.fails(false) {
+            return Err(HostErr::Failed);
+        }
+        Ok(u64::from(self.script.word()))
+    }
+
+    fn random(&mut self, buf: &mut [u8]) -> Result<(), HostErr>
+        ensures exact { FillsBy self.old buf.old buf.new tt result self.new }
+        ensures unfilled { OnErr result (buf.new ≡ buf.old) }
+        ensures stays { self.new.view ≡ self.old.view }
+        ensures cause { HasCause self.old.script.faults self.new.script.faults
+            (IsErrOf result HostErr.Failed) }
+    {
+        let _before = self.faults();
+        if self.script.fails(false) {
+            return Err(HostErr::Failed);
+        }
+        self.script.fill(buf);
+        Ok(())
     }
 
     fn disturb(&mut self, n: u64) -> Result<(), HostErr>

@@ -7,6 +7,7 @@ mod host;
 mod node;
 mod nodes;
 mod number;
+mod order;
 mod picker;
 mod script;
 mod sink;

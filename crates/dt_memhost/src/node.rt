@@ -1,13 +1,14 @@
-ghost use Rattle.std.specs.Prelude.{◌≡◌, ◌+◌, ◌≤◌, None, [], length, unwrap_or, option_map, option_copied, option_and_then, vec_items, OnOk, OnErr, IfSome};
-ghost use Rattle.std.specs.FinMap.{get, insert};
+ghost use Rattle.std.specs.Prelude.{◌≡◌, ◌+◌, ◌≤◌, None, [], ◌∷◌, ◌++◌, length, map, unwrap_or, option_map, option_copied, option_and_then, vec_items, IfOk, OnOk, OnErr, IfSome};
+ghost use Rattle.std.specs.List.Sorted.{IsPermutation};
+ghost use Rattle.std.specs.FinMap.{entries, get, insert};
 ghost use Rattle.dt_host.specs.World.{file, dir, file_bytes, dir_names, overwritten};
-ghost use Rattle.dt_host.specs.Legal.{new_node};
-ghost use Rattle.dt_memhost.specs.Node.{node_of};
+ghost use Rattle.dt_host.specs.Legal.{new_node, named};
+ghost use Rattle.dt_memhost.specs.Node.{node_of, entries_of};
 
 use crate::dir::Entries;
 use crate::transfer::overwrite;
 use dt_base::NoMemory;
-use dt_host::NodeKind;
+use dt_host::{HostEntry, NodeKind};
 use std::alloc::Global;
 
 /// A node in memory.
@@ -22,7 +23,8 @@ pub(crate) enum MemNode {
 impl MemNode {
     // A new node of that kind.
     pub(crate) fn new(alloc: Global, kind: NodeKind) -> MemNode
-        ensures { node_of result ≡ new_node kind }
+        ensures node { node_of result ≡ new_node kind }
+        ensures order { entries_of result ≡ [] }
     {
         match kind {
             NodeKind::File => MemNode::File(Vec::new(alloc)),
@@ -50,6 +52,19 @@ impl MemNode {
         }
     }
 
+    // A copy of the entries, in the order of their binding; a file has none.
+    pub(crate) fn list(&self, alloc: Global) -> Result<Vec<HostEntry>, NoMemory>
+        ensures order { IfOk result (λ found. map named found.items ≡ entries_of self.now) }
+        ensures each { IfSome (dir_names (node_of self.now))
+            (λ names. IfOk result
+            (λ found. IsPermutation (entries names) (map named found.items))) }
+    {
+        match self {
+            MemNode::File(_) => Ok(Vec::new(alloc)),
+            MemNode::Dir(entries) => entries.list(alloc),
+        }
+    }
+
     // Writes over a file from a place in it on; a directory stays.
     pub(crate) fn write(&mut self, off: usize, piece: &[u8]) -> Result<(), NoMemory>
         requires { off ≤ length (unwrap_or (file_bytes (node_of self.old)) []) }
@@ -57,6 +72,7 @@ impl MemNode {
             (IfSome (file_bytes (node_of self.old))
             (λ old. node_of self.new ≡ file (overwritten old off piece.now))) }
         ensures err { OnErr result (node_of self.new ≡ node_of self.old) }
+        ensures order { entries_of self.new ≡ entries_of self.old }
     {
         match self {
             MemNode::File(bytes) => overwrite(bytes, off, piece),
@@ -71,7 +87,11 @@ impl MemNode {
         ensures ok { OnOk result
             (IfSome (dir_names (node_of self.old))
             (λ old. node_of self.new ≡ dir (insert old name.items number))) }
+        ensures last { OnOk result
+            (IfSome (dir_names (node_of self.old))
+            (λ _. entries_of self.new ≡ entries_of self.old ++ (name.items, number) ∷ [])) }
         ensures err { OnErr result (node_of self.new ≡ node_of self.old) }
+        ensures order { OnErr result (entries_of self.new ≡ entries_of self.old) }
     {
         match self {
             MemNode::File(_) => Ok(()),

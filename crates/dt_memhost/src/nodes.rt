@@ -1,11 +1,15 @@
 // The live nodes by number. A change at one number leaves the others.
-ghost use Rattle.std.specs.Prelude.{◌≡◌, ◌≢◌, ℕ, ◌+◌, ◌≤◌, None, Some, [], length, unwrap_or, option_map, option_copied, option_and_then, vec_items, OnOk, OnErr, IfSome};
-ghost use Rattle.std.specs.FinMap.{get, insert};
+ghost use Rattle.std.specs.Prelude.{◌≡◌, ◌≢◌, ℕ, ◌+◌, ◌≤◌, None, Some, [], ◌∷◌, ◌++◌, length, map, unwrap_or, option_map, option_copied, option_and_then, vec_items, IfOk, OnOk, OnErr, IfSome};
+ghost use Rattle.std.specs.List.Sorted.{IsPermutation};
+ghost use Rattle.std.specs.FinMap.{entries, get, insert};
 ghost use Rattle.dt_host.specs.World.{file, dir, file_bytes, dir_names, overwritten};
-ghost use Rattle.dt_memhost.specs.Node.{node_of, node_in};
+ghost use Rattle.dt_host.specs.Legal.{named};
+ghost use Rattle.dt_memhost.specs.Node.{node_of, node_in, order_in};
 
 use crate::node::MemNode;
 use dt_base::NoMemory;
+use dt_host::HostEntry;
+use std::alloc::Global;
 use std::collections::BTreeMap;
 
 pub(crate) type Nodes = BTreeMap<u64, MemNode>;
@@ -33,6 +37,19 @@ pub(crate) fn find(nodes: &Nodes, number: u64, name: &[u8]) -> Option<u64>
     }
 }
 
+// A copy of the entries of the node of that number, in the order of their binding; none where there is no node.
+pub(crate) fn list(nodes: &Nodes, number: u64, alloc: Global) -> Result<Vec<HostEntry>, NoMemory>
+    ensures order { IfOk result
+        (λ found. map named found.items ≡ unwrap_or (order_in nodes.now number) []) }
+    ensures each { IfSome (option_and_then dir_names (node_in nodes.now number))
+        (λ names. IfOk result (λ found. IsPermutation (entries names) (map named found.items))) }
+{
+    match nodes.get(&number) {
+        Some(node) => node.list(alloc),
+        None => Ok(Vec::new(alloc)),
+    }
+}
+
 // Writes over the file of that number.
 pub(crate) fn write(
     nodes: &mut Nodes,
@@ -45,7 +62,9 @@ pub(crate) fn write(
         (IfSome (option_and_then file_bytes (node_in nodes.old number))
         (λ old. node_in nodes.new number ≡ Some (file (overwritten old off piece.now)))) }
     ensures err { OnErr result (node_in nodes.new number ≡ node_in nodes.old number) }
+    ensures order { order_in nodes.new number ≡ order_in nodes.old number }
     ensures others { (q : ℕ) → q ≢ number → node_in nodes.new q ≡ node_in nodes.old q }
+    ensures other_orders { (q : ℕ) → q ≢ number → order_in nodes.new q ≡ order_in nodes.old q }
 {
     match nodes.get_mut(&number) {
         Some(node) => node.write(off, piece),
@@ -61,8 +80,14 @@ pub(crate) fn bind(nodes: &mut Nodes, number: u64, name: Vec<u8>, to: u64) -> Re
     ensures ok { OnOk result
         (IfSome (option_and_then dir_names (node_in nodes.old number))
         (λ old. node_in nodes.new number ≡ Some (dir (insert old name.items to)))) }
+    ensures last { OnOk result
+        (IfSome (option_and_then dir_names (node_in nodes.old number))
+        (λ _. order_in nodes.new number
+        ≡ option_map (λ order. order ++ (name.items, to) ∷ []) (order_in nodes.old number))) }
     ensures err { OnErr result (node_in nodes.new number ≡ node_in nodes.old number) }
+    ensures order { OnErr result (order_in nodes.new number ≡ order_in nodes.old number) }
     ensures others { (q : ℕ) → q ≢ number → node_in nodes.new q ≡ node_in nodes.old q }
+    ensures other_orders { (q : ℕ) → q ≢ number → order_in nodes.new q ≡ order_in nodes.old q }
 {
     match nodes.get_mut(&number) {
         Some(node) => node.bind(name, to),

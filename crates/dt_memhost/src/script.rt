@@ -1,6 +1,6 @@
-ghost use Rattle.std.specs.Prelude.{◌≡◌, ◌<◌, ◌^◌, ◌||◌, if◌then◌else◌};
+ghost use Rattle.std.specs.Prelude.{◌≡◌, ◌%◌, ◌<◌, ◌^◌, ◌||◌, length, map, if◌then◌else◌};
 ghost use Rattle.dt_memhost.specs.Picks.{length_by};
-ghost use Rattle.dt_memhost.specs.Script.{script_of, fails_next, counted, failed, picked, restarted, word_of};
+ghost use Rattle.dt_memhost.specs.Script.{script_of, fails_next, counted, failed, picked, picked_all, restarted, word_of, words_of};
 
 use crate::picker::Picker;
 use std::alloc::Global;
@@ -79,6 +79,33 @@ impl Script {
         ensures word { result ≡ length_by (word_of self.old) most }
         ensures after { self.new ≡ picked self.old }
     {
-        1 + self.word() as usize % most
+        1 + self.place(most)
+    }
+
+    // A place below `count`, by a word.
+    pub(crate) fn place(&mut self, count: usize) -> usize
+        requires { 0 < count }
+        ensures word { result ≡ word_of self.old % count }
+        ensures after { self.new ≡ picked self.old }
+    {
+        self.word() as usize % count
+    }
+
+    // Fills a buffer, each byte by a word.
+    pub(crate) fn fill(&mut self, buf: &mut [u8])
+        ensures bytes { buf.new ≡ map (λ word. word % 256) (words_of (length buf.old) self.old) }
+        ensures after { self.new ≡ picked_all (length buf.old) self.old }
+    {
+        for byte in buf.iter_mut() {
+            *byte = self.byte();
+        }
+    }
+
+    // A byte, by a word.
+    fn byte(&mut self) -> u8
+        ensures word { result ≡ word_of self.old % 256 }
+        ensures after { self.new ≡ picked self.old }
+    {
+        (self.word() % 256) as u8
     }
 }

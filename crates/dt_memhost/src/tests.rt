@@ -1,5 +1,11 @@
+ghost use Rattle.std.specs.Prelude.{OnOk};
+ghost use Rattle.dt_host.specs.World.{IsDir};
+
 use crate::{MemHost, MemSink, MemStore, Picker};
-use dt_host::{Host, NodeKind, Store, read_whole, sink_all, store_whole, write_whole};
+use dt_host::{
+    Host, HostEntry, HostErr, NodeKind, RawStat, Store, read_whole, sink_all, store_whole,
+    write_whole,
+};
 use std::test::Fail;
 
 // The first words of the ChaCha8 key stream of a key of zeros and a nonce of zeros, from the
@@ -41,6 +47,84 @@ fn host_keeps_what_was_written(rt: HostRuntime) -> Result<(), Fail> {
     let mut buf = [0; 16];
     let count = read_whole(&mut host, file, 5, &mut buf)?;
     assert_eq!(rt; &buf[..count], b"bytes".as_slice());
+    Ok(())
+}
+
+// Names a directory in itself, where it has no such name yet.
+fn bind_itself(host: &mut MemHost, dir: u64, name: &[u8]) -> Result<(), HostErr>
+    requires { IsDir host.old.view.forest dir }
+    ensures { OnOk result (IsDir host.new.view.forest dir) }
+{
+    match host.find(dir, name)? {
+        Some(_) => Ok(()),
+        None => host.bind(dir, name, dir),
+    }
+}
+
+// Whether the entries have these names, in this order, and are the root.
+fn are_named(found: &[HostEntry], names: &[&str]) -> bool {
+    let named = |(entry, name): (&HostEntry, &&str)| {
+        entry.ino == 1 && entry.name.as_slice() == name.as_bytes()
+    };
+    found.len() == names.len() && found.iter().zip(names).all(named)
+}
+
+#[test]
+fn names_come_in_the_order_of_words(rt: HostRuntime) -> Result<(), Fail> {
+    let alloc = rt.alloc();
+    let picker = Picker::new(vec![in alloc; 4, 7, 9, 3, 2, 5]?, 1);
+    let mut host = MemHost::new(alloc, picker, Vec::new(alloc))?;
+    let root = host.root()?;
+    bind_itself(&mut host, root, b"one")?;
+    bind_itself(&mut host, root, b"two")?;
+    bind_itself(&mut host, root, b"three")?;
+    let first = host.names(root)?;
+    assert!(rt; are_named(&first, &["two", "three", "one"]));
+    let second = host.names(root)?;
+    assert!(rt; are_named(&second, &["one", "two", "three"]));
+    Ok(())
+}
+
+#[test]
+fn words_choose_what_the_host_says(rt: HostRuntime) -> Result<(), Fail> {
+    let alloc = rt.alloc();
+    let picker = Picker::new(vec![in alloc; 5, 9, 7, 8, 9, 5, 11, 12, 0x1ff, 0x302]?, 1);
+    let mut host = MemHost::new(alloc, picker, Vec::new(alloc))?;
+    let file = host.make(NodeKind::File)?;
+    write_whole(&mut host, file, 0, b"some bytes")?;
+    let raw = RawStat {
+        size: 10,
+        device: 7,
+        mtime: 8,
+        blocks: 9,
+    };
+    assert_eq!(rt; host.raw(file)?, raw);
+    assert_eq!(rt; host.next_stop(&[4, 1, 3])?, 2);
+    assert_eq!(rt; host.clock()?, 11);
+    assert_eq!(rt; host.cycles()?, 12);
+    let mut buf = [0; 2];
+    host.random(&mut buf)?;
+    assert_eq!(rt; buf, [0xff, 2]);
+    Ok(())
+}
+
+#[test]
+fn listed_calls_fail_and_take_no_word(rt: HostRuntime) -> Result<(), Fail> {
+    let alloc = rt.alloc();
+    let fails = vec![in alloc; 2, 3, 4, 5, 6, 7]?;
+    let mut host = MemHost::new(alloc, Picker::new(vec![in alloc; 21]?, 1), fails)?;
+    let root = host.root()?;
+    let failed = Some(HostErr::Failed);
+    assert_eq!(rt; host.names(root).err(), failed);
+    assert_eq!(rt; host.raw(root).err(), failed);
+    assert_eq!(rt; host.next_stop(&[4]).err(), failed);
+    assert_eq!(rt; host.clock().err(), failed);
+    assert_eq!(rt; host.cycles().err(), failed);
+    let mut buf = [3];
+    assert_eq!(rt; host.random(&mut buf).err(), failed);
+    assert_eq!(rt; buf, [3]);
+    assert_eq!(rt; host.faults(), 6);
+    assert_eq!(rt; host.clock()?, 21);
     Ok(())
 }
 

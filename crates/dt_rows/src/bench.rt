@@ -11,8 +11,8 @@ use std::test::Fail;
 /// Which words a picker gives.
 #[derive(Clone, Copy, Debug)]
 pub enum Words {
-    /// Zeros, so that each transfer moves one byte.
-    Zeros,
+    /// So many zeros, by which each transfer moves one byte, and then the words of stream 0.
+    Zeros(usize),
     /// Those of the stream of this number.
     Stream(u64),
 }
@@ -100,7 +100,7 @@ impl<'a> Call<'a> {
 
 fn picker(alloc: Global, words: Words) -> Result<Picker, AllocError> {
     match words {
-        Words::Zeros => Ok(Picker::new(vec![in alloc; 0; 8_000]?, 0)),
+        Words::Zeros(count) => Ok(Picker::new(vec![in alloc; 0; count]?, 0)),
         Words::Stream(number) => Ok(Picker::new(Vec::new(alloc), number)),
     }
 }

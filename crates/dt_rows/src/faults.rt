@@ -43,7 +43,7 @@ fn each_call_of_the_host_fails_once(rt: HostRuntime) -> Result<(), Fail> {
     for place in 1..600u64 {
         let mut call = Call::new(RUN_HELLO, &files);
         call.host_fails = Some(place);
-        call.choices = Words::Zeros;
+        call.choices = Words::Zeros(8_000);
         let came = call.make(alloc)?;
         if came.status == 5 {
             came.expect(&rt, "host", 5, b"", b"dettrace: host fault\n");

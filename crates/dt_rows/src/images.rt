@@ -20,7 +20,7 @@ fn files_are_listed_in_byte_order_of_their_paths(rt: HostRuntime) -> Result<(), 
     let want = format!(in alloc;
         "dettrace 1\nout 1 6\nhello\n\nexit 1 code 0\nverdict ended\ntree 3\nfile 2 0644 0 3 {ABC_DIGEST} /a%20b\nfile 3 0644 0 3 {ABC_DIGEST} /a.b\nfile 4 0755 0 162 {HELLO_DIGEST} /hello\n"
     )?;
-    for choices in [Words::Zeros, Words::Stream(1), Words::Stream(2)] {
+    for choices in [Words::Zeros(8_000), Words::Stream(1), Words::Stream(2)] {
         let mut call = Call::new(RUN_HELLO, &files);
         call.choices = choices;
         let came = call.make(alloc)?;

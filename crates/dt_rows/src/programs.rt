@@ -1,6 +1,6 @@
 // What programs do, seen in their reports.
 use crate::bench::{Call, RUN_HELLO};
-use crate::guests::{HELLO, HELLO_INDEX, elf};
+use crate::guests::{HELLO_INDEX, elf, hello};
 use std::alloc::Global;
 use std::test::Fail;
 
@@ -159,7 +159,7 @@ fn a_program_goes_on_after_a_slice(rt: HostRuntime) -> Result<(), Fail> {
 #[test]
 fn files_that_are_no_executables(rt: HostRuntime) -> Result<(), Fail> {
     let alloc = rt.alloc();
-    let good = elf(alloc, &HELLO, b"hello\n")?;
+    let good = hello(alloc)?;
     // The place of a byte, what it becomes, and the errno: 8 is ENOEXEC, 7 is E2BIG.
     let changes: [(usize, u8, u8); 16] = [
         (0, 0x7e, 8),

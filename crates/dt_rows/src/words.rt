@@ -14,7 +14,7 @@ fn hello_gives_the_same_bytes_whatever_the_host_chooses(rt: HostRuntime) -> Resu
     ];
     let want = report(alloc, HELLO_SHOWN, 162, HELLO_DIGEST)?;
     for choices in [
-        Words::Zeros,
+        Words::Zeros(8_000),
         Words::Stream(1),
         Words::Stream(2),
         Words::Stream(u64::MAX),

@@ -9,7 +9,7 @@ use Rattle.dt_base.specs.declared.refusal.Refusal.{Refusal}
 use Rattle.dt_base.specs.Command.{Words}
 use Rattle.dt_host.specs.Sink.{AddsPart}
 use Rattle.dt_host.specs.Store.{Files}
-use Rattle.dt_run.specs.declared.machine.Machine.{Machine}
+use Rattle.dt_rv64.specs.declared.machine.Machine.{Machine}
 use Rattle.dt_run.specs.declared.process.Phase.{Phase}
 use Rattle.dt_run.specs.declared.process.Phase.TheVariants.{Owes, Ran, Zombie}
 use Rattle.dt_run.specs.declared.failure.Failure.{Failure}
@@ -20,6 +20,7 @@ use Rattle.dt_run.specs.Options.{Request, request_of}
 use Rattle.dt_run.specs.ImageOf.{image_of}
 use Rattle.dt_run.specs.Failure.{failure_status, failure_line}
 use Rattle.dt_run.specs.Launch.{launch}
+use Rattle.dt_run.specs.Turn.{first_state}
 use Rattle.dt_run.specs.Run.{Run, run_from, run_of, report_of}
 use Rattle.dt_run.specs.Asked.{asked, run_asked, run_on, asked_report}
 use Rattle.dt_run.specs.Statuses.{is_run_status, Completes, RefusesImage, line_of, TellsLine}
@@ -35,7 +36,7 @@ status_of-run (Zombie (Code code)) = code_status (eqb code 0)
 status_of-run (Zombie (Signal signal)) = refl
 
 run_from-status : (entries : List Entry) (budget : ℕ) (started : Result Machine Errno) → IsTrue (is_run_status (run_from entries budget started).status)
-run_from-status entries budget (Ok m) = let last = course (record { process = record { machine = m; phase = Owes }; left = budget }) in status_of-run last.last.process.phase
+run_from-status entries budget (Ok m) = let last = course entries (first_state m budget) in status_of-run last.last.process.phase
 run_from-status entries budget (Err errno) = refl
 
 -- the status of a run is 0, 1 or 10

@@ -1,32 +1,34 @@
 -- What a turn leaves, and that the turns until a verdict don't depend on how many are allowed.
-use Rattle.std.proofs.Common.{◌≡◌, ℕ, zero, suc, ◌+◌, ◌-◌, ◌≤◌, Bool, true, false, cond, List, [], ◌++◌, Option, Some, None, refl, sym, ap, subst, ◌∙◌, arith, add-one, append_assoc, nat_le}
+use Rattle.std.proofs.Common.{◌≡◌, ℕ, zero, suc, ◌+◌, ◌-◌, ◌≤◌, Bool, true, false, cond, List, ◌++◌, Option, Some, None, refl, sym, ap, subst, ◌∙◌, arith, add-one, append_assoc, nat_le}
 use Rattle.std.proofs.lemmas.Bool.Decides.{nat_tests}
 use Rattle.dt_base.specs.declared.limits.TheConstants.{SEGMENT_LIMIT}
 use Rattle.dt_base.specs.declared.event.Event.{Event}
 use Rattle.dt_base.specs.declared.event.Verdict.{Verdict}
 use Rattle.dt_base.specs.declared.event.Verdict.TheVariants.{Budget}
-use Rattle.dt_run.specs.declared.machine.Machine.{Machine}
-use Rattle.dt_run.specs.declared.machine.Step.{Step}
-use Rattle.dt_run.specs.declared.machine.Step.TheVariants.{Ran as StepRan, Call, Fault}
-use Rattle.dt_run.specs.declared.machine.Seg.{Seg}
-use Rattle.dt_run.specs.declared.process.Process.{Process}
+use Rattle.dt_rv64.specs.declared.machine.Machine.{Machine}
+use Rattle.dt_rv64.specs.declared.machine.Step.{Step}
+use Rattle.dt_rv64.specs.declared.machine.Step.TheVariants.{Ran as StepRan, Call, Counter, Fault}
+use Rattle.dt_rv64.specs.declared.segments.Seg.{Seg}
 use Rattle.dt_run.specs.declared.process.Phase.{Phase}
 use Rattle.dt_run.specs.declared.process.Phase.TheVariants.{Owes, Ran, Zombie}
-use Rattle.dt_run.specs.declared.call.Outcome.{Outcome}
-use Rattle.dt_run.specs.declared.call.Outcome.TheVariants.{Done, Ends, Unsupported}
+use Rattle.dt_run.specs.declared.call.answer.Outcome.{Outcome}
+use Rattle.dt_run.specs.declared.call.answer.Outcome.TheVariants.{Done, Ends, Unsupported}
 use Rattle.dt_run.specs.declared.turn.State.{State}
-use Rattle.dt_run.specs.Machine.{exec}
-use Rattle.dt_run.specs.Segment.{SegmentRun, segment_of, run_steps, go_on as step_on}
-use Rattle.dt_run.specs.Process.{with_segment, ran_in, ran_process, cost_of}
-use Rattle.dt_run.specs.Call.{Served, served}
-use Rattle.dt_run.specs.Turn.{Turn, turn, billed, paid, settled}
+use Rattle.dt_rv64.specs.Machine.{exec}
+use Rattle.dt_rv64.specs.Segment.{SegmentRun, segment_of, run_steps, go_on as step_on}
+use Rattle.dt_run.specs.Process.{with_segment, ran_in}
+use Rattle.dt_base.specs.declared.image.Entry.{Entry}
+use Rattle.dt_run.specs.Served.{Served}
+use Rattle.dt_run.specs.Call.{served}
+use Rattle.dt_run.specs.Turn.{Turn, turn, billed, paid, settled, over as over_with}
 use Rattle.dt_run.specs.Course.{Course, course, turns, go_on, after, HasCost}
-use Rattle.dt_run.proofs.Runs.{run-step, segment-starts}
+use Rattle.dt_rv64.proofs.Runs.{run-step, segment-starts}
 
 -- a segment makes a step
 step_on-least : (step : Step) (m : Machine) (made bound : ℕ) (rest : Machine → SegmentRun) → bound ≤ made → ((m : Machine) → bound ≤ (rest m).count) → bound ≤ (step_on step m made rest).count
 step_on-least StepRan m made bound rest h further = further m
 step_on-least Call m made bound rest h further = h
+step_on-least (Counter rd) m made bound rest h further = h
 step_on-least (Fault signal) m made bound rest h further = h
 
 run_steps-least : (left made bound : ℕ) (m : Machine) → bound ≤ made → bound ≤ (run_steps left made m).count
@@ -47,75 +49,76 @@ pub record GoesOn (bound : ℕ) (t : Turn) : Type 0 where
   pub cheaper : t.verdict ≡ None → t.next.left + 1 ≤ bound
   pub live : t.verdict ≡ None → HasCost t.next.process.phase
 
-settled_on : (p : Process) (left bound : ℕ) (s : Served) (o : Outcome) → left + 1 ≤ bound → GoesOn bound (settled p left s o)
-settled_on p left bound s Done h = record { cheaper = λ _. h; live = λ _. tt }
-settled_on p left bound s (Ends end) h = record { cheaper = λ e. cc; live = λ e. cc }
-settled_on p left bound s (Unsupported number) h = record { cheaper = λ e. cc; live = λ e. cc }
-
--- the turn of a process whose segment was run
-paid_on : (b : Bool) (p : Process) (left : ℕ) (seg : Seg) → nat_le seg.count left ≡ b → 1 ≤ seg.count → GoesOn left (cond b (paid p (left - seg.count) (Ran seg)) (record { next = record { process = p; left = left }; events = []; verdict = Some Budget }))
-paid_on true p left seg e h = let s = served p.machine seg.stop in settled_on p (left - seg.count) left s s.outcome (grind (arith, nat_tests))
-paid_on false p left seg e h = record { cheaper = λ e. cc; live = λ e. cc }
-
-billed_on : (m : Machine) (left : ℕ) (seg : Seg) → 1 ≤ seg.count → GoesOn left (billed (record { machine = m; phase = Ran seg }) left)
-billed_on m left seg h = paid_on (nat_le seg.count left) (record { machine = m; phase = Ran seg }) left seg refl h
-
-ran_on : (m : Machine) (left : ℕ) (phase : Phase) → HasCost phase → GoesOn left (billed (ran_in (record { machine = m; phase = phase }) phase) left)
-ran_on m left Owes h = let r = segment_of m in billed_on r.machine left (record { count = r.count; stop = r.stop }) (segment_of-least m)
-ran_on m left (Ran seg) h = billed_on m left seg h
-ran_on m left (Zombie end) h = absurd h
-
-pub turn-goes_on : (s : State) → HasCost s.process.phase → GoesOn s.left (turn s)
-unfolding turn with_segment
-turn-goes_on s h = ran_on s.process.machine s.left s.process.phase h
+settled_on : (s : State) (bound : ℕ) (r : Served) (o : Outcome) → s.left + 1 ≤ bound → GoesOn bound (settled s r o)
+settled_on s bound r Done h = record { cheaper = λ _. h; live = λ _. tt }
+settled_on s bound r (Ends end) h = record { cheaper = λ e. cc; live = λ e. cc }
+settled_on s bound r (Unsupported number) h = record { cheaper = λ e. cc; live = λ e. cc }
 
 go_on-same : (v : Option Verdict) (t : Turn) (f g : State → Course) → (v ≡ None → f t.next ≡ g t.next) → go_on t v f ≡ go_on t v g
 go_on-same (Some verdict) t f g same = refl
 go_on-same None t f g same = ap (after t.events) (same refl)
 
--- as many turns as the budget pays for are enough
-turns-enough : (n a b : ℕ) (s : State) → HasCost s.process.phase → a ≤ n → b ≤ n → s.left + 1 ≤ a → s.left + 1 ≤ b → turns a s ≡ turns b s
-unfolding turns
-turns-enough n zero b s live an bn la lb = absurd (omega arith)
-turns-enough n (suc a) zero s live an bn la lb = absurd (omega arith)
-turns-enough zero (suc a) (suc b) s live an bn la lb = absurd (omega arith)
-turns-enough (suc n) (suc a) (suc b) s live an bn la lb =
-    let t = turn s in
-    let on = turn-goes_on s live in
-    go_on-same t.verdict t (turns a) (turns b) (λ e.
-    let less = on.cheaper e in
-    turns-enough n a b t.next (on.live e) (omega arith) (omega arith) (omega arith) (omega arith))
-
--- the course from a state: a turn, and then the course from the next
-pub course-turn : (s : State) → HasCost s.process.phase → let t = turn s in course s ≡ go_on t t.verdict course
-unfolding turns course
-course-turn s live =
-    let t = turn s in
-    let on = turn-goes_on s live in
-    ap (λ n. turns n s) (add-one s.left) ∙ go_on-same t.verdict t (turns s.left) course (λ e.
-    let less = on.cheaper e in
-    turns-enough s.left s.left (t.next.left + 1) t.next (on.live e) (omega arith) (omega arith) (omega arith) (omega arith))
-
 after-after : (a b : List Event) (c : Course) → after a (after b c) ≡ after (a ++ b) c
 after-after a b c = ap (λ events. record { events = events; verdict = c.verdict; last = c.last }) (sym (append_assoc a b c.events))
 
--- the last turn of a course
-pub course-last : (start s next : State) (before events : List Event) (found : Option Verdict) (verdict : Verdict) → course start ≡ after before (course s) → HasCost s.process.phase → turn s ≡ record { next = next; events = events; verdict = found } → found ≡ Some verdict → course start ≡ record { events = before ++ events; verdict = verdict; last = next }
-course-last start s next before events found verdict whole live is over =
-    whole ∙ ap (after before) (course-turn s live ∙ ap (λ t. go_on t t.verdict course) (is ∙ ap (λ v. record { next = next; events = events; verdict = v }) over))
+module _ (entries : List Entry) where
+  -- the turn of a process whose segment was run
+  paid_on : (b : Bool) (s : State) (seg : Seg) → nat_le seg.count s.left ≡ b → 1 ≤ seg.count → GoesOn s.left (cond b (paid entries (record s { left = s.left - seg.count }) (Ran seg)) (over_with s Budget))
+  paid_on true s seg e h = let r = served entries s.container s.process.machine seg.stop in settled_on (record s { left = s.left - seg.count }) s.left r r.outcome (grind (arith, nat_tests))
+  paid_on false s seg e h = record { cheaper = λ e. cc; live = λ e. cc }
 
--- a turn of a course that goes on
-pub course-next : (start s next : State) (before events : List Event) (found : Option Verdict) → course start ≡ after before (course s) → HasCost s.process.phase → turn s ≡ record { next = next; events = events; verdict = found } → found ≡ None → course start ≡ after (before ++ events) (course next)
-course-next start s next before events found whole live is over =
-    whole ∙ ap (after before) (course-turn s live ∙ ap (λ t. go_on t t.verdict course) (is ∙ ap (λ v. record { next = next; events = events; verdict = v }) over))
-    ∙ after-after before events (course next)
+  billed_on : (s : State) (m : Machine) (seg : Seg) → 1 ≤ seg.count → GoesOn s.left (billed entries (record s { process = record { machine = m; phase = Ran seg } }))
+  billed_on s m seg h = paid_on (nat_le seg.count s.left) (record s { process = record { machine = m; phase = Ran seg } }) seg refl h
 
-pub left-next : (s next : State) (events : List Event) (found : Option Verdict) → HasCost s.process.phase → turn s ≡ record { next = next; events = events; verdict = found } → found ≡ None → next.left + 1 ≤ s.left
-left-next s next events found live is over =
-    let on = turn-goes_on s live in
-    subst (λ t. t.next.left + 1 ≤ s.left) is (on.cheaper (ap (λ t. t.verdict) is ∙ over))
+  ran_on : (s : State) (m : Machine) (phase : Phase) → HasCost phase → GoesOn s.left (billed entries (record s { process = ran_in (record { machine = m; phase = phase }) phase }))
+  ran_on s m Owes h = let r = segment_of m in billed_on s r.machine (record { count = r.count; stop = r.stop }) (segment_of-least m)
+  ran_on s m (Ran seg) h = billed_on s m seg h
+  ran_on s m (Zombie end) h = absurd h
 
-pub HasCost-next : (s next : State) (events : List Event) (found : Option Verdict) → HasCost s.process.phase → turn s ≡ record { next = next; events = events; verdict = found } → found ≡ None → HasCost next.process.phase
-HasCost-next s next events found live is over =
-    let on = turn-goes_on s live in
-    subst (λ t. HasCost t.next.process.phase) is (on.live (ap (λ t. t.verdict) is ∙ over))
+  pub turn-goes_on : (s : State) → HasCost s.process.phase → GoesOn s.left (turn entries s)
+  unfolding turn with_segment
+  turn-goes_on s h = ran_on s s.process.machine s.process.phase h
+
+  -- as many turns as the budget pays for are enough
+  turns-enough : (n a b : ℕ) (s : State) → HasCost s.process.phase → a ≤ n → b ≤ n → s.left + 1 ≤ a → s.left + 1 ≤ b → turns entries a s ≡ turns entries b s
+  unfolding turns
+  turns-enough n zero b s live an bn la lb = absurd (omega arith)
+  turns-enough n (suc a) zero s live an bn la lb = absurd (omega arith)
+  turns-enough zero (suc a) (suc b) s live an bn la lb = absurd (omega arith)
+  turns-enough (suc n) (suc a) (suc b) s live an bn la lb =
+      let t = turn entries s in
+      let on = turn-goes_on s live in
+      go_on-same t.verdict t (turns entries a) (turns entries b) (λ e.
+      let less = on.cheaper e in
+      turns-enough n a b t.next (on.live e) (omega arith) (omega arith) (omega arith) (omega arith))
+
+  -- the course from a state: a turn, and then the course from the next
+  pub course-turn : (s : State) → HasCost s.process.phase → let t = turn entries s in course entries s ≡ go_on t t.verdict (course entries)
+  unfolding turns course
+  course-turn s live =
+      let t = turn entries s in
+      let on = turn-goes_on s live in
+      ap (λ n. turns entries n s) (add-one s.left) ∙ go_on-same t.verdict t (turns entries s.left) (course entries) (λ e.
+      let less = on.cheaper e in
+      turns-enough s.left s.left (t.next.left + 1) t.next (on.live e) (omega arith) (omega arith) (omega arith) (omega arith))
+
+  -- the last turn of a course
+  pub course-last : (start s next : State) (before events : List Event) (found : Option Verdict) (verdict : Verdict) → course entries start ≡ after before (course entries s) → HasCost s.process.phase → turn entries s ≡ record { next = next; events = events; verdict = found } → found ≡ Some verdict → course entries start ≡ record { events = before ++ events; verdict = verdict; last = next }
+  course-last start s next before events found verdict whole live is over =
+      whole ∙ ap (after before) (course-turn s live ∙ ap (λ t. go_on t t.verdict (course entries)) (is ∙ ap (λ v. record { next = next; events = events; verdict = v }) over))
+
+  -- a turn of a course that goes on
+  pub course-next : (start s next : State) (before events : List Event) (found : Option Verdict) → course entries start ≡ after before (course entries s) → HasCost s.process.phase → turn entries s ≡ record { next = next; events = events; verdict = found } → found ≡ None → course entries start ≡ after (before ++ events) (course entries next)
+  course-next start s next before events found whole live is over =
+      whole ∙ ap (after before) (course-turn s live ∙ ap (λ t. go_on t t.verdict (course entries)) (is ∙ ap (λ v. record { next = next; events = events; verdict = v }) over))
+      ∙ after-after before events (course entries next)
+
+  pub left-next : (s next : State) (events : List Event) (found : Option Verdict) → HasCost s.process.phase → turn entries s ≡ record { next = next; events = events; verdict = found } → found ≡ None → next.left + 1 ≤ s.left
+  left-next s next events found live is over =
+      let on = turn-goes_on s live in
+      subst (λ t. t.next.left + 1 ≤ s.left) is (on.cheaper (ap (λ t. t.verdict) is ∙ over))
+
+  pub HasCost-next : (s next : State) (events : List Event) (found : Option Verdict) → HasCost s.process.phase → turn entries s ≡ record { next = next; events = events; verdict = found } → found ≡ None → HasCost next.process.phase
+  HasCost-next s next events found live is over =
+      let on = turn-goes_on s live in
+      subst (λ t. HasCost t.next.process.phase) is (on.live (ap (λ t. t.verdict) is ∙ over))

@@ -1,13 +1,8 @@
 pub mod Flats
 pub mod Installing
 pub mod Launching
-pub mod Pages
-pub mod Loads
-pub mod Runs
 pub mod Headers
-pub mod Following
 pub mod Placed
-pub mod Kept
 pub mod Starts
 pub mod Courses
 pub mod Modes
@@ -24,3 +19,4 @@ pub mod Completing
 pub mod Escapes
 pub mod Fronts
 pub mod Requests
+pub mod Parts

@@ -7,14 +7,14 @@ use Rattle.dt_run.specs.declared.elf.Elf.{Elf}
 use Rattle.dt_run.specs.declared.elf.Segment.{Segment}
 use Rattle.dt_run.specs.declared.elf.StartErr.{StartErr}
 use Rattle.dt_run.specs.declared.elf.StartErr.TheVariants.{TooBig, NoMemory}
-use Rattle.dt_run.specs.declared.machine.Machine.{Machine}
-use Rattle.dt_run.specs.declared.space.TheConstants.{READ, WRITE}
+use Rattle.dt_rv64.specs.declared.machine.Machine.{Machine}
+use Rattle.dt_space.specs.declared.access.TheConstants.{READ, WRITE}
 use Rattle.dt_run.specs.Executable.{IsPlaced}
 use Rattle.dt_run.specs.FirstMachine.{page_count, contents_of, segment_pages, stack_pages, first, first_machine}
-use Rattle.dt_run.specs.Space.{IsSpace}
-use Rattle.dt_run.specs.Valid.{IsMachine}
-use Rattle.dt_run.proofs.Following.{IsSpace-more, IsSpace-nil, length-pages_from, first-pages-end}
-use Rattle.dt_run.proofs.Kept.{words-set}
+use Rattle.dt_space.specs.Space.{IsSpace}
+use Rattle.dt_rv64.specs.Valid.{IsMachine}
+use Rattle.dt_space.proofs.Following.{IsSpace-more, IsSpace-nil, length-pages_from, first-pages-end}
+use Rattle.dt_rv64.proofs.Kept.{words-set}
 
 -- the segment's pages end below the stack
 pub pages-below : (bytes : List ℕ) (segment : Segment) → IsPlaced bytes segment → segment.vaddr / PAGE_SIZE + page_count segment ≤ STACK_START / PAGE_SIZE

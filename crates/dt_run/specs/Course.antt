@@ -1,5 +1,6 @@
 -- Turns until a verdict.
 use Rattle.std.specs.Prelude.{ℕ, zero, suc, ◌+◌, ◌≤◌, List, [], ◌++◌, Option, Some, None}
+use Rattle.dt_base.specs.declared.image.Entry.{Entry}
 use Rattle.dt_base.specs.declared.event.Event.{Event}
 use Rattle.dt_base.specs.declared.event.Verdict.{Verdict}
 use Rattle.dt_base.specs.declared.event.Verdict.TheVariants.{Budget}
@@ -23,14 +24,14 @@ abbrev pub go_on : Turn → Option Verdict → (State → Course) → Course
 go_on t (Some verdict) rest = record { events = t.events; verdict = verdict; last = t.next }
 go_on t None rest = after t.events (rest t.next)
 
--- at most so many turns
-unfoldable pub turns : ℕ → State → Course
-turns zero s = record { events = []; verdict = Budget; last = s }
-turns (suc most) s = let t = turn s in go_on t t.verdict (turns most)
+-- at most so many turns, on the tree of these entries
+unfoldable pub turns : List Entry → ℕ → State → Course
+turns entries zero s = record { events = []; verdict = Budget; last = s }
+turns entries (suc most) s = let t = turn entries s in go_on t t.verdict (turns entries most)
 
 -- turns until a verdict: each costs at least 1, and one more than the budget finds it spent
-unfoldable pub course : State → Course
-course s = turns (s.left + 1) s
+unfoldable pub course : List Entry → State → Course
+course entries s = turns entries (s.left + 1) s
 
 -- a turn that begins in this phase costs at least 1: a segment is owed, or one was run
 abbrev pub HasCost : Phase → Type 0

@@ -9,8 +9,8 @@ use Rattle.dt_run.specs.declared.elf.ElfErr.TheVariants.{Short, Magic, Class, Ki
 use Rattle.dt_run.specs.declared.elf.Elf.{Elf}
 use Rattle.dt_run.specs.declared.elf.Segment.{Segment}
 use Rattle.dt_run.specs.declared.elf.ProgramHeader.{ProgramHeader}
-use Rattle.dt_run.specs.declared.space.TheConstants.{READ, WRITE, EXECUTE}
-use Rattle.dt_run.specs.Space.{has}
+use Rattle.dt_space.specs.declared.access.TheConstants.{READ, WRITE, EXECUTE}
+use Rattle.dt_space.specs.Space.{has}
 
 -- the number of so many bytes at a place of the file; 0 past its end
 abbrev pub number : ℕ → List ℕ → ℕ → ℕ

@@ -4,10 +4,10 @@ use Rattle.dt_base.specs.declared.limits.TheConstants.{PAGE_SIZE, PAGE_LIMIT}
 use Rattle.dt_run.specs.declared.elf.TheConstants.{STACK_START, STACK_PAGES, STACK_TOP}
 use Rattle.dt_run.specs.declared.elf.Elf.{Elf}
 use Rattle.dt_run.specs.declared.elf.Segment.{Segment}
-use Rattle.dt_run.specs.declared.machine.Machine.{Machine}
-use Rattle.dt_run.specs.declared.space.TheConstants.{READ, WRITE}
-use Rattle.dt_run.specs.Space.{PageView}
-use Rattle.dt_run.specs.Pages.{pages_from}
+use Rattle.dt_rv64.specs.declared.machine.Machine.{Machine}
+use Rattle.dt_space.specs.declared.access.TheConstants.{READ, WRITE}
+use Rattle.dt_space.specs.Space.{PageView}
+use Rattle.dt_space.specs.Pages.{pages_from}
 
 -- how many pages a segment touches
 abbrev pub page_count : Segment → ℕ

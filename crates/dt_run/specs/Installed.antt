@@ -1,17 +1,9 @@
 -- How a host holds an image of files that all stand in the root.
-use Rattle.std.specs.Prelude.{◌≡◌, ℕ, List, Option, Some, None, option_map}
+use Rattle.std.specs.Prelude.{◌≡◌, ℕ, List, Option, Some, option_map}
 use Rattle.dt_base.specs.declared.image.Entry.{Entry}
-use Rattle.dt_base.specs.declared.image.What.{What}
-use Rattle.dt_base.specs.declared.image.What.TheVariants.{File, Dir, Link}
 use Rattle.dt_host.specs.World.{World, file_at, entry, IsDir}
 use Rattle.dt_run.specs.Flat.{IsFlat}
-use Rattle.dt_run.specs.Launch.{entry_named}
-
--- the bytes of what is a file
-abbrev pub bytes_of : What → Option (List ℕ)
-bytes_of (File bytes) = Some bytes
-bytes_of Dir = None
-bytes_of (Link target) = None
+use Rattle.dt_run.specs.Lookup.{entry_named, bytes_of}
 
 -- the number that the host's root has under a name
 abbrev pub number_under : World → List ℕ → Option ℕ

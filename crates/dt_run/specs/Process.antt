@@ -5,9 +5,7 @@ use Rattle.dt_base.specs.declared.event.End.TheVariants.{Code, Signal}
 use Rattle.dt_run.specs.declared.process.Process.{Process}
 use Rattle.dt_run.specs.declared.process.Phase.{Phase}
 use Rattle.dt_run.specs.declared.process.Phase.TheVariants.{Owes, Ran, Zombie}
-use Rattle.dt_run.specs.declared.machine.Machine.{Machine}
-use Rattle.dt_run.specs.declared.machine.Seg.{Seg}
-use Rattle.dt_run.specs.Segment.{SegmentRun, segment_of}
+use Rattle.dt_rv64.specs.Segment.{SegmentRun, segment_of}
 
 -- a process whose machine has just run a segment
 abbrev pub ran_process : SegmentRun → Process

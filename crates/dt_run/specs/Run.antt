@@ -1,15 +1,14 @@
 -- A whole run: a function of the image, the command, the seed and the budget.
-use Rattle.std.specs.Prelude.{ℕ, List, [], ◌∷◌, Result, Ok, Err}
+use Rattle.std.specs.Prelude.{ℕ, List, [], Result, Ok, Err}
 use Rattle.dt_base.specs.declared.image.Entry.{Entry}
 use Rattle.dt_base.specs.declared.event.Event.{Event}
 use Rattle.dt_base.specs.declared.event.Verdict.{Verdict}
 use Rattle.dt_base.specs.declared.event.Verdict.TheVariants.{NoStart}
 use Rattle.dt_base.specs.declared.errno.Errno.{Errno}
 use Rattle.dt_base.specs.Command.{Words}
-use Rattle.dt_run.specs.declared.machine.Machine.{Machine}
-use Rattle.dt_run.specs.declared.process.Phase.TheVariants.{Owes}
-use Rattle.dt_run.specs.declared.turn.State.{State}
+use Rattle.dt_rv64.specs.declared.machine.Machine.{Machine}
 use Rattle.dt_run.specs.Process.{status_of}
+use Rattle.dt_run.specs.Turn.{first_state}
 use Rattle.dt_run.specs.Course.{course}
 use Rattle.dt_run.specs.Launch.{launch}
 use Rattle.dt_run.specs.Report.{report}
@@ -24,7 +23,7 @@ pub record Run : Type 0 where
 -- where the program is started the run takes its course, and else it is over at once
 abbrev pub run_from : List Entry → ℕ → Result Machine Errno → Run
 run_from entries budget (Ok m) =
-    let c = course (record { process = record { machine = m; phase = Owes }; left = budget }) in
+    let c = course entries (first_state m budget) in
     record { events = c.events; verdict = c.verdict; status = status_of c.last.process.phase; tree = entries }
 run_from entries budget (Err errno) = record { events = []; verdict = NoStart errno; status = 10; tree = entries }
 

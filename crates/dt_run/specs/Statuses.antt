@@ -5,7 +5,7 @@ use Rattle.dt_host.specs.Cause.{Rose}
 use Rattle.dt_host.specs.Sink.{added, AddsPart}
 use Rattle.dt_host.specs.World.{World}
 use Rattle.dt_run.specs.declared.failure.Failure.{Failure}
-use Rattle.dt_run.specs.declared.failure.Failure.TheVariants.{Usage, Image, Store, Host, Output, NoMemory}
+use Rattle.dt_run.specs.declared.failure.Failure.TheVariants.{Usage, Image, Store, Host, Output}
 use Rattle.dt_run.specs.Failure.{failure_line}
 use Rattle.dt_run.specs.Installed.{HoldsImage}
 use Rattle.dt_run.specs.Run.{Run, report_of}

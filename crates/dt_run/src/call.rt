@@ -1,13 +1,29 @@
-// The system calls, one function for each.
-ghost use Rattle.std.specs.Prelude.{◌≡◌, ℕ, ◌-◌, ◌%◌, ◌^◌, [], Ok, IfOk, IsErr, MatchOption};
-ghost use Rattle.dt_run.specs.Space.{load};
-ghost use Rattle.dt_run.specs.Machine.{register};
-ghost use Rattle.dt_run.specs.Call.{served, call_of, write_call, exit_call, written, refused};
+// The system calls, by their numbers.
+ghost use Rattle.std.specs.Prelude.{◌≡◌, List, IfOk, IsErrOf};
+ghost use Rattle.dt_base.specs.declared.image.Entry.{Entry};
+ghost use Rattle.dt_host.specs.Cause.{HasCause};
+ghost use Rattle.dt_rv64.specs.Effects.{register};
+ghost use Rattle.dt_run.specs.Installed.{HoldsImage};
+ghost use Rattle.dt_run.specs.Served.{reads_counter};
+ghost use Rattle.dt_run.specs.Call.{served, call_of, exit_call};
 
-use crate::machine::{Machine, Stop};
-use crate::space::{READ, Space};
-use dt_base::{Blob, End, Errno, Event, NoMemory, TRANSFER_LIMIT};
+mod answer;
+mod files;
+mod output;
+
+use crate::container::Container;
+use crate::error::RunErr;
+pub use answer::{Answer, Outcome};
+use dt_base::End;
+use dt_host::Host;
+use dt_rv64::{Machine, Stop};
 use std::alloc::Global;
+
+const OPENAT: u64 = 56;
+
+const CLOSE: u64 = 57;
+
+const READ: u64 = 63;
 
 const WRITE: u64 = 64;
 
@@ -24,127 +40,74 @@ const A2: u8 = 12;
 
 const A7: u8 = 17;
 
-/// What becomes of a process whose stop was served.
-#[derive(Clone, Copy, Debug)]
-pub enum Outcome {
-    /// It goes on.
-    Done,
-    /// It ends.
-    Ends(End),
-    /// Its call, by its number, isn't known.
-    Unsupported(u64),
-}
-
-/// What a served stop showed outside, and what becomes of the process.
-#[derive(Drop)]
-pub struct Answer {
-    pub events: Vec<Event>,
-    pub outcome: Outcome,
-}
-
-impl Answer {
-    fn quiet(alloc: Global, outcome: Outcome) -> Self
-        ensures events { result.events.items ≡ [] }
-        ensures outcome { result.outcome ≡ outcome }
-    {
-        Answer {
-            events: Vec::new(alloc),
-            outcome,
-        }
-    }
-}
-
-/// Serves a stop: a call by its number, a fault by the end of the process, the end of a slice by nothing.
+/// Serves a stop: a call by its number, a counter by the logical time, a fault by the end of the process, the end of a
+/// slice by nothing.
 #[tactic(auto, unfolding(crate::specs::Call::served))]
-pub fn serve(alloc: Global, machine: &mut Machine, stop: Stop) -> Result<Answer, NoMemory>
-    ensures served { IfOk result (λ a. served machine.old stop ≡ record { machine = machine.new; events = a.events.items; outcome = a.outcome }) }
-    ensures unsupported { (number : ℕ) → IfOk result (λ a. a.outcome ≡ Outcome.Unsupported number → machine.new ≡ machine.old) }
+pub fn serve<H: Host>(
+    alloc: Global,
+    host: &mut H,
+    container: &mut Container,
+    machine: &mut Machine,
+    stop: Stop,
+) -> Result<Answer, RunErr>
+    requires { (entries : List Entry) × HoldsImage (H.view host.old) entries }
+    ensures served { (entries : List Entry) → HoldsImage (H.view host.old) entries → IfOk result (λ a.
+        served entries container.old machine.old stop ≡ record { container = container.new; machine = machine.new; events = a.events.items; outcome = a.outcome }) }
+    ensures container { (number : _) → IfOk result (λ a. a.outcome ≡ Outcome.Unsupported number → container.new ≡ container.old) }
+    ensures machine { (number : _) → IfOk result (λ a. a.outcome ≡ Outcome.Unsupported number → machine.new ≡ machine.old) }
+    ensures stays { H.view host.new ≡ H.view host.old }
+    ensures cause { HasCause (H.count host.old) (H.count host.new) (IsErrOf result RunErr.Host) }
+    ensures kinds { IsErrOf result RunErr.Sink → ⊥ }
 {
     match stop {
-        Stop::Call => call(alloc, machine),
+        Stop::Call => call(alloc, host, container, machine),
+        Stop::Counter(rd) => Ok(read_counter(alloc, container, machine, rd)),
         Stop::Fault(signal) => Ok(Answer::quiet(alloc, Outcome::Ends(End::Signal(signal)))),
         Stop::Slice => Ok(Answer::quiet(alloc, Outcome::Done)),
     }
 }
 
 #[tactic(auto, unfolding(crate::specs::Call::call_of))]
-fn call(alloc: Global, machine: &mut Machine) -> Result<Answer, NoMemory>
-    ensures served { IfOk result (λ a. call_of (register machine.old 17) machine.old ≡ record { machine = machine.new; events = a.events.items; outcome = a.outcome }) }
-    ensures unsupported { (number : ℕ) → IfOk result (λ a. a.outcome ≡ Outcome.Unsupported number → machine.new ≡ machine.old) }
+fn call<H: Host>(
+    alloc: Global,
+    host: &mut H,
+    container: &mut Container,
+    machine: &mut Machine,
+) -> Result<Answer, RunErr>
+    requires { (entries : List Entry) × HoldsImage (H.view host.old) entries }
+    ensures served { (entries : List Entry) → HoldsImage (H.view host.old) entries → IfOk result (λ a.
+        call_of (register machine.old 17) entries container.old machine.old ≡ record { container = container.new; machine = machine.new; events = a.events.items; outcome = a.outcome }) }
+    ensures container { (number : _) → IfOk result (λ a. a.outcome ≡ Outcome.Unsupported number → container.new ≡ container.old) }
+    ensures machine { (number : _) → IfOk result (λ a. a.outcome ≡ Outcome.Unsupported number → machine.new ≡ machine.old) }
+    ensures stays { H.view host.new ≡ H.view host.old }
+    ensures cause { HasCause (H.count host.old) (H.count host.new) (IsErrOf result RunErr.Host) }
+    ensures kinds { IsErrOf result RunErr.Sink → ⊥ }
 {
     match machine.reg(A7) {
-        WRITE => write(alloc, machine),
+        OPENAT => files::openat(alloc, host, container, machine),
+        CLOSE => Ok(files::close(alloc, container, machine)),
+        READ => files::read(alloc, host, container, machine),
+        WRITE => Ok(output::write(alloc, container, machine)?),
         EXIT | EXIT_GROUP => Ok(exit(alloc, machine)),
         number => Ok(Answer::quiet(alloc, Outcome::Unsupported(number))),
     }
 }
 
+// A counter gives the logical time, and its reading takes some.
+fn read_counter(alloc: Global, container: &mut Container, machine: &mut Machine, rd: u8) -> Answer
+    ensures served { reads_counter container.old machine.old rd ≡ record { container = container.new; machine = machine.new; events = result.events.items; outcome = result.outcome } }
+    ensures done { result.outcome ≡ Outcome.Done }
+{
+    let ticks = container.clock.read();
+    machine.read_counter(rd, ticks);
+    Answer::quiet(alloc, Outcome::Done)
+}
+
 // exit(2), exit_group(2)
 #[tactic(auto, unfolding(crate::specs::Call::exit_call))]
 fn exit(alloc: Global, machine: &Machine) -> Answer
-    ensures { exit_call machine.now ≡ record { machine = machine.now; events = result.events.items; outcome = result.outcome } }
+    ensures { (c : _) → exit_call c machine.now ≡ record { container = c; machine = machine.now; events = result.events.items; outcome = result.outcome } }
 {
     let code = (machine.reg(A0) & 0xff) as u8;
     Answer::quiet(alloc, Outcome::Ends(End::Code(code)))
-}
-
-// write(2)
-#[tactic(auto, unfolding(crate::specs::Call::write_call))]
-fn write(alloc: Global, machine: &mut Machine) -> Result<Answer, NoMemory>
-    ensures served { IfOk result (λ a. write_call machine.old ≡ record { machine = machine.new; events = a.events.items; outcome = a.outcome }) }
-    ensures done { IfOk result (λ a. a.outcome ≡ Outcome.Done) }
-{
-    let descriptor = machine.reg(A0) & 0xffff_ffff;
-    if descriptor != 1 && descriptor != 2 {
-        return Ok(refuse(alloc, machine, Errno::BadF));
-    }
-    let count = machine.reg(A2).min(TRANSFER_LIMIT);
-    match guest_bytes(alloc, &machine.space, machine.reg(A1), count)? {
-        Some(bytes) => write_stream(alloc, machine, descriptor as u8, bytes),
-        None => Ok(refuse(alloc, machine, Errno::Fault)),
-    }
-}
-
-// All the bytes of a buffer of the guest, where each can be read.
-fn guest_bytes(
-    alloc: Global,
-    space: &Space,
-    at: u64,
-    count: u64,
-) -> Result<Option<Vec<u8>>, NoMemory>
-    ensures { IfOk result (λ found. MatchOption found (IsErr (load space.now READ at count)) (λ bytes. load space.now READ at count ≡ Ok bytes.items)) }
-{
-    if space.readable(at, count).is_err() {
-        return Ok(None);
-    }
-    let mut bytes = vec![in alloc; 0; count as usize]?;
-    match space.read_bytes(at, &mut bytes) {
-        Ok(()) => Ok(Some(bytes)),
-        Err(_) => Ok(None),
-    }
-}
-
-fn write_stream(
-    alloc: Global,
-    machine: &mut Machine,
-    stream: u8,
-    bytes: Vec<u8>,
-) -> Result<Answer, NoMemory>
-    ensures served { IfOk result (λ a. written machine.old stream (Ok bytes.items) ≡ record { machine = machine.new; events = a.events.items; outcome = a.outcome }) }
-    ensures done { IfOk result (λ a. a.outcome ≡ Outcome.Done) }
-{
-    machine.answer(bytes.len() as u64);
-    let mut answer = Answer::quiet(alloc, Outcome::Done);
-    if !bytes.is_empty() {
-        answer.events.push(Event::Out(stream, Blob::new(bytes)))?;
-    }
-    Ok(answer)
-}
-
-fn refuse(alloc: Global, machine: &mut Machine, errno: Errno) -> Answer
-    ensures served { refused machine.old errno ≡ record { machine = machine.new; events = result.events.items; outcome = result.outcome } }
-    ensures done { result.outcome ≡ Outcome.Done }
-{
-    machine.answer(u64::from(errno.number()).wrapping_neg());
-    Answer::quiet(alloc, Outcome::Done)
 }

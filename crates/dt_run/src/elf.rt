@@ -1,13 +1,13 @@
 // Executables: reading an ELF file, and the machine that runs it.
 ghost use Rattle.std.specs.Prelude.{◌≡◌, ◌+◌, ◌*◌, ◌≤◌, ◌<◌, length, nat_lt, nat_le, filter, ◌++◌, ◌↔◌, IfOk, Ok, Err, Some, None};
 ghost use Rattle.std.specs.List.{list_any};
-ghost use Rattle.dt_run.specs.Valid.{IsMachine};
+ghost use Rattle.dt_rv64.specs.Valid.{IsMachine};
 ghost use Rattle.dt_run.specs.FirstMachine.{page_count, contents_of, segment_pages, stack_pages, first};
 ghost use Rattle.dt_run.specs.Executable.{number, e_phoff, e_phnum, program_header, program_headers, header_refusal, is_short, is_bad_header, is_load, is_interp, is_placed, rights_of, segment_at, only, only_segment, exe_after, exe, IsPlaced};
 
-use crate::machine::Machine;
-use crate::space::{EXECUTE, READ, Space, WRITE};
 use dt_base::{NoMemory, PAGE_LIMIT, PAGE_SIZE, get16, get32, get64};
+use dt_rv64::Machine;
+use dt_space::{EXECUTE, READ, Space, WRITE};
 use std::alloc::Global;
 
 /// The first bytes of an ELF file.

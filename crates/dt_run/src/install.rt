@@ -1,5 +1,5 @@
 // The image at the host: put there, and read back.
-ghost use Rattle.std.specs.Prelude.{◌≡◌, ◌≤◌, ℕ, List, None, ◌∷◌, length, IfOk, OnOk, IsErrOf};
+ghost use Rattle.std.specs.Prelude.{◌≡◌, ◌≤◌, ◌<◌, ◌+◌, ◌^◌, ℕ, List, None, ◌∷◌, length, take, drop, IfOk, OnOk, IsErrOf};
 ghost use Rattle.dt_base.specs.declared.image.What.TheVariants.{File};
 ghost use Rattle.dt_base.specs.Image.{IsImage};
 ghost use Rattle.dt_host.specs.Cause.{HasCause};
@@ -98,4 +98,24 @@ pub fn read_file<H: Host>(alloc: Global, host: &mut H, file: u64) -> Result<Vec<
             return Ok(bytes);
         }
     }
+}
+
+/// At most `most` bytes of a file, from a place on.
+pub fn read_part<H: Host>(
+    alloc: Global,
+    host: &mut H,
+    file: u64,
+    from: u64,
+    most: u64,
+) -> Result<Vec<u8>, HostErr>
+    requires { IsFile (H.view host.old).forest file }
+    ensures ok { IfOk result (λ bytes. bytes.items ≡ take most (drop from (content (H.view host.old).forest file))) }
+    ensures fits { IfOk result (λ bytes. from + length bytes.items < 2 ^ 64) }
+    ensures stays { H.view host.new ≡ H.view host.old }
+    ensures cause { HasCause (H.count host.old) (H.count host.new) (IsErrOf result HostErr.Failed) }
+{
+    let left = host.raw(file)?.size.saturating_sub(from);
+    let mut bytes = vec![in alloc; 0; left.min(most) as usize]?;
+    read_whole(host, file, from, &mut bytes)?;
+    Ok(bytes)
 }

@@ -6,6 +6,8 @@
 
 mod blobs;
 mod call;
+mod container;
+mod descriptors;
 mod elf;
 mod error;
 mod failure;
@@ -14,7 +16,7 @@ mod image;
 mod index;
 mod install;
 mod launch;
-mod machine;
+mod lookup;
 #[cfg(test)]
 mod machine_tests;
 mod options;
@@ -23,7 +25,6 @@ mod path;
 mod process;
 mod report;
 mod run;
-mod space;
 mod top;
 mod turn;
 
@@ -31,8 +32,6 @@ pub use elf::{Elf, ElfErr, Segment, StartErr, read_elf, start};
 pub use error::RunErr;
 pub use failure::Failure;
 pub use image::read_image;
-pub use machine::{Instr, Machine, Seg, Step, Stop, decode, segment};
 pub use options::{Options, UsageErr, read_options};
 pub use run::run_container;
-pub use space::{Miss, Space};
 pub use top::{dettrace, tell};

@@ -1,6 +1,6 @@
 // One program from its file to its second call, and files and words that are refused.
 use crate::elf::{Elf, ElfErr, StartErr, read_elf, start};
-use crate::machine::{Instr, Machine, Seg, Step, Stop, decode, segment};
+use dt_rv64::{Instr, Machine, Seg, Step, Stop, decode, segment};
 use std::test::Fail;
 
 // A program that writes `hello` and a line feed by a call, and ends with status 0 by another.
@@ -60,7 +60,7 @@ fn refuses_short_files_and_unknown_words(rt: HostRuntime) -> Result<(), Fail> {
             Instr::Addi {
                 rd: 17,
                 rs1: 0,
-                immediate: 139
+                imm: 139
             }
         )
     );
@@ -70,7 +70,7 @@ fn refuses_short_files_and_unknown_words(rt: HostRuntime) -> Result<(), Fail> {
             Instr::Addi {
                 rd: 10,
                 rs1: 0,
-                immediate: -1
+                imm: -1
             }
         )
     );

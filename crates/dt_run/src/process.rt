@@ -1,8 +1,8 @@
 // A process: its machine, and where it stands between its turns.
 ghost use Rattle.std.specs.Prelude.{◌≡◌, OnOk};
 
-use crate::machine::{Machine, Seg, segment};
 use dt_base::{End, NoMemory};
+use dt_rv64::{Machine, Seg, segment};
 
 /// Where a process stands.
 #[derive(Clone, Copy, Debug)]

@@ -16,13 +16,13 @@ ghost use Rattle.dt_run.specs.Tree.{tree_of};
 use crate::error::RunErr;
 use crate::install::{install, read_entry};
 use crate::launch::launch;
-use crate::machine::Machine;
 use crate::report::{
     write_events, write_file_line, write_header, write_tree_header, write_verdict,
 };
 use crate::turn::{State, play};
 use dt_base::{Blob, Command, Entry, Errno, Event, Image, NoMemory, Verdict};
 use dt_host::{Gate, Host, Sink, sink_all};
+use dt_rv64::Machine;
 use std::alloc::Global;
 
 // The inode of an image's first entry; the root's is 1.
@@ -86,7 +86,7 @@ fn run_program<H: Host>(
     ensures kinds { IsErrOf result RunErr.Sink → ⊥ }
 {
     let started = launch(alloc, host, program(command.args()).as_slice())?;
-    Ok(finish(alloc, started, budget)?)
+    finish(alloc, host, started, budget)
 }
 
 // The program's path, which is a command's first word.
@@ -98,12 +98,22 @@ fn program(args: &[Blob]) -> &Blob
 }
 
 // The course of a program that was started, or the end of one that was not.
-fn finish(alloc: Global, started: Result<Machine, Errno>, budget: u64) -> Result<Finished, NoMemory>
-    ensures { (entries : _) → IfOk result (λ run. run_from entries budget started ≡ record { events = run.events.items; verdict = run.verdict; status = run.status; tree = entries }) }
+fn finish<H: Host>(
+    alloc: Global,
+    host: &mut H,
+    started: Result<Machine, Errno>,
+    budget: u64,
+) -> Result<Finished, RunErr>
+    requires { (entries : List Entry) × HoldsImage (H.view host.old) entries }
+    ensures ok { (entries : List Entry) → HoldsImage (H.view host.old) entries → IfOk result (λ run.
+        run_from entries budget started ≡ record { events = run.events.items; verdict = run.verdict; status = run.status; tree = entries }) }
+    ensures stays { H.view host.new ≡ H.view host.old }
+    ensures cause { HasCause (H.count host.old) (H.count host.new) (IsErrOf result RunErr.Host) }
+    ensures kinds { IsErrOf result RunErr.Sink → ⊥ }
 {
     match started {
         Ok(machine) => {
-            let played = play(alloc, State::new(machine, budget))?;
+            let played = play(alloc, host, State::new(alloc, machine, budget)?)?;
             Ok(Finished {
                 status: played.last.process.phase.status(),
                 events: played.events,

@@ -1,21 +1,28 @@
 // One turn of a run, and turns until a verdict.
-ghost use Rattle.std.specs.Prelude.{◌≡◌, [], Some, IfOk};
+ghost use Rattle.std.specs.Prelude.{◌≡◌, List, [], Some, IfOk, IsErrOf};
+ghost use Rattle.dt_base.specs.declared.image.Entry.{Entry};
+ghost use Rattle.dt_host.specs.Cause.{HasCause};
+ghost use Rattle.dt_run.specs.Installed.{HoldsImage};
 ghost use Rattle.dt_run.specs.Call.{served};
 ghost use Rattle.dt_run.specs.Course.{course, HasCost};
-ghost use Rattle.dt_run.specs.Turn.{turn, billed, settled};
+ghost use Rattle.dt_run.specs.Turn.{turn, billed, settled, first_state};
 
 use crate::call::{Outcome, serve};
-use crate::machine::{Machine, Stop};
+use crate::container::Container;
+use crate::error::RunErr;
 use crate::process::{Phase, Process};
 use dt_base::{Event, NoMemory, Verdict};
+use dt_host::Host;
+use dt_rv64::{Machine, Stop};
 use std::alloc::Global;
 
 /// The first process's virtual pid.
 const FIRST: u32 = 1;
 
-/// A run between two turns: its process, and the budget that is left, in steps.
+/// A run between two turns: the container, its process, and the budget that is left, in steps.
 #[derive(Drop)]
 pub struct State {
+    pub container: Container,
     pub process: Process,
     pub left: u64,
 }
@@ -29,29 +36,38 @@ pub struct Turned {
 
 impl State {
     /// A run that begins.
-    pub fn new(machine: Machine, budget: u64) -> Self
-        ensures { result ≡ record { process = record { machine = machine; phase = Phase.Owes }; left = budget } }
+    pub fn new(alloc: Global, machine: Machine, budget: u64) -> Result<Self, NoMemory>
+        ensures { IfOk result (λ s. s ≡ first_state machine budget) }
     {
-        State {
+        Ok(State {
+            container: Container::new(alloc)?,
             process: Process {
                 machine,
                 phase: Phase::Owes,
             },
             left: budget,
-        }
+        })
     }
 
     /// Takes one turn.
     #[tactic(auto, unfolding(crate::specs::Turn::turn))]
-    pub fn turn(&mut self, alloc: Global) -> Result<Turned, NoMemory>
-        ensures { IfOk result (λ t. turn self.old ≡ record { next = self.new; events = t.events.items; verdict = t.verdict }) }
+    pub fn turn<H: Host>(&mut self, alloc: Global, host: &mut H) -> Result<Turned, RunErr>
+        requires { (entries : List Entry) × HoldsImage (H.view host.old) entries }
+        ensures ok { (entries : List Entry) → HoldsImage (H.view host.old) entries → IfOk result (λ t. turn entries self.old ≡ record { next = self.new; events = t.events.items; verdict = t.verdict }) }
+        ensures stays { H.view host.new ≡ H.view host.old }
+        ensures cause { HasCause (H.count host.old) (H.count host.new) (IsErrOf result RunErr.Host) }
+        ensures kinds { IsErrOf result RunErr.Sink → ⊥ }
     {
         self.process.run_segment()?;
-        self.bill(alloc)
+        self.bill(alloc, host)
     }
 
-    fn bill(&mut self, alloc: Global) -> Result<Turned, NoMemory>
-        ensures { IfOk result (λ t. billed self.old.process self.old.left ≡ record { next = self.new; events = t.events.items; verdict = t.verdict }) }
+    fn bill<H: Host>(&mut self, alloc: Global, host: &mut H) -> Result<Turned, RunErr>
+        requires { (entries : List Entry) × HoldsImage (H.view host.old) entries }
+        ensures ok { (entries : List Entry) → HoldsImage (H.view host.old) entries → IfOk result (λ t. billed entries self.old ≡ record { next = self.new; events = t.events.items; verdict = t.verdict }) }
+        ensures stays { H.view host.new ≡ H.view host.old }
+        ensures cause { HasCause (H.count host.old) (H.count host.new) (IsErrOf result RunErr.Host) }
+        ensures kinds { IsErrOf result RunErr.Sink → ⊥ }
     {
         let cost = self.process.phase.cost();
         if self.left < cost {
@@ -59,16 +75,26 @@ impl State {
         }
         self.left -= cost;
         match self.process.phase {
-            Phase::Ran(seg) => self.settle(alloc, seg.stop),
+            Phase::Ran(seg) => self.settle(alloc, host, seg.stop),
             Phase::Owes | Phase::Zombie(_) => Ok(over(alloc, Verdict::Ended)),
         }
     }
 
     // Serves the stop of the segment that was paid for.
-    fn settle(&mut self, alloc: Global, stop: Stop) -> Result<Turned, NoMemory>
-        ensures { IfOk result (λ t. (let s = served self.old.process.machine stop in settled self.old.process self.old.left s s.outcome) ≡ record { next = self.new; events = t.events.items; verdict = t.verdict }) }
+    fn settle<H: Host>(&mut self, alloc: Global, host: &mut H, stop: Stop) -> Result<Turned, RunErr>
+        requires { (entries : List Entry) × HoldsImage (H.view host.old) entries }
+        ensures ok { (entries : List Entry) → HoldsImage (H.view host.old) entries → IfOk result (λ t. (let r = served entries self.old.container self.old.process.machine stop in settled self.old r r.outcome) ≡ record { next = self.new; events = t.events.items; verdict = t.verdict }) }
+        ensures stays { H.view host.new ≡ H.view host.old }
+        ensures cause { HasCause (H.count host.old) (H.count host.new) (IsErrOf result RunErr.Host) }
+        ensures kinds { IsErrOf result RunErr.Sink → ⊥ }
     {
-        let answer = serve(alloc, &mut self.process.machine, stop)?;
+        let answer = serve(
+            alloc,
+            host,
+            &mut self.container,
+            &mut self.process.machine,
+            stop,
+        )?;
         let mut events = answer.events;
         match answer.outcome {
             Outcome::Done => {
@@ -110,13 +136,17 @@ pub struct Played {
 }
 
 /// Takes turns until a verdict.
-pub fn play(alloc: Global, mut state: State) -> Result<Played, NoMemory>
-    requires { HasCost state.process.phase }
-    ensures { IfOk result (λ p. course state ≡ record { events = p.events.items; verdict = p.verdict; last = p.last }) }
+pub fn play<H: Host>(alloc: Global, host: &mut H, mut state: State) -> Result<Played, RunErr>
+    requires image { (entries : List Entry) × HoldsImage (H.view host.old) entries }
+    requires cost { HasCost state.process.phase }
+    ensures ok { (entries : List Entry) → HoldsImage (H.view host.old) entries → IfOk result (λ p. course entries state ≡ record { events = p.events.items; verdict = p.verdict; last = p.last }) }
+    ensures stays { H.view host.new ≡ H.view host.old }
+    ensures cause { HasCause (H.count host.old) (H.count host.new) (IsErrOf result RunErr.Host) }
+    ensures kinds { IsErrOf result RunErr.Sink → ⊥ }
 {
     let mut events = Vec::new(alloc);
     loop {
-        let mut turned = state.turn(alloc)?;
+        let mut turned = state.turn(alloc, host)?;
         events.append(&mut turned.events)?;
         match turned.verdict {
             None => {}

@@ -1,5 +1,5 @@
-use Rattle.std.proofs.Common.{◌≡◌, ◌≤◌, ◌-◌, ℕ, List, length, take}
-use Rattle.dt_host.specs.World.{World, content}
+use Rattle.std.proofs.Common.{◌≡◌, ◌≤◌, ◌-◌, length, take}
+use Rattle.dt_host.specs.World.{content}
 use Rattle.dt_run.proofs.install.read_file.Given as goal
 
 -- what was read so far is the front of the file, and the host is as it was

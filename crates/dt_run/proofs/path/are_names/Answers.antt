@@ -1,7 +1,7 @@
-use Rattle.std.proofs.Common.{◌≡◌, true, false, List, length, refl, sym, ap, ◌∙◌, arith}
+use Rattle.std.proofs.Common.{sym, ap, ◌∙◌, arith}
 use Rattle.std.specs.List.{list_all}
 use Rattle.std.proofs.lemmas.List.{nil_from_length}
-use Rattle.dt_base.specs.Path.{is_name, pieces_of}
+use Rattle.dt_base.specs.Path.{is_name}
 use Rattle.dt_run.proofs.Pieces.{later, within, all_names, first_fails, first_holds}
 use Rattle.dt_run.proofs.path.are_names.Goals as goal
 

@@ -1,19 +1,29 @@
 use Rattle.std.proofs.Common.{◌≤◌, length, sym, subst}
 use Rattle.std.proofs.lemmas.Result.{on_ok_weaker, on_err_weaker}
 use Rattle.dt_host.specs.World.{IsFile, content}
-use Rattle.dt_memhost.proofs.Forests.{content-forest_of, put_bytes, same_forest}
+use Rattle.dt_memhost.specs.Node.{entries_of}
+use Rattle.dt_memhost.specs.Forest.{Ordered}
+use Rattle.dt_memhost.proofs.Forests.{content-forest_of, put_bytes, same_forest, same_values}
 use Rattle.dt_memhost.proofs.forest.MemForest.write.Goals as goal
 
 pub write-requires : goal.write-requires
 write-requires c =
-    let joined = subst (λ v. c.args.off ≤ length (content v c.args.number)) (sym c.self.view_is) c.requires.joined in
+    let joined = subst (λ (v : Ordered). c.args.off ≤ length (content v.forest c.args.number)) (sym c.self.view_is) c.requires.joined in
     subst (λ bytes. c.args.off ≤ length bytes) (content-forest_of c.self.inside.nodes c.self.inside.root c.args.number) joined
 
 pub returns-clause-ok : goal.returns-clause-ok
 returns-clause-ok c =
-    let is = subst (λ v. IsFile v c.args.number) (sym c.self.view_is) c.requires.file in
-    rw (← c.self.view_is) (on_ok_weaker c.write.result (λ h. put_bytes c.self.inside.nodes c.write.new.nodes c.self.inside.root c.args.number c.write.ensures.others c.args.off c.args.piece.now is h) c.write.ensures.ok)
+    let old = c.self.inside.nodes in
+    let is = subst (λ (v : Ordered). IsFile v.forest c.args.number) (sym c.self.view_is) c.requires.file in
+    let orders = same_values entries_of old c.write.new.nodes c.args.number c.write.ensures.other_orders c.write.ensures.order in
+    rw (← c.self.view_is) (on_ok_weaker c.write.result (λ h.
+    let forest = put_bytes old c.write.new.nodes c.self.inside.root c.args.number c.write.ensures.others c.args.off c.args.piece.now is h in
+    λ i. record { forest = forest i; orders = orders i }) c.write.ensures.ok)
 
 pub returns-clause-err : goal.returns-clause-err
 returns-clause-err c =
-    rw (← c.self.view_is) (on_err_weaker c.write.result (λ h. same_forest c.self.inside.nodes c.write.new.nodes c.self.inside.root c.args.number c.write.ensures.others h) c.write.ensures.err)
+    let old = c.self.inside.nodes in
+    let orders = same_values entries_of old c.write.new.nodes c.args.number c.write.ensures.other_orders c.write.ensures.order in
+    rw (← c.self.view_is) (on_err_weaker c.write.result (λ h.
+    let forest = same_forest old c.write.new.nodes c.self.inside.root c.args.number c.write.ensures.others h in
+    λ i. record { forest = forest i; orders = orders i }) c.write.ensures.err)

@@ -1,9 +1,9 @@
 use Rattle.std.proofs.Common.{◌≡◌, ap, ◌∙◌, ◌+◌, ◌≤◌, ◌/◌, ◌++◌}
 use Rattle.dt_base.specs.declared.limits.TheConstants.{PAGE_SIZE}
 use Rattle.dt_run.specs.declared.elf.TheConstants.{STACK_START}
-use Rattle.dt_run.specs.Pages.{pages_from}
+use Rattle.dt_space.specs.Pages.{pages_from}
 use Rattle.dt_run.proofs.Starts.{pages-below}
-use Rattle.dt_run.proofs.Following.{first-pages-end, first-pages-length}
+use Rattle.dt_space.proofs.Following.{first-pages-end, first-pages-length}
 use Rattle.dt_run.proofs.elf.Segment.load.Goals as goal
 
 -- the segment ends below the stack

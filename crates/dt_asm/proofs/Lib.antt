@@ -1,0 +1,4 @@
+pub mod Accepting
+pub mod Codes
+pub mod Loading
+pub mod Pieces

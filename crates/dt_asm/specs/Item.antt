@@ -1,0 +1,79 @@
+-- A guest as it is built: a list of items, and the size of its memory. Labels stand for places in the code.
+use Rattle.std.specs.Prelude.{ℕ, ◌+◌, ◌==◌, List, [], ◌∷◌, ◌++◌, length, Bool, false, Option, Some, None, unwrap_or, ℤ, pos, ◌-ℤ◌, if◌then◌else◌}
+use Rattle.dt_rv64.specs.declared.instruction.Instr.{Instr}
+use Rattle.dt_rv64.specs.declared.instruction.Instr.TheVariants.{Jal, Beq, Bne, Blt, Bge, Bltu, Bgeu, Unknown}
+use Rattle.dt_asm.specs.declared.item.Item.{Item}
+use Rattle.dt_asm.specs.declared.item.Item.TheVariants.{Code, Branch, Jump, Bytes, Label}
+
+-- what a guest is built of, and the size of its memory, where one was given
+pub record GuestView : Type 0 where
+  pub items : List Item
+  pub memory : Option ℕ
+
+-- a guest with items more
+abbrev pub with_items : GuestView → List Item → GuestView
+with_items guest more = record { items = guest.items ++ more; memory = guest.memory }
+
+-- the bytes that an item takes
+abbrev pub size_of : Item → ℕ
+size_of (Code i) = 4
+size_of (Branch funct3 rs1 rs2 label) = 4
+size_of (Jump label) = 4
+size_of (Bytes bytes) = length bytes
+size_of (Label label) = 0
+
+-- the bytes that items take
+abbrev pub total : List Item → ℕ
+total [] = 0
+total (item ∷ items) = size_of item + total items
+
+-- the item sets a label
+abbrev pub sets : ℕ → Item → Bool
+sets name (Label label) = label == name
+sets name _ = false
+
+-- where the first of some items that sets a label stands, the first item standing at a place
+abbrev pub place_from : ℕ → List Item → ℕ → Option ℕ
+place_from at [] name = None
+place_from at (item ∷ items) name = if sets name item then Some at else place_from (at + size_of item) items name
+
+-- a label's place: the sum of the sizes before it
+abbrev pub place_of : List Item → ℕ → Option ℕ
+place_of items name = place_from 0 items name
+
+-- from a place to a label's
+abbrev pub distance : List Item → ℕ → ℕ → ℤ
+distance items at name = pos (unwrap_or (place_of items name) 0) -ℤ pos at
+
+-- the branch with a funct3
+abbrev pub branch_by : ℕ → ℕ → ℕ → ℤ → Instr
+branch_by funct3 rs1 rs2 offset =
+    if funct3 == 0 then Beq rs1 rs2 offset
+    else if funct3 == 1 then Bne rs1 rs2 offset
+    else if funct3 == 4 then Blt rs1 rs2 offset
+    else if funct3 == 5 then Bge rs1 rs2 offset
+    else if funct3 == 6 then Bltu rs1 rs2 offset
+    else if funct3 == 7 then Bgeu rs1 rs2 offset
+    else Unknown
+
+-- what an item becomes: an instruction or bytes
+pub data Piece : Type 0 where
+  word : Instr → Piece
+  plain : List ℕ → Piece
+
+-- an item at a place among all items, its label resolved
+abbrev pub piece_of : List Item → ℕ → Item → Piece
+piece_of items at (Code i) = word i
+piece_of items at (Branch funct3 rs1 rs2 label) = word (branch_by funct3 rs1 rs2 (distance items at label))
+piece_of items at (Jump label) = word (Jal 0 (distance items at label))
+piece_of items at (Bytes bytes) = plain bytes
+piece_of items at (Label label) = plain []
+
+-- items from a place on, their labels resolved among all items
+abbrev pub pieces_from : List Item → ℕ → List Item → List Piece
+pieces_from items at [] = []
+pieces_from items at (item ∷ rest) = piece_of items at item ∷ pieces_from items (at + size_of item) rest
+
+-- all items, their labels resolved
+abbrev pub pieces_of : List Item → List Piece
+pieces_of items = pieces_from items 0 items

@@ -1,0 +1,18 @@
+//! A small assembler of RV64IM: words of instructions, and guests as ELF files.
+#![tactic(auto)]
+
+mod code;
+mod encoder;
+mod error;
+mod guest;
+mod guests;
+mod headers;
+mod item;
+mod labels;
+mod loads;
+mod shapes;
+
+pub use encoder::encode;
+pub use error::AsmErr;
+pub use guest::Guest;
+pub use guests::{cat1, hello, trio};

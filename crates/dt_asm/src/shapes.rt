@@ -1,0 +1,232 @@
+// The words of each format, from their fields.
+ghost use Rattle.std.specs.Prelude.{◌≡◌, ◌<◌, ◌^◌, ◌/◌, ◌%◌, ◌*◌, ◌&&◌, is_some, IfSome};
+ghost use Rattle.dt_asm.specs.Fits.{is_near as nears, is_upper, is_far as reaches, is_low, is_counter, is_register, fits_r, fits_i, fits_s, fits_b, fits_u, fits_j, fits_shift};
+ghost use Rattle.dt_asm.specs.Shapes.{IsBits, IsR, IsI, IsShift, IsCsr, IsS, IsB, IsU, IsJ};
+
+const REGISTERS: u8 = 32;
+
+// R.
+pub fn register_word(code: u32, minor: u32, upper: u32, rd: u8, rs1: u8, rs2: u8) -> Option<u32>
+    requires code { code < 2 ^ 7 }
+    requires minor { minor < 2 ^ 3 }
+    requires upper { upper < 2 ^ 7 }
+    ensures some { is_some result ≡ fits_r rd rs1 rs2 }
+    ensures word { IfSome result (IsR code minor upper rd rs1 rs2) }
+{
+    if rd < REGISTERS && rs1 < REGISTERS && rs2 < REGISTERS {
+        Some(assembled(code, u32::from(rd), minor, rs1, rs2, upper))
+    } else {
+        None
+    }
+}
+
+// I.
+pub fn immediate_word(code: u32, minor: u32, rd: u8, rs1: u8, imm: i64) -> Option<u32>
+    requires code { code < 2 ^ 7 }
+    requires minor { minor < 2 ^ 3 }
+    ensures some { is_some result ≡ fits_i rd rs1 imm }
+    ensures word { IfSome result (IsI code minor rd rs1 imm) }
+{
+    if rd < REGISTERS && rs1 < REGISTERS {
+        let bits = low_bits(imm)?;
+        Some(code + (u32::from(rd) << 7) + (minor << 12) + (u32::from(rs1) << 15) + (bits << 20))
+    } else {
+        None
+    }
+}
+
+// I with a shift below 64.
+pub fn shift_word(code: u32, minor: u32, upper: u32, rd: u8, rs1: u8, shift: u8) -> Option<u32>
+    requires code { code < 2 ^ 7 }
+    requires minor { minor < 2 ^ 3 }
+    requires upper { upper < 2 ^ 6 }
+    ensures some { is_some result ≡ fits_shift 64 rd rs1 shift }
+    ensures word { IfSome result (IsShift code minor upper rd rs1 shift) }
+{
+    if rd < REGISTERS && rs1 < REGISTERS && shift < 64 {
+        Some(
+            code + (u32::from(rd) << 7)
+                + (minor << 12)
+                + (u32::from(rs1) << 15)
+                + (u32::from(shift) << 20)
+                + (upper << 26),
+        )
+    } else {
+        None
+    }
+}
+
+// I with a counter's number, and no source.
+pub fn counter_word(code: u32, minor: u32, rd: u8, counter: u16) -> Option<u32>
+    requires code { code < 2 ^ 7 }
+    requires minor { minor < 2 ^ 3 }
+    ensures some { is_some result ≡ (is_register rd && is_counter counter) }
+    ensures word { IfSome result (IsCsr code minor rd counter) }
+{
+    if rd < REGISTERS && 0xc00 <= counter && counter <= 0xc02 {
+        Some(code + (u32::from(rd) << 7) + (minor << 12) + (u32::from(counter) << 20))
+    } else {
+        None
+    }
+}
+
+// S.
+pub fn store_word(code: u32, minor: u32, rs1: u8, rs2: u8, imm: i64) -> Option<u32>
+    requires code { code < 2 ^ 7 }
+    requires minor { minor < 2 ^ 3 }
+    ensures some { is_some result ≡ fits_s rs1 rs2 imm }
+    ensures word { IfSome result (IsS code minor rs1 rs2 imm) }
+{
+    if rs1 < REGISTERS && rs2 < REGISTERS {
+        let bits = low_bits(imm)?;
+        Some(assembled(code, bits & 0x1f, minor, rs1, rs2, bits >> 5))
+    } else {
+        None
+    }
+}
+
+// B: bits 4 to 1 and bit 11 stand at the place of rd, bits 12 and 10 to 5 at that of funct7.
+#[tactic(auto, using(crate::proofs::Pieces::near_whole))]
+pub fn branch_word(code: u32, minor: u32, rs1: u8, rs2: u8, imm: i64) -> Option<u32>
+    requires code { code < 2 ^ 7 }
+    requires minor { minor < 2 ^ 3 }
+    ensures some { is_some result ≡ fits_b rs1 rs2 imm }
+    ensures word { IfSome result (IsB code minor rs1 rs2 imm) }
+{
+    if rs1 < REGISTERS && rs2 < REGISTERS {
+        let bits = near_bits(imm)?;
+        let low = near_low(bits);
+        let high = near_high(bits);
+        Some(assembled(code, low, minor, rs1, rs2, high))
+    } else {
+        None
+    }
+}
+
+// Bits 4 to 1 of a B immediate, and bit 11 below them.
+fn near_low(bits: u32) -> u32
+    requires { bits < 2 ^ 13 }
+    ensures few { result < 2 ^ 5 }
+    ensures lowest { result % 2 ≡ bits / 2 ^ 11 % 2 }
+    ensures rest { result / 2 ≡ bits / 2 % 2 ^ 4 }
+{
+    ((bits >> 1 & 0xf) << 1) + (bits >> 11 & 1)
+}
+
+// Bit 12 of a B immediate, and bits 10 to 5 below it.
+fn near_high(bits: u32) -> u32
+    requires { bits < 2 ^ 13 }
+    ensures few { result < 2 ^ 7 }
+    ensures highest { result / 2 ^ 6 ≡ bits / 2 ^ 12 }
+    ensures rest { result % 2 ^ 6 ≡ bits / 2 ^ 5 % 2 ^ 6 }
+{
+    (bits >> 5 & 0x3f) + (bits >> 12 << 6)
+}
+
+// U.
+pub fn upper_word(code: u32, rd: u8, imm: i64) -> Option<u32>
+    requires code { code < 2 ^ 7 }
+    ensures some { is_some result ≡ fits_u rd imm }
+    ensures word { IfSome result (IsU code rd imm) }
+{
+    if rd < REGISTERS {
+        let bits = upper_bits(imm)?;
+        Some(code + (u32::from(rd) << 7) + (bits << 12))
+    } else {
+        None
+    }
+}
+
+// J.
+pub fn jump_word(code: u32, rd: u8, imm: i64) -> Option<u32>
+    requires code { code < 2 ^ 7 }
+    ensures some { is_some result ≡ fits_j rd imm }
+    ensures word { IfSome result (IsJ code rd imm) }
+{
+    if rd < REGISTERS {
+        let bits = far_bits(imm)?;
+        let low = (bits >> 12 & 0xff) + ((bits >> 11 & 1) << 8);
+        let high = (bits >> 1 & 0x3ff) + (bits >> 20 << 10);
+        Some(code + (u32::from(rd) << 7) + (low << 12) + (high << 21))
+    } else {
+        None
+    }
+}
+
+// Whether a B immediate can hold the number.
+pub fn is_near(imm: i64) -> bool
+    ensures { result ≡ nears imm }
+{
+    -4096 <= imm && imm < 4096 && imm % 2 == 0
+}
+
+// Whether a J immediate can hold the number.
+pub fn is_far(imm: i64) -> bool
+    ensures { result ≡ reaches imm }
+{
+    -0x10_0000 <= imm && imm < 0x10_0000 && imm % 2 == 0
+}
+
+// The word of these fields.
+fn assembled(code: u32, rd: u32, minor: u32, rs1: u8, rs2: u8, upper: u32) -> u32
+    requires code { code < 2 ^ 7 }
+    requires minor { minor < 2 ^ 3 }
+    requires upper { upper < 2 ^ 7 }
+    requires rd { rd < 2 ^ 5 }
+    requires rs1 { rs1 < 2 ^ 5 }
+    requires rs2 { rs2 < 2 ^ 5 }
+    ensures { IsR code minor upper rd rs1 rs2 result }
+{
+    let sources = (u32::from(rs1) << 15) + (u32::from(rs2) << 20);
+    code + (rd << 7) + (minor << 12) + sources + (upper << 25)
+}
+
+// The twelve bits of an I or S immediate.
+fn low_bits(imm: i64) -> Option<u32>
+    ensures some { is_some result ≡ is_low imm }
+    ensures bits { IfSome result (IsBits 12 imm) }
+{
+    if -2048 <= imm && imm < 2048 {
+        Some((imm.cast_unsigned() & 0xfff) as u32)
+    } else {
+        None
+    }
+}
+
+// The thirteen bits of a B immediate, the lowest of which is 0.
+fn near_bits(imm: i64) -> Option<u32>
+    ensures some { is_some result ≡ nears imm }
+    ensures bits { IfSome result (λ bits. IsBits 13 imm bits) }
+    ensures even { IfSome result (λ bits. bits % 2 ≡ 0) }
+{
+    if is_near(imm) {
+        Some((imm.cast_unsigned() & 0x1fff) as u32)
+    } else {
+        None
+    }
+}
+
+// The twenty upper bits of a U immediate.
+fn upper_bits(imm: i64) -> Option<u32>
+    ensures some { is_some result ≡ is_upper imm }
+    ensures bits { IfSome result (λ bits. IsBits 32 imm (bits * 2 ^ 12)) }
+{
+    if -0x8000_0000 <= imm && imm < 0x8000_0000 && imm % 4096 == 0 {
+        Some((imm.cast_unsigned() >> 12 & 0xf_ffff) as u32)
+    } else {
+        None
+    }
+}
+
+// The twenty-one bits of a J immediate, the lowest of which is 0.
+fn far_bits(imm: i64) -> Option<u32>
+    ensures some { is_some result ≡ reaches imm }
+    ensures bits { IfSome result (λ bits. IsBits 21 imm bits) }
+    ensures even { IfSome result (λ bits. bits % 2 ≡ 0) }
+{
+    if is_far(imm) {
+        Some((imm.cast_unsigned() & 0x1f_ffff) as u32)
+    } else {
+        None
+    }
+}

@@ -1,0 +1,112 @@
+-- The order that words choose, one entry at a time.
+use Rattle.std.proofs.Common.{◌≡◌, ℕ, suc, ◌+◌, ◌-◌, ◌%◌, ◌<◌, ◌≤◌, List, [], ◌∷◌, ◌++◌, length, map, take, drop, refl, sym, ap, subst, ◌∙◌, arith, append_assoc, length-append, length-drop}
+use Rattle.std.specs.Prelude.{remove}
+use Rattle.std.specs.List.Sorted.{IsPermutation}
+use Rattle.std.proofs.lemmas.List.{take_at, drop_at, drop-drop, length-take-le, take-append-drop, take-map, drop-map, map-append, length-map}
+use Rattle.std.proofs.lemmas.List.Sorted.{IsPermutation-refl, IsPermutation-trans, IsPermutation-append_left, IsPermutation-append_right, IsPermutation-append_comm}
+use Rattle.dt_memhost.specs.Picks.{next_words, after_words}
+use Rattle.dt_memhost.specs.Script.{Script, picked, picked_all, word_of, words_of}
+use Rattle.dt_memhost.specs.Order.{picked_order}
+
+-- the first word, and those after it
+pub words_of-suc : (more : ℕ) (s : Script) → words_of (suc more) s ≡ word_of s ∷ words_of more (picked s)
+unfolding next_words
+words_of-suc more s = refl
+
+pub picked_all-suc : (more : ℕ) (s : Script) → picked_all (suc more) s ≡ picked_all more (picked s)
+unfolding after_words
+picked_all-suc more s = refl
+
+pub words_of-none : (s : Script) (n : ℕ) → n ≡ 0 → words_of n s ≡ []
+unfolding next_words
+words_of-none s n e = ap (λ n. words_of n s) e
+
+pub picked_all-none : (s : Script) (n : ℕ) → n ≡ 0 → picked_all n s ≡ s
+unfolding after_words
+picked_all-none s n e = ap (λ n. picked_all n s) e
+
+pub one_left : (done n : ℕ) → done < n → n - done ≡ suc (n - (done + 1))
+one_left done n h = omega arith
+
+pub all_left : (n : ℕ) → n ≡ n - 0
+all_left n = omega arith
+
+module _ {A : Type 0} where
+  pub picked_order-start : (found : List A) (s : Script) → picked_order (words_of (length found) s) found ≡ take 0 found ++ picked_order (words_of (length found - 0) s) (drop 0 found)
+  picked_order-start found s = ap (λ n. picked_order (words_of n s) found) (all_left (length found))
+
+  picked_order-cons : (word : ℕ) (words : List ℕ) (left : List A) → picked_order (word ∷ words) left ≡ take 1 (drop (word % length left) left) ++ picked_order words (remove left (word % length left))
+  unfolding picked_order
+  picked_order-cons word words left = refl
+
+  picked_order-nil : (left : List A) → picked_order [] left ≡ left
+  unfolding picked_order
+  picked_order-nil left = refl
+
+  -- one entry more in its place
+  pub picked_order-more : (found front left moved : List A) (done at n : ℕ) (s : Script) → n ≡ length found → done < n → front ≡ take done found → left ≡ drop done found → at ≡ word_of s % length left → moved ≡ take 1 (drop at left) ++ remove left at → take done found ++ picked_order (words_of (n - done) s) (drop done found) ≡ take (done + 1) (front ++ moved) ++ picked_order (words_of (n - (done + 1)) (picked s)) (drop (done + 1) (front ++ moved))
+  picked_order-more found front left moved done at n s size here first last chosen goes =
+      let words = words_of (n - (done + 1)) (picked s) in
+      let one = take 1 (drop at left) in
+      let rest = remove left at in
+      let many : length left ≡ n - done = ap length last ∙ omega (arith, length-drop done found) in
+      let within : at < length left = omega arith in
+      let single : length one ≡ 1 = length-take-le 1 (drop at left) (omega (arith, length-drop at left)) in
+      let front_size : length front ≡ done = ap length first ∙ length-take-le done found (omega arith) in
+      let head : length (front ++ one) ≡ done + 1 = omega (arith, length-append front one) in
+      let whole : front ++ moved ≡ (front ++ one) ++ rest = ap (λ xs. front ++ xs) goes ∙ sym (append_assoc front one rest) in
+      let begins : take (done + 1) (front ++ moved) ≡ front ++ one = ap (take (done + 1)) whole ∙ take_at (front ++ one) rest (done + 1) head in
+      let ends : drop (done + 1) (front ++ moved) ≡ rest = ap (drop (done + 1)) whole ∙ drop_at (front ++ one) rest (done + 1) head in
+      let step : picked_order (words_of (n - done) s) left ≡ one ++ picked_order words rest =
+      ap (λ ws. picked_order ws left) (ap (λ m. words_of m s) (one_left done n here) ∙ words_of-suc (n - (done + 1)) s)
+      ∙ picked_order-cons (word_of s) words left
+      ∙ ap (λ k. take 1 (drop k left) ++ picked_order words (remove left k)) (sym chosen) in
+      ap (λ xs. xs ++ picked_order (words_of (n - done) s) (drop done found)) (sym first)
+      ∙ ap (λ xs. front ++ picked_order (words_of (n - done) s) xs) (sym last)
+      ∙ ap (λ xs. front ++ xs) step
+      ∙ sym (append_assoc front one (picked_order words rest))
+      ∙ ap (λ xs. xs ++ picked_order words rest) (sym begins)
+      ∙ ap (λ xs. take (done + 1) (front ++ moved) ++ picked_order words xs) (sym ends)
+
+  -- after the last they stand as they are
+  pub picked_order-end : (found : List A) (done n : ℕ) (s : Script) → n ≤ done → take done found ++ picked_order (words_of (n - done) s) (drop done found) ≡ found
+  picked_order-end found done n s h =
+      ap (λ words. take done found ++ picked_order words (drop done found)) (words_of-none s (n - done) (omega arith))
+      ∙ ap (λ xs. take done found ++ xs) (picked_order-nil (drop done found))
+      ∙ take-append-drop done found
+
+  -- one moved to the front
+  to_front : (left : List A) (at : ℕ) → IsPermutation left (take 1 (drop at left) ++ remove left at)
+  to_front left at =
+      let before = take at left in
+      let one = take 1 (drop at left) in
+      let after = drop 1 (drop at left) in
+      let same : (before ++ one) ++ after ≡ left =
+      append_assoc before one after ∙ ap (λ xs. before ++ xs) (take-append-drop 1 (drop at left)) ∙ take-append-drop at left in
+      let turned : IsPermutation ((before ++ one) ++ after) ((one ++ before) ++ after) = IsPermutation-append_left after (before ++ one) (one ++ before) (IsPermutation-append_comm before one) in
+      let past : (one ++ before) ++ after ≡ one ++ remove left at =
+      append_assoc one before after ∙ ap (λ xs. one ++ (before ++ xs)) (drop-drop 1 at left ∙ ap (λ k. drop k left) (next at)) in
+      subst (λ xs. IsPermutation left xs) past (subst (λ xs. IsPermutation xs ((one ++ before) ++ after)) same turned)
+    where
+      next : (k : ℕ) → k + 1 ≡ suc k
+      next k = omega arith
+
+  -- whatever the words, each entry stays
+  pub IsPermutation-picked_order : (words : List ℕ) (left : List A) → IsPermutation left (picked_order words left)
+  IsPermutation-picked_order [] left = subst (λ xs. IsPermutation left xs) (sym (picked_order-nil left)) (IsPermutation-refl left)
+  IsPermutation-picked_order (word ∷ words) left =
+      let at = word % length left in
+      subst (λ xs. IsPermutation left xs) (sym (picked_order-cons word words left))
+      (IsPermutation-trans _ _ _ (to_front left at) (IsPermutation-append_right (take 1 (drop at left)) (remove left at) _ (IsPermutation-picked_order words (remove left at))))
+
+-- a list that looks otherwise is arranged alike
+pub map-picked_order : {A B : Type 0} (f : A → B) (words : List ℕ) (left : List A) → map f (picked_order words left) ≡ picked_order words (map f left)
+map-picked_order f [] left = ap (map f) (picked_order-nil left) ∙ sym (picked_order-nil (map f left))
+map-picked_order f (word ∷ words) left =
+    let at = word % length left in
+    ap (map f) (picked_order-cons word words left)
+    ∙ map-append f (take 1 (drop at left)) (picked_order words (remove left at))
+    ∙ ap (λ xs. xs ++ map f (picked_order words (remove left at))) (sym (take-map f 1 (drop at left)) ∙ ap (take 1) (sym (drop-map f at left)))
+    ∙ ap (λ xs. take 1 (drop at (map f left)) ++ xs) (map-picked_order f words (remove left at) ∙ ap (picked_order words) (map-append f (take at left) (drop (suc at) left) ∙ ap (λ xs. xs ++ map f (drop (suc at) left)) (sym (take-map f at left)) ∙ ap (λ xs. take at (map f left) ++ xs) (sym (drop-map f (suc at) left))))
+    ∙ ap (λ n. take 1 (drop (word % n) (map f left)) ++ picked_order words (remove (map f left) (word % n))) (sym (length-map left f))
+    ∙ sym (picked_order-cons word words (map f left))

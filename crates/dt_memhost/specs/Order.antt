@@ -1,0 +1,26 @@
+-- The entries of directories in the order of their binding, and the order in which words name them.
+use Rattle.std.specs.Prelude.{ℕ, ◌%◌, List, [], ◌∷◌, ◌++◌, length, take, drop, remove, unwrap_or}
+use Rattle.std.specs.Ordering.{nat_cmp}
+use Rattle.std.specs.FinMap.{FinMap, get, insert}
+
+-- names with the numbers that they stand for, the one bound first in front
+abbrev pub Order : Type 0
+Order = List (List ℕ × ℕ)
+
+-- the order of binding in each node; a file has no entries
+abbrev pub Orders : Type 0
+Orders = FinMap nat_cmp Order
+
+-- the order of binding in the node of that number
+abbrev pub order_at : Orders → ℕ → Order
+order_at orders d = unwrap_or (get orders d) []
+
+-- the orders with one entry more in that node, which goes last
+abbrev pub with_last : Orders → ℕ → List ℕ → ℕ → Orders
+with_last orders d name n = insert orders d (order_at orders d ++ (name, n) ∷ [])
+
+-- of those that are left the one at the word modulo their number, and so on without it
+unfoldable pub picked_order : {A : Type 0} → List ℕ → List A → List A
+picked_order [] left = left
+picked_order (word ∷ words) left =
+    let at = word % length left in take 1 (drop at left) ++ picked_order words (remove left at)

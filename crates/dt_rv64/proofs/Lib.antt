@@ -1,0 +1,5 @@
+pub mod Stays
+pub mod Products
+pub mod Stores
+pub mod Kept
+pub mod Runs

@@ -1,0 +1,10 @@
+pub mod Formats
+pub mod Operations
+pub mod Instruction
+pub mod Words
+pub mod Multiply
+pub mod Effects
+pub mod Machine
+pub mod Segment
+pub mod Valid
+pub mod Classes

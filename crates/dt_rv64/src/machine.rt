@@ -1,0 +1,144 @@
+// The machine: registers, a program counter and a space, and one step of it.
+ghost use Rattle.std.specs.Prelude.{◌≡◌, ◌≢◌};
+ghost use Rattle.dt_rv64.specs.Effects.{register, with_register, wrote, jumped, branched, passed, relative, even, address, answered, counted};
+ghost use Rattle.dt_rv64.specs.Machine.{exec};
+
+use crate::decoder::decode;
+use crate::signal::{SIGBUS, SIGSEGV};
+use dt_space::{Near, Space};
+
+/// What a step came to. Only `Ran` changes the machine.
+#[derive(Clone, Copy, Debug, PartialEq, Eq)]
+pub enum Step {
+    /// The instruction was carried out.
+    Ran,
+    /// A system call is to be served.
+    Call,
+    /// A counter is to be read into this register.
+    Counter(u8),
+    /// A signal of this number.
+    Fault(u8),
+}
+
+/// The state of a process's program. Register 0 reads as 0.
+#[derive(Debug, Drop)]
+pub struct Machine {
+    pub regs: [u64; 32],
+    pub pc: u64,
+    pub space: Space,
+}
+
+impl Machine {
+    /// What a register holds: 0 in register 0, and past the last.
+    pub fn reg(&self, index: u8) -> u64
+        ensures { result ≡ register self.now index }
+    {
+        match index {
+            0 => 0,
+            _ => self.regs.get(usize::from(index)).copied().unwrap_or(0),
+        }
+    }
+
+    // Writes a register, but not register 0.
+    fn set_reg(&mut self, index: u8, value: u64)
+        ensures { self.new ≡ with_register self.old index value }
+    {
+        if 0 < index && index < 32 {
+            self.regs[usize::from(index)] = value;
+        }
+    }
+
+    /// Ends a system call: its answer in register 10 (a0), and on to the next instruction.
+    pub fn answer(&mut self, value: u64)
+        ensures { self.new ≡ answered self.old value }
+    {
+        self.set_reg(10, value);
+        self.pc = self.pc.wrapping_add(4);
+    }
+
+    /// Ends the read of a counter: its value in the register, and on to the next instruction.
+    pub fn read_counter(&mut self, rd: u8, value: u64)
+        ensures { self.new ≡ counted self.old rd value }
+    {
+        self.set_reg(rd, value);
+        self.pc = self.pc.wrapping_add(4);
+    }
+
+    /// Takes one step. At any answer but `Ran` the machine stays.
+    pub fn step(&mut self) -> Step
+        ensures stays { result ≢ Step.Ran → self.new ≡ self.old }
+        ensures stepped { exec self.old ≡ record { step = result; machine = self.new } }
+    {
+        self.step_near(&mut Near::new(), &mut Near::new())
+    }
+
+    /// Takes one step, with hints where code and data stand. No answer depends on them.
+    #[tactic(auto, unfolding(crate::specs::Machine::exec))]
+    pub fn step_near(&mut self, code: &mut Near, data: &mut Near) -> Step
+        ensures stays { result ≢ Step.Ran → self.new ≡ self.old }
+        ensures stepped { exec self.old ≡ record { step = result; machine = self.new } }
+    {
+        if self.pc % 4 != 0 {
+            return Step::Fault(SIGBUS);
+        }
+        match self.space.fetch_near(code, self.pc) {
+            Ok(word) => self.execute(decode(word), data),
+            Err(_) => Step::Fault(SIGSEGV),
+        }
+    }
+
+    // On to the next instruction.
+    pub(crate) fn advance(&mut self) -> Step
+        ensures { passed self.old ≡ record { step = result; machine = self.new } }
+    {
+        self.pc = self.pc.wrapping_add(4);
+        Step::Ran
+    }
+
+    // Writes a register.
+    pub(crate) fn put(&mut self, rd: u8, value: u64) -> Step
+        ensures { wrote self.old rd value ≡ record { step = result; machine = self.new } }
+    {
+        self.set_reg(rd, value);
+        self.pc = self.pc.wrapping_add(4);
+        Step::Ran
+    }
+
+    // Jumps, and keeps the address after the jump.
+    pub(crate) fn jump(&mut self, rd: u8, target: u64) -> Step
+        ensures { jumped self.old rd target ≡ record { step = result; machine = self.new } }
+    {
+        if target % 4 != 0 {
+            return Step::Fault(SIGBUS);
+        }
+        self.set_reg(rd, self.pc.wrapping_add(4));
+        self.pc = target;
+        Step::Ran
+    }
+
+    // Jumps to an offset from what a register held before the jump, with bit 0 cleared.
+    pub(crate) fn jump_register(&mut self, rd: u8, rs1: u8, imm: i64) -> Step
+        ensures { jumped self.old rd (even (address self.old rs1 imm)) ≡ record { step = result; machine = self.new } }
+    {
+        let target = cleared(self.address(rs1, imm));
+        self.jump(rd, target)
+    }
+
+    // Jumps by an offset where the branch is taken.
+    pub(crate) fn branch(&mut self, taken: bool, offset: i64) -> Step
+        ensures { branched self.old taken (relative self.old offset) ≡ record { step = result; machine = self.new } }
+    {
+        if taken {
+            self.jump(0, self.pc.wrapping_add_signed(offset))
+        } else {
+            self.advance()
+        }
+    }
+}
+
+// An address with bit 0 cleared.
+fn cleared(address: u64) -> u64
+    ensures { result ≡ even address }
+{
+    address & !1
+}

@@ -1,0 +1,12 @@
+pub mod Space
+pub mod Piece
+pub mod Place
+pub mod Pages
+pub mod Write
+pub mod Written
+pub mod Text
+pub mod TextLen
+pub mod MapErr
+pub mod Ranges
+pub mod RangeLaws
+pub mod Gap

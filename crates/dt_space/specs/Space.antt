@@ -1,0 +1,60 @@
+-- A process's memory: pages sorted by number, and what an access to a range of addresses finds.
+use Rattle.std.specs.Prelude.{◌≡◌, ℕ, ◌+◌, ◌/◌, ◌%◌, ◌^◌, ◌<◌, ◌≤◌, suc, zero, List, [], ◌∷◌, length, Bool, ◌==◌, bit_and, slice_index_or, slice_get, Option, Some, None, Result, Ok, Err, if◌then◌else◌}
+use Rattle.dt_base.specs.declared.limits.TheConstants.{PAGE_SIZE, PAGE_LIMIT}
+use Rattle.dt_base.specs.Fields.{little_endian}
+use Rattle.dt_space.specs.declared.access.Miss.{Miss}
+
+-- one page
+pub record PageView : Type 0 where
+  pub number : ℕ
+  pub rights : ℕ
+  pub bytes : List ℕ
+
+-- the number of the page at place i
+abbrev pub number_at : List PageView → ℕ → ℕ
+number_at pages i = let page = slice_index_or pages i (record { number = 0; rights = 0; bytes = [] }) in page.number
+
+-- how many bytes the page at place i has
+abbrev pub size_at : List PageView → ℕ → ℕ
+size_at pages i = let page = slice_index_or pages i (record { number = 0; rights = 0; bytes = [] }) in length page.bytes
+
+-- what each space keeps: the numbers rise and are below 2^26, each page is whole, and there are no more pages than the limit
+pub record IsSpace (pages : List PageView) : Type 0 where
+  pub rising : (i j : ℕ) → i < j → j < length pages → number_at pages i < number_at pages j
+  pub low : (i : ℕ) → i < length pages → number_at pages i < 2 ^ 26
+  pub whole : (i : ℕ) → i < length pages → size_at pages i ≡ PAGE_SIZE
+  pub few : length pages ≤ PAGE_LIMIT
+
+-- these rights have this right among them
+abbrev pub has : ℕ → ℕ → Bool
+has rights right = bit_and rights right == right
+
+-- the page of this number
+abbrev pub page_at : List PageView → ℕ → Option PageView
+page_at [] number = None
+page_at (page ∷ pages) number = if page.number == number then Some page else page_at pages number
+
+-- the byte at an offset of a page, where the page is there with the right
+abbrev pub byte_of : ℕ → ℕ → Option PageView → Option ℕ
+byte_of right offset None = None
+byte_of right offset (Some page) = if has page.rights right then slice_get page.bytes offset else None
+
+-- the byte at an address, where it has the right
+abbrev pub byte_at : List PageView → ℕ → ℕ → Option ℕ
+byte_at pages right address = byte_of right (address % PAGE_SIZE) (page_at pages (address / PAGE_SIZE))
+
+-- a byte before those that follow it, or the miss at its address
+abbrev pub low_byte : ℕ → Option ℕ → Result (List ℕ) Miss → Result (List ℕ) Miss
+low_byte address None rest = Err (record { at = address })
+low_byte address (Some byte) (Ok bytes) = Ok (byte ∷ bytes)
+low_byte address (Some byte) (Err miss) = Err miss
+
+-- the bytes from an address on, or the first address without the right; addresses wrap
+unfoldable pub load : List PageView → ℕ → ℕ → ℕ → Result (List ℕ) Miss
+load pages right address zero = Ok []
+load pages right address (suc count) = low_byte address (byte_at pages right address) (load pages right ((address + 1) % 2 ^ 64) count)
+
+-- the number whose bytes were loaded
+abbrev pub loaded : Result (List ℕ) Miss → Result ℕ Miss
+loaded (Ok bytes) = Ok (little_endian bytes)
+loaded (Err miss) = Err miss

@@ -1,0 +1,134 @@
+// Ranges of pages: mapped, unmapped, or given other rights.
+ghost use Rattle.std.specs.Prelude.{◌≡◌, ◌+◌, ◌^◌, ◌≤◌, ◌++◌, length, take, drop, [], None, Some, IfOk, OnOk, OnErr, IfErr, MatchResult};
+ghost use Rattle.dt_space.specs.Pages.{pages_from};
+ghost use Rattle.dt_space.specs.Ranges.{granted, map_refusal, IsMapErr, mapped, unmapped, first_missing, protected};
+ghost use Rattle.dt_space.specs.RangeLaws.{KeepsOthers, HasZeros, HasNone, HasRights};
+ghost use Rattle.dt_space.specs.Gap.{IsLower, IsGap};
+
+use super::Space;
+use crate::access::{READ, WRITE};
+use crate::page::Page;
+use crate::refusal::{MapErr, Unmapped};
+use dt_base::{NoMemory, PAGE_LIMIT};
+use std::alloc::{AllocError, Global};
+
+// How many page numbers there are.
+const PAGE_NUMBERS: u64 = 1 << 26;
+
+impl Space {
+    /// Maps `count` pages of zeros from the number `first` on. `rights` are cut to their lowest three bits, and the
+    /// right to write gives that to read. At a refusal the space stays.
+    pub fn map(&mut self, first: u64, count: u64, rights: u8) -> Result<(), MapErr>
+        ensures ok { OnOk result (map_refusal self.old first count ≡ None) }
+        ensures mapped { OnOk result (self.new ≡ mapped self.old first count rights) }
+        ensures zeros { OnOk result (HasZeros self.new first count rights) }
+        ensures others { OnOk result (KeepsOthers self.old first count self.new) }
+        ensures error { IfErr result (IsMapErr (map_refusal self.old first count)) }
+        ensures kept { OnErr result (self.new ≡ self.old) }
+    {
+        let place = self.gap(first, count)?;
+        let alloc = *self.pages.allocator();
+        let fresh = zeroed(alloc, first, count, granted_of(rights))?;
+        put_in(&mut self.pages, place, fresh)?;
+        Ok(())
+    }
+
+    /// Takes away the pages of a range that are there.
+    pub fn unmap(&mut self, first: u64, count: u64)
+        ensures unmapped { self.new ≡ unmapped self.old first count }
+        ensures none { HasNone self.new first count }
+        ensures others { KeepsOthers self.old first count self.new }
+    {
+        self.pages.retain(|page| !page.lies_in(first, count));
+    }
+
+    /// Gives the pages of a range these rights, cut and completed as those of `map`. Where a page is not there,
+    /// nothing changes.
+    pub fn protect(&mut self, first: u64, count: u64, rights: u8) -> Result<(), Unmapped>
+        ensures whole { MatchResult result (λ _. first_missing self.old first count ≡ None) (λ error. first_missing self.old first count ≡ Some error.page) }
+        ensures ok { OnOk result (self.new ≡ protected self.old first count rights) }
+        ensures rights { OnOk result (HasRights self.old first count rights self.new) }
+        ensures others { OnOk result (KeepsOthers self.old first count self.new) }
+        ensures kept { OnErr result (self.new ≡ self.old) }
+    {
+        self.look_for(first, count)?;
+        let given = granted_of(rights);
+        for place in 0..self.pages.len() {
+            self.pages[place].protect(first, count, given);
+        }
+        Ok(())
+    }
+
+    // Whether each page of a range is there.
+    fn look_for(&self, first: u64, count: u64) -> Result<(), Unmapped>
+        ensures { MatchResult result (λ _. first_missing self.now first count ≡ None) (λ error. first_missing self.now first count ≡ Some error.page) }
+    {
+        for done in 0..count {
+            if self.place(first + done).is_none() {
+                return Err(Unmapped { page: first + done });
+            }
+        }
+        Ok(())
+    }
+
+    // The place where the pages of a range go, or why they can't be mapped.
+    fn gap(&self, first: u64, count: u64) -> Result<usize, MapErr>
+        ensures { MatchResult result (IsGap self.now first count) (λ error. map_refusal self.now first count ≡ Some error) }
+    {
+        if count == 0 || count > PAGE_NUMBERS || first > PAGE_NUMBERS - count {
+            return Err(MapErr::BadRange);
+        }
+        let place = self.lower(first);
+        if place < self.pages.len() && self.pages[place].number < first + count {
+            return Err(MapErr::Busy);
+        }
+        if self.pages.len() as u64 + count > PAGE_LIMIT {
+            return Err(MapErr::Full);
+        }
+        Ok(place)
+    }
+
+    // The place of the first page whose number is not below this one.
+    fn lower(&self, number: u64) -> usize
+        ensures { IsLower self.now number result }
+    {
+        self.pages.partition_point(|page| page.number < number)
+    }
+}
+
+// Pages of zeros.
+fn zeroed(alloc: Global, first: u64, count: u64, rights: u8) -> Result<Vec<Page>, NoMemory>
+    requires { first + count ≤ 2 ^ 26 }
+    ensures { IfOk result (λ pages. pages.items ≡ pages_from first rights [] count) }
+{
+    let mut pages = Vec::new(alloc);
+    for number in first..first + count {
+        pages.push(Page::new(alloc, number, rights, &[])?)?;
+    }
+    Ok(pages)
+}
+
+// Puts pages between those before a place and the others. At want of memory the others stay alone.
+fn put_in(pages: &mut Vec<Page>, place: usize, mut fresh: Vec<Page>) -> Result<(), AllocError>
+    requires { place ≤ length pages.old.items }
+    ensures put { OnOk result (pages.new.items ≡ take place pages.old.items ++ fresh.items ++ drop place pages.old.items) }
+    ensures kept { OnErr result (pages.new.items ≡ pages.old.items) }
+{
+    let count = fresh.len();
+    pages.append(&mut fresh)?;
+    let (_, rest) = pages.split_at_mut(place);
+    rest.rotate_right(count);
+    Ok(())
+}
+
+// The rights that are given for these.
+fn granted_of(rights: u8) -> u8
+    ensures { result ≡ granted rights }
+{
+    let rights = rights & 7;
+    if rights & WRITE == WRITE {
+        rights | READ
+    } else {
+        rights
+    }
+}

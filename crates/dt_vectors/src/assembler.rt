@@ -1,0 +1,438 @@
+// The assembler: words of instructions against the GNU assembler's, files of guests, and what a loaded number is.
+use crate::encodings::WORDS;
+use dt_asm::{AsmErr, Guest, cat1, encode, hello, trio};
+use dt_rv64::{Instr, Machine, Step, decode};
+use dt_space::Space;
+use std::alloc::{AllocError, Global};
+use std::test::Fail;
+
+// Where the code of a guest begins, in memory and in its file.
+const CODE: u64 = 0x1_0000;
+
+const HEADERS: usize = 120;
+
+const HELLO: [u32; 9] = [
+    0x0010_0513,
+    0x0001_05b7,
+    0x09c5_8593,
+    0x0060_0613,
+    0x0400_0893,
+    0x0000_0073,
+    0x0000_0513,
+    0x05d0_0893,
+    0x0000_0073,
+];
+
+const TRIO: [u32; 24] = [
+    0x0110_0513,
+    0x0000_0593,
+    0x0dc0_0893,
+    0x0000_0073,
+    0x0405_0263,
+    0x0110_0513,
+    0x0000_0593,
+    0x0dc0_0893,
+    0x0000_0073,
+    0x0205_0863,
+    0xfff0_0513,
+    0x0000_0593,
+    0x0000_0613,
+    0x0000_0693,
+    0x1040_0893,
+    0x0000_0073,
+    0xfff0_0513,
+    0x0000_0073,
+    0x0000_0513,
+    0x05d0_0893,
+    0x0000_0073,
+    0x0070_0513,
+    0x05d0_0893,
+    0x0000_0073,
+];
+
+const CAT1: [u32; 19] = [
+    0xf9c0_0513,
+    0x0001_05b7,
+    0x0c45_8593,
+    0x0000_0613,
+    0x0000_0693,
+    0x0380_0893,
+    0x0000_0073,
+    0x0001_15b7,
+    0x0000_2637,
+    0x7106_0613,
+    0x03f0_0893,
+    0x0000_0073,
+    0x0005_0613,
+    0x0010_0513,
+    0x0400_0893,
+    0x0000_0073,
+    0x0000_0513,
+    0x05d0_0893,
+    0x0000_0073,
+];
+
+// The file of this code and data, with its headers written out.
+fn listed(alloc: Global, code: &[u32], data: &[u8]) -> Result<Vec<u8>, AllocError> {
+    let mut file = Vec::new(alloc);
+    file.extend_from_slice(&[0x7f, 0x45, 0x4c, 0x46, 2, 1, 1, 0, 0, 0, 0, 0, 0, 0, 0, 0])?;
+    file.extend_from_slice(&[2, 0, 0xf3, 0, 1, 0, 0, 0])?;
+    put_numbers(&mut file, &[0x10078, 64, 0])?;
+    file.extend_from_slice(&[0, 0, 0, 0, 64, 0, 56, 0, 1, 0, 0, 0, 0, 0, 0, 0])?;
+    file.extend_from_slice(&[1, 0, 0, 0, 5, 0, 0, 0])?;
+    let size = (code.len() as u64)
+        .saturating_mul(4)
+        .saturating_add(data.len() as u64)
+        .saturating_add(120);
+    put_numbers(&mut file, &[0, 0x10000, 0x10000, size, size, 4096])?;
+    for word in code {
+        file.extend_from_slice(&word.to_le_bytes())?;
+    }
+    file.extend_from_slice(data)?;
+    Ok(file)
+}
+
+fn put_numbers(file: &mut Vec<u8>, numbers: &[u64]) -> Result<(), AllocError> {
+    for number in numbers {
+        file.extend_from_slice(&number.to_le_bytes())?;
+    }
+    Ok(())
+}
+
+#[test]
+fn each_instruction_at_its_limits_has_its_word(rt: HostRuntime) -> Result<(), Fail> {
+    let mut last = 0;
+    for line in WORDS.lines() {
+        let word = u32::from_str_radix(line.split(' ').next().unwrap_or(""), 16)?;
+        assert_eq!(rt; encode(&decode(word)), Some(word));
+        last = word;
+    }
+    assert_eq!(rt; last, 0xc020_20f3);
+    assert_eq!(rt; encode(&Instr::Fence), Some(0x0000_000f));
+    Ok(())
+}
+
+#[test]
+fn number_of_a_call_in_a_word(rt: HostRuntime) -> Result<(), Fail> {
+    let i = Instr::Addi {
+        rd: 17,
+        rs1: 0,
+        imm: 139,
+    };
+    assert_eq!(rt; encode(&i), Some(0x08b0_0893));
+    assert!(rt;
+        matches!(
+            decode(0x08b0_0893),
+            Instr::Addi {
+                rd: 17,
+                rs1: 0,
+                imm: 139
+            }
+        )
+    );
+    Ok(())
+}
+
+#[test]
+fn a_register_or_a_low_immediate_past_its_limit_has_no_word(rt: HostRuntime) -> Result<(), Fail> {
+    for i in [
+        Instr::Mulhsu {
+            rd: 32,
+            rs1: 0,
+            rs2: 0,
+        },
+        Instr::Mulhsu {
+            rd: 0,
+            rs1: 32,
+            rs2: 0,
+        },
+        Instr::Mulhsu {
+            rd: 0,
+            rs1: 0,
+            rs2: 32,
+        },
+        Instr::Addi {
+            rd: 32,
+            rs1: 0,
+            imm: 0,
+        },
+        Instr::Addi {
+            rd: 0,
+            rs1: 32,
+            imm: 0,
+        },
+        Instr::Addi {
+            rd: 0,
+            rs1: 0,
+            imm: 2048,
+        },
+        Instr::Addi {
+            rd: 0,
+            rs1: 0,
+            imm: -2049,
+        },
+        Instr::Sd {
+            rs1: 32,
+            rs2: 0,
+            imm: 0,
+        },
+        Instr::Sd {
+            rs1: 0,
+            rs2: 32,
+            imm: 0,
+        },
+        Instr::Sd {
+            rs1: 0,
+            rs2: 0,
+            imm: 2048,
+        },
+        Instr::Sd {
+            rs1: 0,
+            rs2: 0,
+            imm: -2049,
+        },
+        Instr::Bgeu {
+            rs1: 32,
+            rs2: 0,
+            imm: 0,
+        },
+        Instr::Bgeu {
+            rs1: 0,
+            rs2: 32,
+            imm: 0,
+        },
+        Instr::Bgeu {
+            rs1: 0,
+            rs2: 0,
+            imm: 4096,
+        },
+        Instr::Bgeu {
+            rs1: 0,
+            rs2: 0,
+            imm: -4098,
+        },
+        Instr::Bgeu {
+            rs1: 0,
+            rs2: 0,
+            imm: 1,
+        },
+    ] {
+        assert_eq!(rt; encode(&i), None);
+    }
+    Ok(())
+}
+
+#[test]
+fn another_field_past_its_limit_has_no_word(rt: HostRuntime) -> Result<(), Fail> {
+    for i in [
+        Instr::Lui { rd: 32, imm: 0 },
+        Instr::Lui {
+            rd: 0,
+            imm: 0x8000_0000,
+        },
+        Instr::Lui {
+            rd: 0,
+            imm: -0x8000_1000,
+        },
+        Instr::Lui { rd: 0, imm: 1 },
+        Instr::Jal { rd: 32, imm: 0 },
+        Instr::Jal {
+            rd: 0,
+            imm: 0x10_0000,
+        },
+        Instr::Jal {
+            rd: 0,
+            imm: -0x10_0002,
+        },
+        Instr::Jal { rd: 0, imm: 1 },
+        Instr::Srai {
+            rd: 32,
+            rs1: 0,
+            shift: 0,
+        },
+        Instr::Srai {
+            rd: 0,
+            rs1: 32,
+            shift: 0,
+        },
+        Instr::Srai {
+            rd: 0,
+            rs1: 0,
+            shift: 64,
+        },
+        Instr::Slliw {
+            rd: 32,
+            rs1: 0,
+            shift: 0,
+        },
+        Instr::Slliw {
+            rd: 0,
+            rs1: 32,
+            shift: 0,
+        },
+        Instr::Slliw {
+            rd: 0,
+            rs1: 0,
+            shift: 32,
+        },
+        Instr::ReadCounter {
+            rd: 32,
+            counter: 0xc00,
+        },
+        Instr::ReadCounter {
+            rd: 0,
+            counter: 0xbff,
+        },
+        Instr::ReadCounter {
+            rd: 0,
+            counter: 0xc03,
+        },
+        Instr::Unknown,
+    ] {
+        assert_eq!(rt; encode(&i), None);
+    }
+    Ok(())
+}
+
+#[test]
+fn files_of_the_guests_by_name(rt: HostRuntime) -> Result<(), Fail> {
+    let alloc = rt.alloc();
+    assert_eq!(rt;
+        hello(alloc)?.elf()?.as_slice(),
+        listed(alloc, &HELLO, b"hello\n")?.as_slice()
+    );
+    assert_eq!(rt;
+        trio(alloc)?.elf()?.as_slice(),
+        listed(alloc, &TRIO, b"")?.as_slice()
+    );
+    let mut expected = listed(alloc, &CAT1, b"/f\0")?;
+    for (at, byte) in [(68, 7), (104, 0), (105, 0x40)] {
+        if let Some(place) = expected.get_mut(at) {
+            *place = byte;
+        }
+    }
+    assert_eq!(rt; cat1(alloc)?.elf()?.as_slice(), expected.as_slice());
+    assert_eq!(rt; expected.len(), 199);
+    Ok(())
+}
+
+#[test]
+fn refusals_in_their_order(rt: HostRuntime) -> Result<(), Fail> {
+    let alloc = rt.alloc();
+    let mut guest = Guest::new(alloc);
+    guest.bytes(&[0; 4090])?;
+    assert_eq!(rt; refused(&guest), None);
+    guest.ins(Instr::Unknown)?;
+    assert_eq!(rt; refused(&guest), Some(4));
+    guest.branch(0, 0, 0, 7)?;
+    assert_eq!(rt; refused(&guest), Some(1));
+    guest.label(7)?;
+    assert_eq!(rt; refused(&guest), Some(4));
+    guest.bytes(&[0; 4094])?;
+    guest.jump(8)?;
+    assert_eq!(rt; refused(&guest), Some(1));
+    guest.label(8)?;
+    guest.branch(0, 0, 0, 7)?;
+    assert_eq!(rt; refused(&guest), Some(3));
+    guest.label(7)?;
+    assert_eq!(rt; refused(&guest), Some(2));
+    guest.branch(0, 0, 0, 9)?;
+    assert_eq!(rt; refused(&guest), Some(1));
+    Ok(())
+}
+
+#[test]
+fn a_branch_reaches_4094_bytes(rt: HostRuntime) -> Result<(), Fail> {
+    let alloc = rt.alloc();
+    for (between, answer) in [(4090, None), (4091, Some(3)), (4092, Some(3))] {
+        let mut guest = Guest::new(alloc);
+        guest.branch(5, 1, 2, 3)?;
+        guest.bytes(&vec![in alloc; 0; between]?)?;
+        guest.label(3)?;
+        assert_eq!(rt; (between, refused(&guest)), (between, answer));
+    }
+    let mut guest = Guest::new(alloc);
+    guest.label(3)?;
+    guest.bytes(&[0; 4096])?;
+    guest.branch(5, 1, 2, 3)?;
+    assert_eq!(rt; refused(&guest), None);
+    guest.jump(3)?;
+    assert_eq!(rt; refused(&guest), None);
+    guest.branch(5, 1, 2, 3)?;
+    assert_eq!(rt; refused(&guest), Some(3));
+    Ok(())
+}
+
+#[test]
+fn fields_of_a_branch_are_looked_at(rt: HostRuntime) -> Result<(), Fail> {
+    for (funct3, rs1, rs2) in [(2, 0, 0), (3, 0, 0), (8, 0, 0), (0, 32, 0), (0, 0, 32)] {
+        let mut guest = Guest::new(rt.alloc());
+        guest.label(0)?;
+        guest.branch(funct3, rs1, rs2, 0)?;
+        assert_eq!(rt; refused(&guest), Some(4));
+    }
+    Ok(())
+}
+
+#[test]
+fn a_file_over_its_limit_is_refused(rt: HostRuntime) -> Result<(), Fail> {
+    let alloc = rt.alloc();
+    let mut guest = Guest::new(alloc);
+    guest.bytes(&vec![in alloc; 0; 16_777_216]?)?;
+    assert_eq!(rt; refused(&guest), Some(6));
+    let mut guest = Guest::new(alloc);
+    guest.bytes(&vec![in alloc; 0; 16_777_096]?)?;
+    assert_eq!(rt; guest.elf()?.len(), 16_777_216);
+    Ok(())
+}
+
+#[test]
+fn a_loaded_number_is_in_its_register(rt: HostRuntime) -> Result<(), Fail> {
+    let alloc = rt.alloc();
+    for (number, steps) in [
+        (0, 1),
+        (2047, 1),
+        (2048, 2),
+        (-2048, 1),
+        (-2049, 2),
+        (0x7fff_ffff, 2),
+        (-0x8000_0000, 2),
+        (0x7fff_f800, 2),
+        (0x7fff_f7ff, 2),
+        (-0x8000_0001, 4),
+        (0x8000_0000, 4),
+        (0x1234_5678_9abc_def0, 8),
+        (i64::MIN, 8),
+        (i64::MAX, 8),
+    ] {
+        let mut guest = Guest::new(alloc);
+        guest.li(31, number)?;
+        guest.ins(Instr::Ecall)?;
+        let file = guest.elf()?;
+        let mut machine = started(alloc, file.get(HEADERS..).unwrap_or(&[]))?;
+        let mut ran = 0;
+        for step in 1..10 {
+            if machine.step() != Step::Ran {
+                break;
+            }
+            ran = step;
+        }
+        assert_eq!(rt; (number, machine.reg(31)), (number, number.cast_unsigned()));
+        assert_eq!(rt; (number, ran), (number, steps));
+    }
+    Ok(())
+}
+
+// The number of a guest's refusal.
+fn refused(guest: &Guest) -> Option<u8> {
+    guest.elf().err().map(AsmErr::number)
+}
+
+// A machine at the first instruction of this code.
+fn started(alloc: Global, code: &[u8]) -> Result<Machine, Fail> {
+    Ok(Machine {
+        regs: [0; 32],
+        pc: CODE,
+        space: Space::new(alloc).with_pages(alloc, 16, 4, 5, code)?,
+    })
+}

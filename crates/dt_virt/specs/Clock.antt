@@ -1,0 +1,7 @@
+-- Logical time: a count of nanoseconds that stops at its limit.
+use Rattle.std.specs.Prelude.{ℕ, ◌+◌, min}
+use Rattle.dt_virt.specs.declared.clock.TheConstants.{TICK_LIMIT}
+
+-- the ticks after some nanoseconds more, the limit where they would pass it
+abbrev pub later : ℕ → ℕ → ℕ
+later ticks more = min (ticks + more) TICK_LIMIT
