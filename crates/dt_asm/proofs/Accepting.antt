@@ -1,6 +1,6 @@
 -- The file of a guest is one that a reader of executables accepts.
 use Rattle.std.proofs.Common.{◌≡◌, ◌≤◌, ◌<◌, ◌^◌, ℕ, ◌+◌, true, cond, Option, Some, None, List, ◌++◌, length, take, drop, max, sym, ap, subst, ◌∙◌, arith}
-use Rattle.std.specs.Prelude.{nat_le, IfSome}
+use Rattle.std.specs.Prelude.{nat_le, IfSome, IsSomeAnd}
 use Rattle.std.proofs.lemmas.List.{take-append-drop}
 use Rattle.std.proofs.lemmas.Bool.Decides.{nat_tests}
 use Rattle.dt_base.specs.declared.limits.TheConstants.{FILE_LIMIT}
@@ -43,7 +43,7 @@ module _ (flags filesz memsz : ℕ) (file back : List ℕ) (e : file ≡ (file_h
     p_offset = field 8 72 (omega arith);
     p_vaddr = field 8 80 (omega arith);
     p_filesz = field 8 96 (omega arith) ∙ ap Some (number_of filesz few ∙ sym size);
-    p_memsz = subst (λ o. IfSome o (IsRoom (length file))) (sym memory_is) (subst (λ n. IsRoom n memsz) (sym size) room);
+    p_memsz = subst (λ o. IsSomeAnd o (IsRoom (length file))) (sym memory_is) (subst (λ n. IsRoom n memsz) (sym size) room);
   }
 
 -- a file of few bytes is accepted, whatever its guest's memory

@@ -1,5 +1,5 @@
 -- A file that a reader of executables accepts, by its fields (ELF-64 object file format, "ELF Header" and "Program Header"; RISC-V ELF psABI for the machine's number): one loaded segment, which is the whole file.
-use Rattle.std.specs.Prelude.{◌≡◌, ◌≤◌, ◌+◌, ℕ, List, [], ◌∷◌, length, take, drop, Some, IfSome}
+use Rattle.std.specs.Prelude.{◌≡◌, ◌≤◌, ◌+◌, ℕ, List, [], ◌∷◌, length, take, drop, Some, IsSomeAnd}
 use Rattle.dt_base.specs.Fields.{field_at}
 
 -- a size of memory: the file fits into it, and it ends in the range of images from 0x10000 on
@@ -21,4 +21,4 @@ pub record IsAccepted (file : List ℕ) : Type 0 where
   pub p_offset : field_at 8 file 72 ≡ Some 0
   pub p_vaddr : field_at 8 file 80 ≡ Some 0x10000
   pub p_filesz : field_at 8 file 96 ≡ Some (length file)
-  pub p_memsz : IfSome (field_at 8 file 104) (IsRoom (length file))
+  pub p_memsz : IsSomeAnd (field_at 8 file 104) (IsRoom (length file))

@@ -9,7 +9,7 @@ use Rattle.dt_asm.specs.Header.{file_header, program_header}
 use Rattle.dt_asm.specs.Code.{Spells}
 use Rattle.dt_asm.specs.Refusal.{refusal_of}
 
--- the bytes of a guest's file
+-- how many bytes a guest's file has
 abbrev pub file_size : List Item → ℕ
 file_size items = HEADERS_SIZE + total items
 

@@ -13,22 +13,23 @@ is_multiple step number = unsigned_abs number % step == 0
 
 -- the ranges of the fields
 
+-- the number of a register
 abbrev pub is_register : ℕ → Bool
 is_register number = nat_lt number 32
 
--- I and S
+-- an immediate of I or S
 abbrev pub is_low : ℤ → Bool
 is_low immediate = is_signed 12 immediate
 
--- B
+-- an immediate of B
 abbrev pub is_near : ℤ → Bool
 is_near immediate = is_signed 13 immediate && is_multiple 2 immediate
 
--- U
+-- an immediate of U
 abbrev pub is_upper : ℤ → Bool
 is_upper immediate = is_signed 32 immediate && is_multiple 4096 immediate
 
--- J
+-- an immediate of J
 abbrev pub is_far : ℤ → Bool
 is_far immediate = is_signed 21 immediate && is_multiple 2 immediate
 
@@ -38,21 +39,27 @@ is_counter number = nat_le 0xC00 number && nat_le number 0xC02
 
 -- the fields of a format
 
+-- R
 abbrev pub fits_r : ℕ → ℕ → ℕ → Bool
 fits_r rd rs1 rs2 = is_register rd && is_register rs1 && is_register rs2
 
+-- I
 abbrev pub fits_i : ℕ → ℕ → ℤ → Bool
 fits_i rd rs1 immediate = is_register rd && is_register rs1 && is_low immediate
 
+-- S
 abbrev pub fits_s : ℕ → ℕ → ℤ → Bool
 fits_s rs1 rs2 immediate = is_register rs1 && is_register rs2 && is_low immediate
 
+-- B
 abbrev pub fits_b : ℕ → ℕ → ℤ → Bool
 fits_b rs1 rs2 immediate = is_register rs1 && is_register rs2 && is_near immediate
 
+-- U
 abbrev pub fits_u : ℕ → ℤ → Bool
 fits_u rd immediate = is_register rd && is_upper immediate
 
+-- J
 abbrev pub fits_j : ℕ → ℤ → Bool
 fits_j rd immediate = is_register rd && is_far immediate
 

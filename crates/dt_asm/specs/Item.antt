@@ -14,7 +14,7 @@ pub record GuestView : Type 0 where
 abbrev pub with_items : GuestView → List Item → GuestView
 with_items guest more = record { items = guest.items ++ more; memory = guest.memory }
 
--- the bytes that an item takes
+-- how many bytes an item takes
 abbrev pub size_of : Item → ℕ
 size_of (Code i) = 4
 size_of (Branch funct3 rs1 rs2 label) = 4
@@ -22,7 +22,7 @@ size_of (Jump label) = 4
 size_of (Bytes bytes) = length bytes
 size_of (Label label) = 0
 
--- the bytes that items take
+-- how many bytes items take
 abbrev pub total : List Item → ℕ
 total [] = 0
 total (item ∷ items) = size_of item + total items

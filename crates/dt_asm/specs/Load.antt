@@ -34,6 +34,6 @@ loading_parts (suc parts) register number =
     else if is_signed 32 number then loading_word register number
     else loading_parts parts register (upper_part number) ++ moving_up register (extended 12 number)
 
--- a number of 64 bits has at most four parts
+-- the instructions that load a number; one of 64 bits has at most four parts
 abbrev pub loading : ℕ → ℤ → List Instr
 loading register number = loading_parts 4 register number

@@ -13,7 +13,7 @@ use crate::labels::distance;
 use dt_rv64::Instr;
 use std::alloc::Global;
 
-// The bytes of the items.
+/// The bytes of the items in order, with their labels resolved; `BadField` where no word holds one of the instructions.
 pub fn code_of(alloc: Global, items: &[Item]) -> Result<Vec<u8>, AsmErr>
     requires { total items.now < 2 ^ 63 }
     ensures spelled { IfOk result (λ code. Spells (pieces_of items.now) code.items) }

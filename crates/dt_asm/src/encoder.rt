@@ -3,47 +3,16 @@ ghost use Rattle.std.specs.Prelude.{◌≡◌, ◌&&◌, is_some, IfSome, Some};
 ghost use Rattle.dt_rv64.specs.declared.instruction.Instr.TheVariants.{Fence};
 ghost use Rattle.dt_rv64.specs.Instruction.{instr};
 ghost use Rattle.dt_asm.specs.Fits.{fits};
-ghost use Rattle.dt_asm.specs.Classes.{is_jump, is_branch, is_load, is_store, is_op_imm, is_op, is_op_multiply, is_op_imm_32, is_op_32, is_op_32_multiply, is_system};
+ghost use Rattle.dt_asm.specs.Classes.{is_computational, is_computational_32};
 
-use crate::shapes::{
-    branch_word, counter_word, immediate_word, jump_word, register_word, shift_word, store_word,
-    upper_word,
+use crate::classes::{
+    branch, fence_or_system, load, op, op_32, op_32_multiply, op_immediate, op_immediate_32,
+    op_multiply, store, upper_or_jump,
 };
 use dt_rv64::Instr;
 
-// The opcodes (RISC-V unprivileged specification, "RV32/64G Instruction Set Listings").
-const LOAD: u32 = 0x03;
-
-const OP_IMM: u32 = 0x13;
-
-const AUIPC: u32 = 0x17;
-
-const OP_IMM_32: u32 = 0x1b;
-
-const STORE: u32 = 0x23;
-
-const OP: u32 = 0x33;
-
-const LUI: u32 = 0x37;
-
-const OP_32: u32 = 0x3b;
-
-const BRANCH: u32 = 0x63;
-
-const JALR: u32 = 0x67;
-
-const JAL: u32 = 0x6f;
-
-const SYSTEM: u32 = 0x73;
-
-// The words without fields.
-const FENCE: u32 = 0x0000_000f;
-
-const ECALL: u32 = 0x0000_0073;
-
-const EBREAK: u32 = 0x0010_0073;
-
-/// The word of an instruction, for FENCE that without other fields; None exactly where a field is out of its range, or the instruction is `Unknown`.
+/// The word of an instruction, for FENCE that without other fields; `None` exactly where a field is out of its range, or the
+/// instruction is `Unknown`.
 pub fn encode(i: &Instr) -> Option<u32>
     ensures round { IfSome result (λ word. instr word ≡ i.now) }
     ensures some { is_some result ≡ fits i.now }
@@ -66,6 +35,21 @@ pub fn encode(i: &Instr) -> Option<u32>
         | Instr::Lhu { .. }
         | Instr::Lwu { .. } => load(i),
         Instr::Sb { .. } | Instr::Sh { .. } | Instr::Sw { .. } | Instr::Sd { .. } => store(i),
+        Instr::Fence | Instr::Ecall | Instr::Ebreak | Instr::ReadCounter { .. } => fence_or_system(
+            i,
+        ),
+        Instr::Unknown => None,
+        _ => computational(i),
+    }
+}
+
+// The word of an instruction that computes a register from registers or an immediate (RISC-V unprivileged specification, "Integer
+// Computational Instructions", and M).
+fn computational(i: &Instr) -> Option<u32>
+    ensures round { IfSome result (λ word. instr word ≡ i.now) }
+    ensures some { is_some result ≡ (is_computational i.now && fits i.now) }
+{
+    match i {
         Instr::Addi { .. }
         | Instr::Slti { .. }
         | Instr::Sltiu { .. }
@@ -93,6 +77,16 @@ pub fn encode(i: &Instr) -> Option<u32>
         | Instr::Divu { .. }
         | Instr::Rem { .. }
         | Instr::Remu { .. } => op_multiply(i),
+        _ => computational_32(i),
+    }
+}
+
+// Of those, one that computes 32 bits and sign-extends them.
+fn computational_32(i: &Instr) -> Option<u32>
+    ensures round { IfSome result (λ word. instr word ≡ i.now) }
+    ensures some { is_some result ≡ (is_computational_32 i.now && fits i.now) }
+{
+    match i {
         Instr::Addiw { .. } | Instr::Slliw { .. } | Instr::Srliw { .. } | Instr::Sraiw { .. } =>
             op_immediate_32(i),
         Instr::Addw { .. }
@@ -105,195 +99,6 @@ pub fn encode(i: &Instr) -> Option<u32>
         | Instr::Divuw { .. }
         | Instr::Remw { .. }
         | Instr::Remuw { .. } => op_32_multiply(i),
-        Instr::Fence | Instr::Ecall | Instr::Ebreak | Instr::ReadCounter { .. } => system(i),
-        Instr::Unknown => None,
-    }
-}
-
-// LUI, AUIPC, JAL and JALR.
-#[tactic(auto, unfolding(dt_rv64::specs::Instruction::instr))]
-fn upper_or_jump(i: &Instr) -> Option<u32>
-    ensures round { IfSome result (λ word. instr word ≡ i.now) }
-    ensures some { is_some result ≡ (is_jump i.now && fits i.now) }
-{
-    match *i {
-        Instr::Lui { rd, imm } => upper_word(LUI, rd, imm),
-        Instr::Auipc { rd, imm } => upper_word(AUIPC, rd, imm),
-        Instr::Jal { rd, imm } => jump_word(JAL, rd, imm),
-        Instr::Jalr { rd, rs1, imm } => immediate_word(JALR, 0, rd, rs1, imm),
-        _ => None,
-    }
-}
-
-// BRANCH.
-#[tactic(auto, unfolding(dt_rv64::specs::Instruction::instr))]
-fn branch(i: &Instr) -> Option<u32>
-    ensures round { IfSome result (λ word. instr word ≡ i.now) }
-    ensures some { is_some result ≡ (is_branch i.now && fits i.now) }
-{
-    match *i {
-        Instr::Beq { rs1, rs2, imm } => branch_word(BRANCH, 0, rs1, rs2, imm),
-        Instr::Bne { rs1, rs2, imm } => branch_word(BRANCH, 1, rs1, rs2, imm),
-        Instr::Blt { rs1, rs2, imm } => branch_word(BRANCH, 4, rs1, rs2, imm),
-        Instr::Bge { rs1, rs2, imm } => branch_word(BRANCH, 5, rs1, rs2, imm),
-        Instr::Bltu { rs1, rs2, imm } => branch_word(BRANCH, 6, rs1, rs2, imm),
-        Instr::Bgeu { rs1, rs2, imm } => branch_word(BRANCH, 7, rs1, rs2, imm),
-        _ => None,
-    }
-}
-
-// LOAD.
-#[tactic(auto, unfolding(dt_rv64::specs::Instruction::instr))]
-fn load(i: &Instr) -> Option<u32>
-    ensures round { IfSome result (λ word. instr word ≡ i.now) }
-    ensures some { is_some result ≡ (is_load i.now && fits i.now) }
-{
-    match *i {
-        Instr::Lb { rd, rs1, imm } => immediate_word(LOAD, 0, rd, rs1, imm),
-        Instr::Lh { rd, rs1, imm } => immediate_word(LOAD, 1, rd, rs1, imm),
-        Instr::Lw { rd, rs1, imm } => immediate_word(LOAD, 2, rd, rs1, imm),
-        Instr::Ld { rd, rs1, imm } => immediate_word(LOAD, 3, rd, rs1, imm),
-        Instr::Lbu { rd, rs1, imm } => immediate_word(LOAD, 4, rd, rs1, imm),
-        Instr::Lhu { rd, rs1, imm } => immediate_word(LOAD, 5, rd, rs1, imm),
-        Instr::Lwu { rd, rs1, imm } => immediate_word(LOAD, 6, rd, rs1, imm),
-        _ => None,
-    }
-}
-
-// STORE.
-#[tactic(auto, unfolding(dt_rv64::specs::Instruction::instr))]
-fn store(i: &Instr) -> Option<u32>
-    ensures round { IfSome result (λ word. instr word ≡ i.now) }
-    ensures some { is_some result ≡ (is_store i.now && fits i.now) }
-{
-    match *i {
-        Instr::Sb { rs1, rs2, imm } => store_word(STORE, 0, rs1, rs2, imm),
-        Instr::Sh { rs1, rs2, imm } => store_word(STORE, 1, rs1, rs2, imm),
-        Instr::Sw { rs1, rs2, imm } => store_word(STORE, 2, rs1, rs2, imm),
-        Instr::Sd { rs1, rs2, imm } => store_word(STORE, 3, rs1, rs2, imm),
-        _ => None,
-    }
-}
-
-// OP-IMM.
-#[tactic(auto, unfolding(dt_rv64::specs::Instruction::instr))]
-fn op_immediate(i: &Instr) -> Option<u32>
-    ensures round { IfSome result (λ word. instr word ≡ i.now) }
-    ensures some { is_some result ≡ (is_op_imm i.now && fits i.now) }
-{
-    match *i {
-        Instr::Addi { rd, rs1, imm } => immediate_word(OP_IMM, 0, rd, rs1, imm),
-        Instr::Slti { rd, rs1, imm } => immediate_word(OP_IMM, 2, rd, rs1, imm),
-        Instr::Sltiu { rd, rs1, imm } => immediate_word(OP_IMM, 3, rd, rs1, imm),
-        Instr::Xori { rd, rs1, imm } => immediate_word(OP_IMM, 4, rd, rs1, imm),
-        Instr::Ori { rd, rs1, imm } => immediate_word(OP_IMM, 6, rd, rs1, imm),
-        Instr::Andi { rd, rs1, imm } => immediate_word(OP_IMM, 7, rd, rs1, imm),
-        Instr::Slli { rd, rs1, shift } => shift_word(OP_IMM, 1, 0, rd, rs1, shift),
-        Instr::Srli { rd, rs1, shift } => shift_word(OP_IMM, 5, 0, rd, rs1, shift),
-        Instr::Srai { rd, rs1, shift } => shift_word(OP_IMM, 5, 0x10, rd, rs1, shift),
-        _ => None,
-    }
-}
-
-// OP without its multiplications.
-#[tactic(auto, unfolding(dt_rv64::specs::Instruction::instr))]
-fn op(i: &Instr) -> Option<u32>
-    ensures round { IfSome result (λ word. instr word ≡ i.now) }
-    ensures some { is_some result ≡ (is_op i.now && fits i.now) }
-{
-    match *i {
-        Instr::Add { rd, rs1, rs2 } => register_word(OP, 0, 0, rd, rs1, rs2),
-        Instr::Sll { rd, rs1, rs2 } => register_word(OP, 1, 0, rd, rs1, rs2),
-        Instr::Slt { rd, rs1, rs2 } => register_word(OP, 2, 0, rd, rs1, rs2),
-        Instr::Sltu { rd, rs1, rs2 } => register_word(OP, 3, 0, rd, rs1, rs2),
-        Instr::Xor { rd, rs1, rs2 } => register_word(OP, 4, 0, rd, rs1, rs2),
-        Instr::Srl { rd, rs1, rs2 } => register_word(OP, 5, 0, rd, rs1, rs2),
-        Instr::Or { rd, rs1, rs2 } => register_word(OP, 6, 0, rd, rs1, rs2),
-        Instr::And { rd, rs1, rs2 } => register_word(OP, 7, 0, rd, rs1, rs2),
-        Instr::Sub { rd, rs1, rs2 } => register_word(OP, 0, 0x20, rd, rs1, rs2),
-        Instr::Sra { rd, rs1, rs2 } => register_word(OP, 5, 0x20, rd, rs1, rs2),
-        _ => None,
-    }
-}
-
-// OP with funct7 1.
-#[tactic(auto, unfolding(dt_rv64::specs::Instruction::instr))]
-fn op_multiply(i: &Instr) -> Option<u32>
-    ensures round { IfSome result (λ word. instr word ≡ i.now) }
-    ensures some { is_some result ≡ (is_op_multiply i.now && fits i.now) }
-{
-    match *i {
-        Instr::Mul { rd, rs1, rs2 } => register_word(OP, 0, 1, rd, rs1, rs2),
-        Instr::Mulh { rd, rs1, rs2 } => register_word(OP, 1, 1, rd, rs1, rs2),
-        Instr::Mulhsu { rd, rs1, rs2 } => register_word(OP, 2, 1, rd, rs1, rs2),
-        Instr::Mulhu { rd, rs1, rs2 } => register_word(OP, 3, 1, rd, rs1, rs2),
-        Instr::Div { rd, rs1, rs2 } => register_word(OP, 4, 1, rd, rs1, rs2),
-        Instr::Divu { rd, rs1, rs2 } => register_word(OP, 5, 1, rd, rs1, rs2),
-        Instr::Rem { rd, rs1, rs2 } => register_word(OP, 6, 1, rd, rs1, rs2),
-        Instr::Remu { rd, rs1, rs2 } => register_word(OP, 7, 1, rd, rs1, rs2),
-        _ => None,
-    }
-}
-
-// OP-IMM-32.
-#[tactic(auto, unfolding(dt_rv64::specs::Instruction::instr))]
-fn op_immediate_32(i: &Instr) -> Option<u32>
-    ensures round { IfSome result (λ word. instr word ≡ i.now) }
-    ensures some { is_some result ≡ (is_op_imm_32 i.now && fits i.now) }
-{
-    match *i {
-        Instr::Addiw { rd, rs1, imm } => immediate_word(OP_IMM_32, 0, rd, rs1, imm),
-        Instr::Slliw { rd, rs1, shift } => register_word(OP_IMM_32, 1, 0, rd, rs1, shift),
-        Instr::Srliw { rd, rs1, shift } => register_word(OP_IMM_32, 5, 0, rd, rs1, shift),
-        Instr::Sraiw { rd, rs1, shift } => register_word(OP_IMM_32, 5, 0x20, rd, rs1, shift),
-        _ => None,
-    }
-}
-
-// OP-32 without its multiplications.
-#[tactic(auto, unfolding(dt_rv64::specs::Instruction::instr))]
-fn op_32(i: &Instr) -> Option<u32>
-    ensures round { IfSome result (λ word. instr word ≡ i.now) }
-    ensures some { is_some result ≡ (is_op_32 i.now && fits i.now) }
-{
-    match *i {
-        Instr::Addw { rd, rs1, rs2 } => register_word(OP_32, 0, 0, rd, rs1, rs2),
-        Instr::Sllw { rd, rs1, rs2 } => register_word(OP_32, 1, 0, rd, rs1, rs2),
-        Instr::Srlw { rd, rs1, rs2 } => register_word(OP_32, 5, 0, rd, rs1, rs2),
-        Instr::Subw { rd, rs1, rs2 } => register_word(OP_32, 0, 0x20, rd, rs1, rs2),
-        Instr::Sraw { rd, rs1, rs2 } => register_word(OP_32, 5, 0x20, rd, rs1, rs2),
-        _ => None,
-    }
-}
-
-// OP-32 with funct7 1.
-#[tactic(auto, unfolding(dt_rv64::specs::Instruction::instr))]
-fn op_32_multiply(i: &Instr) -> Option<u32>
-    ensures round { IfSome result (λ word. instr word ≡ i.now) }
-    ensures some { is_some result ≡ (is_op_32_multiply i.now && fits i.now) }
-{
-    match *i {
-        Instr::Mulw { rd, rs1, rs2 } => register_word(OP_32, 0, 1, rd, rs1, rs2),
-        Instr::Divw { rd, rs1, rs2 } => register_word(OP_32, 4, 1, rd, rs1, rs2),
-        Instr::Divuw { rd, rs1, rs2 } => register_word(OP_32, 5, 1, rd, rs1, rs2),
-        Instr::Remw { rd, rs1, rs2 } => register_word(OP_32, 6, 1, rd, rs1, rs2),
-        Instr::Remuw { rd, rs1, rs2 } => register_word(OP_32, 7, 1, rd, rs1, rs2),
-        _ => None,
-    }
-}
-
-// FENCE and SYSTEM.
-#[tactic(auto, unfolding(dt_rv64::specs::Instruction::instr))]
-fn system(i: &Instr) -> Option<u32>
-    ensures round { IfSome result (λ word. instr word ≡ i.now) }
-    ensures some { is_some result ≡ (is_system i.now && fits i.now) }
-    ensures bare { i.now ≡ Fence → result ≡ Some 0x0000000F }
-{
-    match *i {
-        Instr::Fence => Some(FENCE),
-        Instr::Ecall => Some(ECALL),
-        Instr::Ebreak => Some(EBREAK),
-        Instr::ReadCounter { rd, counter } => counter_word(SYSTEM, 2, rd, counter),
         _ => None,
     }
 }

@@ -26,7 +26,7 @@ pub enum Item {
 }
 
 impl Item {
-    // The bytes that it takes.
+    /// How many bytes it takes: 4 for an instruction, none for a label.
     pub fn size(&self) -> u64
         ensures { result ≡ size_of self.now }
     {

@@ -7,7 +7,7 @@ ghost use Rattle.dt_asm.specs.Refusal.{is_lost as loses, is_set_in, is_set_twice
 use crate::item::Item;
 use crate::shapes::{is_far, is_near};
 
-// Whether an item uses a label that is not set.
+/// Whether an item uses a label that none of the items sets.
 pub fn any_lost(items: &[Item]) -> bool
     requires { total items.now < 2 ^ 63 }
     ensures { result ≡ list_any (loses items.now) items.now }
@@ -15,7 +15,7 @@ pub fn any_lost(items: &[Item]) -> bool
     items.iter().any(|item| is_lost(items, item))
 }
 
-// Whether two items set one label.
+/// Whether two items set one label.
 pub fn is_set_twice(items: &[Item]) -> bool
     requires { total items.now < 2 ^ 63 }
     ensures { result ≡ sets_twice items.now }
@@ -30,7 +30,8 @@ pub fn is_set_twice(items: &[Item]) -> bool
     false
 }
 
-// Whether the label of an item lies outside the range of its form.
+/// Whether the label of an item lies outside the range of its form: -4,096 to 4,094 bytes from a branch, -1,048,576 to 1,048,574
+/// from a jump, and an even number of them.
 pub fn any_out_of_reach(items: &[Item]) -> bool
     requires { total items.now < 2 ^ 63 }
     ensures { result ≡ any_beyond items.now 0 items.now }
@@ -45,7 +46,7 @@ pub fn any_out_of_reach(items: &[Item]) -> bool
     false
 }
 
-// From a place to that of a label.
+/// The bytes from a place to that of a label, both counted from the first item on; a label that is not set is taken to stand at 0.
 pub fn distance(items: &[Item], at: u64, label: u32) -> i64
     requires small { total items.now < 2 ^ 63 }
     requires inside { at < 2 ^ 63 }

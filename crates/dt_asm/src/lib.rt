@@ -1,6 +1,7 @@
 //! A small assembler of RV64IM: words of instructions, and guests as ELF files.
 #![tactic(auto)]
 
+mod classes;
 mod code;
 mod encoder;
 mod error;

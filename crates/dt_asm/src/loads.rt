@@ -9,7 +9,7 @@ use crate::item::Item;
 use dt_base::NoMemory;
 use dt_rv64::Instr;
 
-// Adds the instructions that load a number into a register.
+/// Adds the instructions that load a number into a register, one to eight of them. Where memory runs out, some may have been added.
 pub fn add_loading(items: &mut Vec<Item>, register: u8, number: i64) -> Result<(), NoMemory>
     ensures { OnOk result (items.new.items ≡ items.old.items ++ map Code (loading register number)) }
 {

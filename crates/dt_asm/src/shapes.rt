@@ -1,11 +1,12 @@
-// The words of each format, from their fields.
+// The words of each format, from their fields (RISC-V unprivileged specification, "Base Instruction Formats" and "Immediate
+// Encoding Variants"). `code` is the opcode, `minor` funct3, `upper` funct7 or funct6.
 ghost use Rattle.std.specs.Prelude.{◌≡◌, ◌<◌, ◌^◌, ◌/◌, ◌%◌, ◌*◌, ◌&&◌, is_some, IfSome};
 ghost use Rattle.dt_asm.specs.Fits.{is_near as nears, is_upper, is_far as reaches, is_low, is_counter, is_register, fits_r, fits_i, fits_s, fits_b, fits_u, fits_j, fits_shift};
 ghost use Rattle.dt_asm.specs.Shapes.{IsBits, IsR, IsI, IsShift, IsCsr, IsS, IsB, IsU, IsJ};
 
 const REGISTERS: u8 = 32;
 
-// R.
+/// The word in R format of three registers; `None` exactly where one is over 31.
 pub fn register_word(code: u32, minor: u32, upper: u32, rd: u8, rs1: u8, rs2: u8) -> Option<u32>
     requires code { code < 2 ^ 7 }
     requires minor { minor < 2 ^ 3 }
@@ -20,7 +21,8 @@ pub fn register_word(code: u32, minor: u32, upper: u32, rd: u8, rs1: u8, rs2: u8
     }
 }
 
-// I.
+/// The word in I format of two registers and an immediate; `None` exactly where a register is over 31, or the immediate is no
+/// signed number of 12 bits.
 pub fn immediate_word(code: u32, minor: u32, rd: u8, rs1: u8, imm: i64) -> Option<u32>
     requires code { code < 2 ^ 7 }
     requires minor { minor < 2 ^ 3 }
@@ -35,7 +37,8 @@ pub fn immediate_word(code: u32, minor: u32, rd: u8, rs1: u8, imm: i64) -> Optio
     }
 }
 
-// I with a shift below 64.
+/// The word in I format of two registers and a shift of six bits, below funct6; `None` exactly where a register is over 31, or the
+/// shift over 63.
 pub fn shift_word(code: u32, minor: u32, upper: u32, rd: u8, rs1: u8, shift: u8) -> Option<u32>
     requires code { code < 2 ^ 7 }
     requires minor { minor < 2 ^ 3 }
@@ -56,7 +59,8 @@ pub fn shift_word(code: u32, minor: u32, upper: u32, rd: u8, rs1: u8, shift: u8)
     }
 }
 
-// I with a counter's number, and no source.
+/// The word in I format of a register and the number of a counter, with x0 as its source; `None` exactly where the register is over
+/// 31, or the number is not 0xC00, 0xC01 or 0xC02.
 pub fn counter_word(code: u32, minor: u32, rd: u8, counter: u16) -> Option<u32>
     requires code { code < 2 ^ 7 }
     requires minor { minor < 2 ^ 3 }
@@ -70,7 +74,8 @@ pub fn counter_word(code: u32, minor: u32, rd: u8, counter: u16) -> Option<u32>
     }
 }
 
-// S.
+/// The word in S format of two registers and an immediate; `None` exactly where a register is over 31, or the immediate is no
+/// signed number of 12 bits.
 pub fn store_word(code: u32, minor: u32, rs1: u8, rs2: u8, imm: i64) -> Option<u32>
     requires code { code < 2 ^ 7 }
     requires minor { minor < 2 ^ 3 }
@@ -85,7 +90,10 @@ pub fn store_word(code: u32, minor: u32, rs1: u8, rs2: u8, imm: i64) -> Option<u
     }
 }
 
-// B: bits 4 to 1 and bit 11 stand at the place of rd, bits 12 and 10 to 5 at that of funct7.
+/// The word in B format of two registers and an offset in bytes; `None` exactly where a register is over 31, or the offset is no
+/// even signed number of 13 bits.
+///
+/// Bits 4 to 1 and bit 11 stand at the place of rd, bits 12 and 10 to 5 at that of funct7.
 #[tactic(auto, using(crate::proofs::Pieces::near_whole))]
 pub fn branch_word(code: u32, minor: u32, rs1: u8, rs2: u8, imm: i64) -> Option<u32>
     requires code { code < 2 ^ 7 }
@@ -123,7 +131,8 @@ fn near_high(bits: u32) -> u32
     (bits >> 5 & 0x3f) + (bits >> 12 << 6)
 }
 
-// U.
+/// The word in U format of a register and an immediate; `None` exactly where the register is over 31, or the immediate is no signed
+/// number of 32 bits whose low 12 are 0.
 pub fn upper_word(code: u32, rd: u8, imm: i64) -> Option<u32>
     requires code { code < 2 ^ 7 }
     ensures some { is_some result ≡ fits_u rd imm }
@@ -137,7 +146,8 @@ pub fn upper_word(code: u32, rd: u8, imm: i64) -> Option<u32>
     }
 }
 
-// J.
+/// The word in J format of a register and an offset in bytes; `None` exactly where the register is over 31, or the offset is no
+/// even signed number of 21 bits.
 pub fn jump_word(code: u32, rd: u8, imm: i64) -> Option<u32>
     requires code { code < 2 ^ 7 }
     ensures some { is_some result ≡ fits_j rd imm }
@@ -153,14 +163,14 @@ pub fn jump_word(code: u32, rd: u8, imm: i64) -> Option<u32>
     }
 }
 
-// Whether a B immediate can hold the number.
+/// Whether a B immediate can hold the number: even, and -4,096 to 4,094.
 pub fn is_near(imm: i64) -> bool
     ensures { result ≡ nears imm }
 {
     -4096 <= imm && imm < 4096 && imm % 2 == 0
 }
 
-// Whether a J immediate can hold the number.
+/// Whether a J immediate can hold the number: even, and -1,048,576 to 1,048,574.
 pub fn is_far(imm: i64) -> bool
     ensures { result ≡ reaches imm }
 {

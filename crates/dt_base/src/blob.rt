@@ -83,7 +83,7 @@ impl PartialOrd for Blob {
     }
 }
 
-/// Blobs are in the order of their bytes, the first that differ first.
+/// Blobs are ordered lexicographically by their bytes, as slices are.
 impl Ord for Blob {
     ghost cmp = { slice_cmp nat_cmp };
 

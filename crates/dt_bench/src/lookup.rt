@@ -1,5 +1,6 @@
 // The time of one page lookup.
-ghost use Rattle.std.specs.Prelude.{◌≡◌, ◌<◌, ◌^◌, [], IfSome};
+ghost use Rattle.std.specs.Prelude.{◌≡◌, ◌<◌, ◌≤◌, ◌*◌, ◌^◌, [], IfSome, is_ok};
+ghost use Rattle.dt_space.specs.Space.{load};
 ghost use Rattle.dt_space.specs.Ranges.{mapped};
 
 use crate::short;
@@ -38,7 +39,9 @@ fn full(alloc: Global) -> Option<Space>
 }
 
 // How many of the lookups find their page.
-fn found(space: &Space) -> usize {
+fn found(space: &Space) -> usize
+    ensures { result ≤ LOOKUPS }
+{
     (0..LOOKUPS)
         .filter(|lookup| is_there(space, *lookup * STRIDE % PAGE_LIMIT))
         .count()
@@ -47,6 +50,7 @@ fn found(space: &Space) -> usize {
 // Whether a load from this page finds it.
 fn is_there(space: &Space, page: u64) -> bool
     requires { page < 2 ^ 26 }
+    ensures { result ≡ is_ok (load space.now READ (page * PAGE_SIZE) 8) }
 {
     space.load8(page * PAGE_SIZE).is_ok()
 }

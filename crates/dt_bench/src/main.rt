@@ -1,6 +1,8 @@
 //! Measures the machine's speed on a loop of 50 million instructions, and the time of a page lookup.
 #![tactic(auto)]
 
+ghost use Rattle.std.specs.Prelude.{◌≡◌, None, Some, MatchResult};
+
 mod guest;
 mod lookup;
 mod speed;
@@ -28,7 +30,9 @@ fn measure(rt: &HostRuntime) -> io::Result<()> {
 }
 
 // What memory that is short comes to.
-fn short<T>(made: Option<T>) -> io::Result<T> {
+fn short<T>(made: Option<T>) -> io::Result<T>
+    ensures { MatchResult result (λ value. made ≡ Some value) (λ _. made ≡ None) }
+{
     match made {
         Some(made) => Ok(made),
         None => Err(io::Error::from(ErrorKind::OutOfMemory)),

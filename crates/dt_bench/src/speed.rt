@@ -1,4 +1,6 @@
 // The machine's speed.
+ghost use Rattle.std.specs.Prelude.{◌≤◌, ◌*◌, IfSome};
+ghost use Rattle.dt_base.specs.declared.limits.TheConstants.{SEGMENT_LIMIT};
 
 use crate::guest::{INSTRUCTIONS, SUM, machine};
 use crate::short;
@@ -26,7 +28,9 @@ pub fn print(rt: &HostRuntime, pages: u64) -> io::Result<()> {
 }
 
 // Runs the guest to its end, and says how many steps it took.
-fn run(machine: &mut Machine) -> Option<u64> {
+fn run(machine: &mut Machine) -> Option<u64>
+    ensures { IfSome result (λ steps. steps ≤ SEGMENTS * SEGMENT_LIMIT) }
+{
     let mut steps = 0;
     for _ in 0..SEGMENTS {
         let made = segment(machine).ok()?;

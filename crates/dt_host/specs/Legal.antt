@@ -1,4 +1,5 @@
--- Which answers of a host are legal: for each call a relation of the world before it, what was asked, the answer, and the world after it.
+-- The legal answers of a host, as relations between the world before a call, what was asked, the answer, and the world after it.
+-- Those of the calls without a relation here stand as clauses at the trait.
 use Rattle.std.specs.Prelude.{◌≡◌, ℕ, ◌-◌, ◌^◌, ◌<◌, ◌≤◌, min, List, [], ◌++◌, length, take, drop, None, Result, MatchResult}
 use Rattle.dt_host.specs.declared.entry.HostEntry.{HostEntry}
 use Rattle.dt_host.specs.declared.kind.NodeKind.{NodeKind}

@@ -1,12 +1,15 @@
 -- What is accepted by its fields is an executable.
 use Rattle.std.proofs.Common.{◌≡◌, ◌≤◌, ℕ, true, false, ◌<◌, List, [], ◌∷◌, length, take, drop, Some, None, nat_le, refl, ap, subst, arith}
-use Rattle.std.specs.Prelude.{IfSome, IsOk, nat_eq, unwrap_or}
+use Rattle.std.specs.Prelude.{IsSomeAnd, IsOk, IfOk, Result, Ok, Err, nat_eq, unwrap_or}
 use Rattle.std.specs.List.{starts_with, list_any}
 use Rattle.std.proofs.lemmas.Bool.Decides.{nat_tests}
 use Rattle.dt_base.specs.Fields.{field_at, little_endian}
+use Rattle.dt_asm.specs.declared.error.AsmErr.{AsmErr}
+use Rattle.dt_asm.specs.Item.{GuestView}
+use Rattle.dt_asm.specs.File.{IsFileOf}
 use Rattle.dt_asm.specs.Accepted.{IsAccepted, IsRoom}
-use Rattle.dt_run.specs.declared.elf.TheConstants.{MAGIC, CLASS}
-use Rattle.dt_run.specs.Executable.{exe, number, e_phoff, e_phnum, e_phentsize, e_entry, e_type, e_machine, headers_from, program_header, program_headers, header_refusal, is_short, is_bad_header, is_load, is_interp, is_placed, only_segment, segment_at}
+use Rattle.dt_elf.specs.declared.elf.TheConstants.{MAGIC, CLASS}
+use Rattle.dt_elf.specs.Executable.{exe, number, e_phoff, e_phnum, e_phentsize, e_entry, e_type, e_machine, headers_from, program_header, program_headers, header_refusal, is_short, is_bad_header, is_load, is_interp, is_placed, only_segment, segment_at}
 
 field : (k : ℕ) (file : List ℕ) (at n : ℕ) → field_at k file at ≡ Some n → number k file at ≡ n
 field k file at n is = ap (λ found. unwrap_or found 0) is
@@ -92,4 +95,9 @@ module _ (file : List ℕ) (long : 120 ≤ length file) (is : IsAccepted file) w
   accepted-runs =
       let there : nat_le 112 (length file) ≡ true = grind (arith, nat_tests) in
       let some : field_at 8 file 104 ≡ Some (little_endian (take 8 (drop 104 file))) = rw there refl in
-      is_executable _ some (subst (λ memory. IfSome memory (IsRoom (length file))) some is.p_memsz)
+      is_executable _ some (subst (λ memory. IsSomeAnd memory (IsRoom (length file))) some is.p_memsz)
+
+-- so is what a call answers of which both are known
+pub accepted-file : {V : Type 0} (bytes : V → List ℕ) (guest : GuestView) (result : Result V AsmErr) → IfOk result (λ v. IsFileOf guest (bytes v)) → IfOk result (λ v. IsAccepted (bytes v)) → IfOk result (λ v. IsOk (exe (bytes v)))
+accepted-file bytes guest (Ok v) file accepted = accepted-runs (bytes v) (omega (arith, file.size)) accepted
+accepted-file bytes guest (Err error) file accepted = tt

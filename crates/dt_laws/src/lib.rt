@@ -1,15 +1,17 @@
 //! Laws between crates: what one says of a thing, the other says too.
 #![tactic(auto)]
 
-ghost use Rattle.std.specs.Prelude.{IfOk, IsOk};
-ghost use Rattle.dt_run.specs.Executable.{exe};
+ghost use Rattle.std.specs.Prelude.{IfErr, IfOk, IsOk};
+ghost use Rattle.dt_asm.specs.File.{IsFileOf, Refuses};
+ghost use Rattle.dt_elf.specs.Executable.{exe};
 
 use dt_asm::{AsmErr, Guest};
 
 /// The file of a guest, which the loader of executables accepts.
 pub fn executable(guest: &Guest) -> Result<Vec<u8>, AsmErr>
-    ensures { IfOk result (λ file. IsOk (exe file.items)) }
+    ensures file { IfOk result (λ file. IsFileOf guest.now file.items) }
+    ensures executable { IfOk result (λ file. IsOk (exe file.items)) }
+    ensures refused { IfErr result (Refuses guest.now.items) }
 {
-    let file = guest.elf()?;
-    Ok(file)
+    guest.elf()
 }

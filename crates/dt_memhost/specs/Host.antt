@@ -1,15 +1,15 @@
 -- A host in memory, and how it answers: a call that is listed fails and is counted, and any other chooses by words.
 use Rattle.std.specs.Prelude.{◌≡◌, ℕ, ◌-◌, ◌%◌, min, ◌==◌, List, [], ◌++◌, length, take, drop, map, Option, Vec, Ok, Err, Result, MatchBool, MatchResult, if◌then◌else◌}
 use Rattle.dt_host.specs.declared.kind.NodeKind.{NodeKind}
-use Rattle.std.specs.FinMap.{insert}
+use Rattle.std.specs.FinMap.{empty, insert}
 use Rattle.dt_host.specs.declared.entry.HostEntry.{HostEntry}
 use Rattle.dt_host.specs.declared.raw.RawStat.{RawStat}
 use Rattle.dt_host.specs.declared.error.HostErr.{HostErr}
 use Rattle.dt_host.specs.declared.error.HostErr.TheVariants.{Failed, NoMemory}
-use Rattle.dt_host.specs.World.{World, with_forest, with_node, with_entry, entry, content}
+use Rattle.dt_host.specs.World.{World, empty_world, with_forest, with_node, with_entry, entry, content}
 use Rattle.dt_host.specs.Legal.{new_node, named, written}
-use Rattle.dt_memhost.specs.Picks.{length_by}
-use Rattle.dt_memhost.specs.Script.{Script, fails_next, counted, failed, picked, picked_all, restarted, word_of, words_of}
+use Rattle.dt_memhost.specs.Picks.{Picks, length_by}
+use Rattle.dt_memhost.specs.Script.{Script, script_of, fails_next, counted, failed, picked, picked_all, restarted, word_of, words_of}
 use Rattle.dt_memhost.specs.Order.{Orders, order_at, with_last, picked_order}
 use Rattle.dt_memhost.specs.Number.{Numbers}
 
@@ -18,6 +18,10 @@ pub record HostState : Type 0 where
   pub view : World
   pub orders : Orders
   pub script : Script
+
+-- a host before any call: a root without entries, whose number is 1, the words and the calls that fail
+abbrev pub empty_host : Picks → List ℕ → HostState
+empty_host picks fails = record { view = empty_world 1; orders = insert empty 1 []; script = script_of picks fails }
 
 -- a call that fails is counted, and changes nothing else
 pub record Fails {A : Type 0} (old : HostState) (result : Result A HostErr) (new : HostState) : Type 0 where
@@ -37,6 +41,11 @@ pub record Tells {A : Type 0} (old : HostState) (answer : A) (result : Result A 
 -- a call fails where it is listed, and else answers as said
 abbrev pub UnlessListed : {A : Type 0} → HostState → Result A HostErr → HostState → Type 0 → Type 0
 UnlessListed old result new said = MatchBool (fails_next old.script) (Fails old result new) said
+
+-- a call that fills a buffer fails where it is listed, and leaves the buffer, and else answers as said
+abbrev pub FillsUnlessListed : {A : Type 0} → HostState → List ℕ → List ℕ → Result A HostErr → HostState → Type 0 → Type 0
+FillsUnlessListed old before after result new said =
+    MatchBool (fails_next old.script) (Fails old result new × (after ≡ before)) said
 
 -- how a host in memory answers `root`
 abbrev pub RootsBy : HostState → Result ℕ HostErr → HostState → Type 0
@@ -134,7 +143,7 @@ pub record Fills {A : Type 0} (old : HostState) (before after : List ℕ) (answe
 -- how it answers `random`
 abbrev pub FillsBy : {A : Type 0} → HostState → List ℕ → List ℕ → A → Result A HostErr → HostState → Type 0
 FillsBy old before after answer result new =
-    UnlessListed old result new (Fills old before after answer result new)
+    FillsUnlessListed old before after result new (Fills old before after answer result new)
 
 -- the greatest length of a read
 abbrev pub most_read : List ℕ → ℕ → List ℕ → ℕ
@@ -161,7 +170,7 @@ pub record ReadsCount (old : HostState) (n off : ℕ) (before after : List ℕ) 
 -- how it answers `read_at`
 abbrev pub ReadsBy : HostState → ℕ → ℕ → List ℕ → List ℕ → Result ℕ HostErr → HostState → Type 0
 ReadsBy old n off before after result new =
-    UnlessListed old result new (ReadsCount old n off before after result new)
+    FillsUnlessListed old before after result new (ReadsCount old n off before after result new)
 
 -- so much is written as a word chooses
 pub record WritesCount (old : HostState) (n off : ℕ) (bytes : List ℕ) (new : HostState) (count : ℕ) : Type 0 where

@@ -1,15 +1,19 @@
 -- A sink in memory, and how it answers.
-use Rattle.std.specs.Prelude.{◌≡◌, ℕ, ◌-◌, ◌||◌, min, Bool, false, List, ◌++◌, length, take, Option, None, Some, Err, Result, MatchBool, MatchResult, nat_le}
+use Rattle.std.specs.Prelude.{◌≡◌, ℕ, ◌-◌, ◌||◌, min, Bool, false, List, [], ◌++◌, length, take, Option, None, Some, Err, Result, MatchBool, MatchResult, nat_le}
 use Rattle.dt_host.specs.declared.error.SinkErr.{SinkErr}
 use Rattle.dt_host.specs.declared.error.SinkErr.TheVariants.{Failed, NoMemory}
-use Rattle.dt_memhost.specs.Picks.{length_by}
-use Rattle.dt_memhost.specs.Script.{Script, fails_next, counted, failed, picked, word_of}
+use Rattle.dt_memhost.specs.Picks.{Picks, length_by}
+use Rattle.dt_memhost.specs.Script.{Script, script_of, fails_next, counted, failed, picked, word_of}
 
 -- the bytes so far, how many may stand if that is limited, and the script
 pub record SinkState : Type 0 where
   pub bytes : List ℕ
   pub room : Option ℕ
   pub script : Script
+
+-- a sink before any call: no bytes, their room, the words and the calls that fail
+abbrev pub empty_sink : Picks → List ℕ → Option ℕ → SinkState
+empty_sink picks fails room = record { bytes = []; room = room; script = script_of picks fails }
 
 -- no more bytes have room
 abbrev pub is_full : Option ℕ → ℕ → Bool

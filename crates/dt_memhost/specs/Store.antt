@@ -1,11 +1,12 @@
 -- A store in memory, and how it answers.
 use Rattle.std.specs.Prelude.{◌≡◌, ℕ, List, ◌++◌, length, take, drop, Option, Ok, Err, Result, MatchBool, String, Vec, string_bytes, vec_items}
+use Rattle.std.specs.FinMap.{empty}
 use Rattle.dt_host.specs.Entries.{map_of}
 use Rattle.dt_host.specs.Store.{Files, bytes_of, size_of}
 use Rattle.dt_host.specs.declared.error.StoreErr.{StoreErr}
 use Rattle.dt_host.specs.declared.error.StoreErr.TheVariants.{Failed}
-use Rattle.dt_memhost.specs.Picks.{length_by}
-use Rattle.dt_memhost.specs.Script.{Script, fails_next, counted, failed, picked, word_of}
+use Rattle.dt_memhost.specs.Picks.{Picks, length_by}
+use Rattle.dt_memhost.specs.Script.{Script, script_of, fails_next, counted, failed, picked, word_of}
 
 -- the files of a list of names and bytes
 abbrev pub files_of : {Y Z : Type 0} → List (String Y × Vec ℕ Z) → Files
@@ -15,6 +16,10 @@ files_of entries = map_of string_bytes vec_items entries
 pub record StoreState : Type 0 where
   pub files : Files
   pub script : Script
+
+-- a store before any call: no files, the words and the calls that fail
+abbrev pub empty_store : Picks → List ℕ → StoreState
+empty_store picks fails = record { files = empty; script = script_of picks fails }
 
 -- a call that fails is counted, and changes nothing else
 pub record FailsAtStore {A : Type 0} (old : StoreState) (result : Result A StoreErr) (new : StoreState) : Type 0 where
@@ -38,7 +43,7 @@ pub record ReadsSome (old : StoreState) (name : List ℕ) (off : ℕ) (before af
       after ≡ take count (drop off (bytes_of old.files name)) ++ drop count before
   pub counts : new ≡ record old { script = picked (counted old.script) }
 
--- how a store in memory answers a read
+-- how a store in memory answers a read; one that fails leaves the buffer too
 abbrev pub ReadsBy : StoreState → List ℕ → ℕ → List ℕ → List ℕ → Result ℕ StoreErr → StoreState → Type 0
 ReadsBy old name off before after result new =
-    MatchBool (fails_next old.script) (FailsAtStore old result new) (ReadsSome old name off before after result new)
+    MatchBool (fails_next old.script) (FailsAtStore old result new × (after ≡ before)) (ReadsSome old name off before after result new)

@@ -26,6 +26,7 @@ impl Model for Entries {
 }
 
 impl Entries {
+    /// No entries.
     pub(crate) fn new(alloc: Global) -> Entries
         ensures { result ≡ [] }
     {
@@ -34,14 +35,14 @@ impl Entries {
         }
     }
 
-    // The number under a name.
+    /// The number under a name.
     pub(crate) fn find(&self, name: &[u8]) -> Option<u64>
         ensures { result ≡ get (names_of self.now) name.now }
     {
         self.names.get(name).copied()
     }
 
-    // A copy of the entries, in the order of their binding.
+    /// A copy of the entries, in the order of their binding.
     pub(crate) fn list(&self, alloc: Global) -> Result<Vec<HostEntry>, NoMemory>
         ensures order { IfOk result (λ found. map named found.items ≡ self.now) }
         ensures each { IfOk result
@@ -55,7 +56,7 @@ impl Entries {
         Ok(found)
     }
 
-    // Adds an entry whose name isn't there. It goes last.
+    /// Adds an entry whose name isn't there. It goes last.
     pub(crate) fn bind(&mut self, name: Vec<u8>, number: u64) -> Result<(), NoMemory>
         requires { get (names_of self.old) name.items ≡ None }
         ensures ok { OnOk result (self.new ≡ self.old ++ (name.items, number) ∷ []) }

@@ -41,7 +41,7 @@ impl Model for MemForest {
 }
 
 impl MemForest {
-    // Nothing but a root without entries.
+    /// Nothing but a root without entries.
     pub(crate) fn new(alloc: Global) -> Result<MemForest, NoMemory>
         ensures { IfOk result (λ f. f ≡ empty_ordered 1) }
     {
@@ -54,14 +54,14 @@ impl MemForest {
         })
     }
 
-    // The number of the root.
+    /// The number of the root.
     pub(crate) fn root(&self) -> u64
         ensures { result ≡ self.now.forest.root }
     {
         self.root
     }
 
-    // The bytes of the file of that number.
+    /// The bytes of the file of that number.
     pub(crate) fn bytes_at(&self, number: u64) -> Option<&Vec<u8>>
         ensures file { option_map vec_items (option_copied result) ≡ file_at self.now.forest number }
         ensures bytes { IfSome result (λ bytes. content self.now.forest number ≡ bytes.now.items) }
@@ -69,14 +69,14 @@ impl MemForest {
         nodes::bytes_at(&self.nodes, number)
     }
 
-    // The number that a directory has under a name.
+    /// The number that a directory has under a name.
     pub(crate) fn find(&self, dir: u64, name: &[u8]) -> Option<u64>
         ensures { result ≡ entry self.now.forest dir name.now }
     {
         nodes::find(&self.nodes, dir, name)
     }
 
-    // The size of the file of that number, and 0 where there is no file.
+    /// The size of the file of that number, and 0 where there is no file.
     pub(crate) fn size(&self, number: u64) -> u64
         ensures { result ≡ length (content self.now.forest number) }
     {
@@ -86,7 +86,7 @@ impl MemForest {
         }
     }
 
-    // A copy of the entries of a directory, in the order of their binding.
+    /// A copy of the entries of a directory, in the order of their binding.
     pub(crate) fn list(&self, dir: u64) -> Result<Vec<HostEntry>, NoMemory>
         requires { IsDir self.now.forest dir }
         ensures order { IfOk result
@@ -98,7 +98,7 @@ impl MemForest {
         nodes::list(&self.nodes, dir, self.alloc)
     }
 
-    // The number of a new node, by a word.
+    /// The number of a new node, by a word.
     pub(crate) fn number_by(&self, word: u32) -> u64
         ensures chosen { Numbers self.now.forest.nodes word result }
         ensures positive { 1 ≤ result }
@@ -107,7 +107,7 @@ impl MemForest {
         number::number_by(&self.nodes, word)
     }
 
-    // Puts a new node under a number.
+    /// Puts a new node under a number.
     pub(crate) fn make(&mut self, number: u64, kind: NodeKind) -> Result<(), NoMemory>
         ensures ok { OnOk result (self.new ≡ made self.old number kind) }
         ensures err { OnErr result (self.new ≡ self.old) }
@@ -117,7 +117,7 @@ impl MemForest {
         Ok(())
     }
 
-    // Adds an entry to a directory, whose name isn't there.
+    /// Adds an entry to a directory, whose name isn't there.
     pub(crate) fn bind(&mut self, dir: u64, name: &[u8], number: u64) -> Result<(), NoMemory>
         requires directory { IsDir self.old.forest dir }
         requires unnamed { entry self.old.forest dir name.now ≡ None }
@@ -128,7 +128,7 @@ impl MemForest {
         nodes::bind(&mut self.nodes, dir, name, number)
     }
 
-    // Writes over a file from a place in it on.
+    /// Writes over a file from a place in it on.
     pub(crate) fn write(&mut self, number: u64, off: usize, piece: &[u8]) -> Result<(), NoMemory>
         requires file { IsFile self.old.forest number }
         requires joined { off ≤ length (content self.old.forest number) }

@@ -1,12 +1,10 @@
-ghost use Rattle.std.specs.Prelude.{◌≡◌, ◌+◌, ◌<◌, ◌≤◌, None, length, map, IfOk, IfSome, OnErr, IsErrOf};
+ghost use Rattle.std.specs.Prelude.{◌≡◌, ◌+◌, ◌<◌, ◌≤◌, None, length, map, IfOk, IfSome, IsErrOf};
 ghost use Rattle.std.specs.List.Sorted.{IsPermutation};
 ghost use Rattle.std.specs.FinMap.{entries};
 ghost use Rattle.dt_host.specs.Cause.{HasCause};
-ghost use Rattle.dt_host.specs.World.{IsLive, IsFile, IsDir, file_at, names_at, entry, content, empty_world, IsEmptyStart};
+ghost use Rattle.dt_host.specs.World.{IsLive, IsFile, IsDir, file_at, names_at, entry, content, IsEmptyStart};
 ghost use Rattle.dt_host.specs.Legal.{Makes, Binds, named, Reads, Writes};
-ghost use Rattle.dt_memhost.specs.Script.{script_of};
-ghost use Rattle.dt_memhost.specs.Forest.{empty_ordered};
-ghost use Rattle.dt_memhost.specs.Host.{RootsBy, FindsBy, MakesBy, BindsBy, NamesBy, RawBy, ReadsBy, WritesBy, StopsBy, WordBy, FillsBy, DisturbsBy};
+ghost use Rattle.dt_memhost.specs.Host.{empty_host, RootsBy, FindsBy, MakesBy, BindsBy, NamesBy, RawBy, ReadsBy, WritesBy, StopsBy, WordBy, FillsBy, DisturbsBy};
 
 use crate::forest::MemForest;
 use crate::order::arrange;
@@ -41,8 +39,7 @@ impl MemHost {
     /// A host of nothing but a root without entries, whose number is 1. It fails at the calls of
     /// `fails`, numbers below 2^64 - 1 counted from 1.
     pub fn new(alloc: Global, picker: Picker, fails: Vec<u64>) -> Result<MemHost, NoMemory>
-        ensures exact { IfOk result
-            (λ h. h ≡ record { view = empty_world 1; orders = (empty_ordered 1).orders; script = script_of picker fails.items }) }
+        ensures exact { IfOk result (λ h. h ≡ empty_host picker fails.items) }
         ensures start { IfOk result (λ h. IsEmptyStart h.view) }
     {
         Ok(MemHost {
@@ -166,7 +163,6 @@ impl Host for MemHost {
     fn read_at(&mut self, ino: u64, off: u64, buf: &mut [u8]) -> Result<usize, HostErr>
         requires { IsFile self.old.view.forest ino }
         ensures exact { ReadsBy self.old ino off buf.old buf.new result self.new }
-        ensures unread { OnErr result (buf.new ≡ buf.old) }
         ensures ok { IfOk result (Reads (content self.old.view.forest ino) off buf.old buf.new) }
         ensures stays { self.new.view ≡ self.old.view }
         ensures cause { HasCause self.old.script.faults self.new.script.faults
@@ -252,7 +248,6 @@ impl Host for MemHost {
 
     fn random(&mut self, buf: &mut [u8]) -> Result<(), HostErr>
         ensures exact { FillsBy self.old buf.old buf.new tt result self.new }
-        ensures unfilled { OnErr result (buf.new ≡ buf.old) }
         ensures stays { self.new.view ≡ self.old.view }
         ensures cause { HasCause self.old.script.faults self.new.script.faults
             (IsErrOf result HostErr.Failed) }

@@ -21,7 +21,7 @@ pub(crate) enum MemNode {
 }
 
 impl MemNode {
-    // A new node of that kind.
+    /// A new node of that kind.
     pub(crate) fn new(alloc: Global, kind: NodeKind) -> MemNode
         ensures node { node_of result ≡ new_node kind }
         ensures order { entries_of result ≡ [] }
@@ -31,7 +31,7 @@ impl MemNode {
         }
     }
 
-    // The bytes of a file.
+    /// The bytes of a file.
     pub(crate) fn bytes(&self) -> Option<&Vec<u8>>
         ensures { option_map vec_items (option_copied result) ≡ file_bytes (node_of self.now) }
     {
@@ -41,7 +41,7 @@ impl MemNode {
         }
     }
 
-    // The number that a directory has under a name.
+    /// The number that a directory has under a name.
     pub(crate) fn find(&self, name: &[u8]) -> Option<u64>
         ensures { result
             ≡ option_and_then (λ names. get names name.now) (dir_names (node_of self.now)) }
@@ -52,7 +52,7 @@ impl MemNode {
         }
     }
 
-    // A copy of the entries, in the order of their binding; a file has none.
+    /// A copy of the entries, in the order of their binding; a file has none.
     pub(crate) fn list(&self, alloc: Global) -> Result<Vec<HostEntry>, NoMemory>
         ensures order { IfOk result (λ found. map named found.items ≡ entries_of self.now) }
         ensures each { IfSome (dir_names (node_of self.now))
@@ -65,7 +65,7 @@ impl MemNode {
         }
     }
 
-    // Writes over a file from a place in it on; a directory stays.
+    /// Writes over a file from a place in it on; a directory stays.
     pub(crate) fn write(&mut self, off: usize, piece: &[u8]) -> Result<(), NoMemory>
         requires { off ≤ length (unwrap_or (file_bytes (node_of self.old)) []) }
         ensures ok { OnOk result
@@ -80,7 +80,7 @@ impl MemNode {
         }
     }
 
-    // Adds an entry to a directory, whose name isn't there; a file stays.
+    /// Adds an entry to a directory, whose name isn't there; a file stays.
     pub(crate) fn bind(&mut self, name: Vec<u8>, number: u64) -> Result<(), NoMemory>
         requires { option_and_then (λ names. get names name.items) (dir_names (node_of self.old))
             ≡ None }

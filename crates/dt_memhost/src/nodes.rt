@@ -14,7 +14,7 @@ use std::collections::BTreeMap;
 
 pub(crate) type Nodes = BTreeMap<u64, MemNode>;
 
-// The bytes of the file of that number.
+/// The bytes of the file of that number.
 pub(crate) fn bytes_at(nodes: &Nodes, number: u64) -> Option<&Vec<u8>>
     ensures { option_map vec_items (option_copied result)
         ≡ option_and_then file_bytes (node_in nodes.now number) }
@@ -25,7 +25,7 @@ pub(crate) fn bytes_at(nodes: &Nodes, number: u64) -> Option<&Vec<u8>>
     }
 }
 
-// The number that a directory has under a name.
+/// The number that a directory has under a name.
 pub(crate) fn find(nodes: &Nodes, number: u64, name: &[u8]) -> Option<u64>
     ensures { result
         ≡ option_and_then
@@ -37,7 +37,7 @@ pub(crate) fn find(nodes: &Nodes, number: u64, name: &[u8]) -> Option<u64>
     }
 }
 
-// A copy of the entries of the node of that number, in the order of their binding; none where there is no node.
+/// A copy of the entries of the node of that number, in the order of their binding; none where there is no node.
 pub(crate) fn list(nodes: &Nodes, number: u64, alloc: Global) -> Result<Vec<HostEntry>, NoMemory>
     ensures order { IfOk result
         (λ found. map named found.items ≡ unwrap_or (order_in nodes.now number) []) }
@@ -50,7 +50,7 @@ pub(crate) fn list(nodes: &Nodes, number: u64, alloc: Global) -> Result<Vec<Host
     }
 }
 
-// Writes over the file of that number.
+/// Writes over the file of that number.
 pub(crate) fn write(
     nodes: &mut Nodes,
     number: u64,
@@ -72,7 +72,7 @@ pub(crate) fn write(
     }
 }
 
-// Adds an entry to the directory of that number.
+/// Adds an entry to the directory of that number.
 pub(crate) fn bind(nodes: &mut Nodes, number: u64, name: Vec<u8>, to: u64) -> Result<(), NoMemory>
     requires { option_and_then
         (λ names. get names name.items) (option_and_then dir_names (node_in nodes.old number))

@@ -9,7 +9,7 @@ use crate::nodes::Nodes;
 /// How many numbers, from 1 on, words choose from.
 pub(crate) const NUMBERS: u64 = 16_384;
 
-// The number that a word chooses.
+/// The number that a word chooses.
 pub(crate) fn number_by(nodes: &Nodes, word: u32) -> u64
     ensures { Numbers (nodes_of nodes.now.entries) word result }
 {

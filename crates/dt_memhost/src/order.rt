@@ -6,7 +6,7 @@ ghost use Rattle.dt_memhost.specs.Script.{picked_all, words_of};
 use crate::script::Script;
 use dt_host::HostEntry;
 
-// Puts entries into the order that words choose, one word for each.
+/// Puts entries into the order that words choose, one word for each.
 pub(crate) fn arrange(found: &mut [HostEntry], script: &mut Script)
     ensures order { found.new ≡ picked_order (words_of (length found.old) script.old) found.old }
     ensures after { script.new ≡ picked_all (length found.old) script.old }

@@ -26,6 +26,7 @@ impl Model for Script {
 impl Script {
     ghost use Rattle.std.specs.Prelude.{◌≤◌, length};
 
+    /// A script of words and of calls that fail, before any call.
     pub(crate) fn new(picker: Picker, fails: Vec<u64>) -> Script
         ensures { result ≡ script_of picker fails.items }
     {
@@ -37,7 +38,7 @@ impl Script {
         }
     }
 
-    // How many calls failed.
+    /// How many calls failed.
     pub(crate) fn faults(&self) -> u64
         ensures value { result ≡ self.now.faults }
         ensures small { self.now.faults < 2 ^ 64 }
@@ -45,7 +46,7 @@ impl Script {
         self.faults
     }
 
-    // Counts a call, and says whether it fails: because it is listed, or for another reason that is known.
+    /// Counts a call, and says whether it fails: because it is listed, or for another reason that is known.
     pub(crate) fn fails(&mut self, refused: bool) -> bool
         ensures answer { result ≡ (refused || fails_next self.old) }
         ensures after { self.new ≡ (if result then failed self.old else counted self.old) }
@@ -58,14 +59,14 @@ impl Script {
         fails
     }
 
-    // Begins the stream of a number, and drops the words that are left.
+    /// Begins the stream of a number, and drops the words that are left.
     pub(crate) fn restart(&mut self, alloc: Global, number: u64)
         ensures { self.new ≡ restarted self.old number }
     {
         self.picker = Picker::new(Vec::new(alloc), number);
     }
 
-    // A word.
+    /// A word.
     pub(crate) fn word(&mut self) -> u32
         ensures word { result ≡ word_of self.old }
         ensures after { self.new ≡ picked self.old }
@@ -73,7 +74,7 @@ impl Script {
         self.picker.word()
     }
 
-    // A length from 1 to `most`, by a word.
+    /// A length from 1 to `most`, by a word.
     pub(crate) fn length(&mut self, most: usize) -> usize
         requires { 0 < most }
         ensures word { result ≡ length_by (word_of self.old) most }
@@ -82,7 +83,7 @@ impl Script {
         1 + self.place(most)
     }
 
-    // A place below `count`, by a word.
+    /// A place below `count`, by a word.
     pub(crate) fn place(&mut self, count: usize) -> usize
         requires { 0 < count }
         ensures word { result ≡ word_of self.old % count }
@@ -91,7 +92,7 @@ impl Script {
         self.word() as usize % count
     }
 
-    // Fills a buffer, each byte by a word.
+    /// Fills a buffer, each byte by a word.
     pub(crate) fn fill(&mut self, buf: &mut [u8])
         ensures bytes { buf.new ≡ map (λ word. word % 256) (words_of (length buf.old) self.old) }
         ensures after { self.new ≡ picked_all (length buf.old) self.old }

@@ -1,8 +1,7 @@
-ghost use Rattle.std.specs.Prelude.{◌≡◌, ◌<◌, [], length, take, Ok, Some, IfOk, OnErr, IsErrOf};
+ghost use Rattle.std.specs.Prelude.{◌≡◌, ◌<◌, length, take, Ok, Some, IfOk, OnErr, IsErrOf};
 ghost use Rattle.dt_host.specs.Cause.{HasCause};
 ghost use Rattle.dt_host.specs.Sink.{added, MovesSome};
-ghost use Rattle.dt_memhost.specs.Script.{script_of};
-ghost use Rattle.dt_memhost.specs.Sink.{is_full, fitting, WritesBy};
+ghost use Rattle.dt_memhost.specs.Sink.{empty_sink, is_full, fitting, WritesBy};
 
 use crate::picker::Picker;
 use crate::script::Script;
@@ -36,8 +35,7 @@ impl MemSink {
         fails: Vec<u64>,
         room: Option<u64>,
     ) -> Result<MemSink, NoMemory>
-        ensures { result
-            ≡ Ok record { bytes = []; room = room; script = script_of picker fails.items } }
+        ensures { result ≡ Ok (empty_sink picker fails.items room) }
     {
         Ok(MemSink {
             bytes: Vec::new(alloc),

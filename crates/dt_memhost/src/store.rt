@@ -1,10 +1,9 @@
 ghost use Rattle.std.specs.Prelude.{◌≡◌, ◌+◌, ◌<◌, ◌++◌, length, take, drop, Ok, OnOk, OnErr, IfOk, IsErrOf, option_map, option_copied, vec_items};
-ghost use Rattle.std.specs.FinMap.{empty, get, insert};
+ghost use Rattle.std.specs.FinMap.{get, insert};
 ghost use Rattle.dt_host.specs.Cause.{HasCause};
 ghost use Rattle.dt_host.specs.Sink.{MovesSome};
 ghost use Rattle.dt_host.specs.Store.{size_of, bytes_of, ReachesTo};
-ghost use Rattle.dt_memhost.specs.Script.{script_of};
-ghost use Rattle.dt_memhost.specs.Store.{files_of, SizesBy, ReadsBy};
+ghost use Rattle.dt_memhost.specs.Store.{files_of, empty_store, SizesBy, ReadsBy};
 
 use crate::picker::Picker;
 use crate::script::Script;
@@ -37,7 +36,7 @@ impl Model for MemStore {
 impl MemStore {
     /// A store without files. It fails at the calls of `fails`, numbers below 2^64 - 1 counted from 1.
     pub fn new(alloc: Global, picker: Picker, fails: Vec<u64>) -> Result<MemStore, NoMemory>
-        ensures { result ≡ Ok record { files = empty; script = script_of picker fails.items } }
+        ensures { result ≡ Ok (empty_store picker fails.items) }
     {
         Ok(MemStore {
             alloc,
@@ -88,7 +87,6 @@ impl Store for MemStore {
         requires room { 0 < length buf.old }
         requires within { ReachesTo self.old.files name.now (off + length buf.old) }
         ensures exact { ReadsBy self.old name.now off buf.old buf.new result self.new }
-        ensures unread { OnErr result (buf.new ≡ buf.old) }
         ensures moved { IfOk result (MovesSome (length buf.old)) }
         ensures ok { IfOk result
             (λ n. buf.new ≡ take n (drop off (bytes_of self.old.files name.now))

@@ -3,7 +3,7 @@ ghost use Rattle.dt_host.specs.World.{overwritten};
 
 use dt_base::NoMemory;
 
-// Copies `count` bytes from `off` on into the front of the buffer.
+/// Copies `count` bytes from `off` on into the front of the buffer.
 pub(crate) fn copy_front(bytes: &[u8], off: usize, count: usize, buf: &mut [u8])
     requires there { off + count ≤ length bytes.now }
     requires room { count ≤ length buf.old }
@@ -14,7 +14,7 @@ pub(crate) fn copy_front(bytes: &[u8], off: usize, count: usize, buf: &mut [u8])
     buf[..count].copy_from_slice(front);
 }
 
-// Writes over bytes from a place in them on.
+/// Writes over bytes from a place in them on.
 pub(crate) fn overwrite(bytes: &mut Vec<u8>, off: usize, piece: &[u8]) -> Result<(), NoMemory>
     requires { off ≤ vec_len bytes.old }
     ensures ok { OnOk result (bytes.new.items ≡ overwritten bytes.old.items off piece.now) }

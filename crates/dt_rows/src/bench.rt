@@ -1,5 +1,7 @@
 // What a test starts: a store with an image, a host and sinks, each with its choices and its faults.
-ghost use Rattle.std.specs.Prelude.{◌≡◌, ◌≢◌};
+ghost use Rattle.std.specs.Prelude.{◌≡◌, [], None, IfOk, IsTrue, option_to_list};
+ghost use Rattle.dt_run.specs.Statuses.{is_status};
+ghost use Rattle.dt_rows.specs.declared.bench.Words.TheVariants.{Stream};
 
 use dt_host::NoGate;
 use dt_memhost::{MemHost, MemSink, MemStore, Picker};
@@ -58,7 +60,11 @@ impl Came {
 
 impl<'a> Call<'a> {
     /// These words on these files, with the choices of stream 1 and no faults.
-    pub fn new(words: &'a str, files: &'a [(&'a str, &'a [u8])]) -> Self {
+    pub fn new(words: &'a str, files: &'a [(&'a str, &'a [u8])]) -> Self
+        ensures choices { result.choices ≡ Stream 1 }
+        ensures store { result.store_fails ≡ None }
+        ensures host { result.host_fails ≡ None }
+    {
         Call {
             words,
             files,
@@ -71,7 +77,9 @@ impl<'a> Call<'a> {
     }
 
     /// Makes the call.
-    pub fn make(&self, alloc: Global) -> Result<Came, Fail> {
+    pub fn make(&self, alloc: Global) -> Result<Came, Fail>
+        ensures { IfOk result (λ came. IsTrue (is_status came.status)) }
+    {
         let words = strings(alloc, self.words)?;
         let mut store = self.store(alloc)?;
         let picker = picker(alloc, self.choices)?;
@@ -105,7 +113,10 @@ fn picker(alloc: Global, words: Words) -> Result<Picker, AllocError> {
     }
 }
 
-fn listed(alloc: Global, call: Option<u64>) -> Result<Vec<u64>, AllocError> {
+// The calls that fail: this one, if one does.
+fn listed(alloc: Global, call: Option<u64>) -> Result<Vec<u64>, AllocError>
+    ensures { IfOk result (λ calls. calls.items ≡ option_to_list call) }
+{
     let mut calls = Vec::new(alloc);
     if let Some(call) = call {
         calls.push(call)?;
@@ -113,7 +124,10 @@ fn listed(alloc: Global, call: Option<u64>) -> Result<Vec<u64>, AllocError> {
     Ok(calls)
 }
 
-fn sink(alloc: Global, words: Words, room: Option<u64>) -> Result<MemSink, Fail> {
+fn sink(alloc: Global, words: Words, room: Option<u64>) -> Result<MemSink, Fail>
+    ensures empty { IfOk result (λ sink. sink.bytes ≡ []) }
+    ensures room { IfOk result (λ sink. sink.room ≡ room) }
+{
     Ok(MemSink::new(alloc, picker(alloc, words)?, Vec::new(alloc), room)?)
 }
 

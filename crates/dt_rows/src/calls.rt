@@ -1,4 +1,7 @@
 // Guests that make a list of calls and write down the answers.
+ghost use Rattle.std.specs.Prelude.{IfOk};
+ghost use Rattle.dt_asm.specs.Accepted.{IsAccepted};
+
 use dt_asm::{AsmErr, Guest};
 use dt_base::NoMemory;
 use dt_rv64::Instr;
@@ -38,7 +41,9 @@ pub enum Does {
 }
 
 /// A guest that does all this, keeps each answer, writes the answers to stream 2, and ends with code 0.
-pub fn keeping(alloc: Global, acts: &[Does]) -> Result<Vec<u8>, AsmErr> {
+pub fn keeping(alloc: Global, acts: &[Does]) -> Result<Vec<u8>, AsmErr>
+    ensures { IfOk result (λ file. IsAccepted file.items) }
+{
     let mut guest = Guest::new(alloc);
     guest.memsz(MEMORY_SIZE)?;
     let mut kept = 0i64;

@@ -2,8 +2,9 @@
 use crate::bench::strings;
 use crate::guests::{HELLO_INDEX, hello};
 use dt_base::{Blob, What};
+use dt_image::read_image;
 use dt_memhost::{MemStore, Picker};
-use dt_run::{read_image, read_options};
+use dt_options::read_options;
 use std::test::Fail;
 
 #[test]

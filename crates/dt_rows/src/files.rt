@@ -3,6 +3,7 @@ use crate::bench::{Call, Came, Words};
 use crate::calls::{Does, MEMORY, keeping};
 use dt_asm::cat1;
 use std::alloc::Global;
+use std::process::Abort;
 use std::test::Fail;
 
 const OPENAT: u32 = 56;
@@ -134,16 +135,31 @@ fn a_read_takes_what_is_asked_for_and_left(rt: HostRuntime) -> Result<(), Fail> 
     Ok(())
 }
 
+// What a guest does, and the answers where it makes calls, on an image whose `/f` holds `abc`.
+fn expect_answers(
+    rt: &impl Abort,
+    alloc: Global,
+    rows: &[(Does, Option<i64>)],
+) -> Result<(), Fail> {
+    let mut acts = Vec::new(alloc);
+    let mut answers = Vec::new(alloc);
+    for (act, answer) in rows {
+        acts.push(*act)?;
+        if let Some(answer) = answer {
+            answers.push(*answer)?;
+        }
+    }
+    let program = keeping(alloc, &acts)?;
+    let files = image(b"abc", &program);
+    let came = Call::new("run\nimg\n--\n/p", &files).make(alloc)?;
+    assert_eq!(rt; front(&came), answers_shown(alloc, &answers)?.as_slice());
+    Ok(())
+}
+
 #[test]
-fn answers_of_calls_on_files(rt: HostRuntime) -> Result<(), Fail> {
-    let alloc = rt.alloc();
+fn an_empty_input_and_two_outputs_are_open_at_the_start(rt: HostRuntime) -> Result<(), Fail> {
     let rows = [
         (Does::Store(PATH, *b"/f\0\0\0\0\0\0"), None),
-        (Does::Store(PATH + 8, *b"/g\0\0\0\0\0\0"), None),
-        (Does::Store(PATH + 16, *b"/.\0\0\0\0\0\0"), None),
-        (Does::Store(PATH + 24, *b"//f\0\0\0\0\0"), None),
-        (Does::Store(PATH + 32, *b"f\0\0\0\0\0\0\0"), None),
-        // The three that are open at the start: an empty input and two outputs.
         (Does::Call(READ, 0, 0, 100), Some(0)),
         (Does::Call(WRITE, 0, PATH, 1), Some(EBADF)),
         (Does::Call(READ, 1, BUFFER, 1), Some(EBADF)),
@@ -152,52 +168,75 @@ fn answers_of_calls_on_files(rt: HostRuntime) -> Result<(), Fail> {
         (Does::Call(CLOSE, -1, 0, 0), Some(EBADF)),
         (Does::Call(OPENAT, AT_FDCWD, PATH, 0), Some(3)),
         (Does::Call(WRITE, 3, PATH, 1), Some(EBADF)),
-        // A path may end with the memory: here is its last byte, a NUL.
-        (Does::Call(OPENAT, AT_FDCWD, 0x2_ffff, 0), Some(ENOENT)),
-        // A miss leaves the place; a read of nothing looks at no address.
-        (Does::Call(READ, 3, 0, 2), Some(EFAULT)),
-        (Does::Call(READ, 3, 0, 0), Some(0)),
-        (Does::Call(READ, 3, BUFFER, 2), Some(2)),
-        (Does::Call(READ, 0x1_0000_0003, BUFFER, 2), Some(1)),
-        (Does::Call(READ, 3, 0, 2), Some(0)),
-        // Only the bytes that come have to fit: the page after the memory is not there.
+    ];
+    expect_answers(&rt, rt.alloc(), &rows)
+}
+
+#[test]
+fn the_lowest_free_descriptor_is_given(rt: HostRuntime) -> Result<(), Fail> {
+    let rows = [
+        (Does::Store(PATH, *b"/f\0\0\0\0\0\0"), None),
+        (Does::Call(OPENAT, AT_FDCWD, PATH, 0), Some(3)),
         (Does::Call(OPENAT, AT_FDCWD, PATH, 0), Some(4)),
-        (Does::Call(READ, 4, 0x2_fffd, 100), Some(3)),
-        (Does::Call(CLOSE, 4, 0, 0), Some(0)),
-        (Does::Call(READ, 4, BUFFER, 1), Some(EBADF)),
-        (Does::Call(OPENAT, AT_FDCWD, PATH, 0), Some(4)),
-        (Does::Call(READ, 4, 0x2_fffe, 100), Some(EFAULT)),
-        // Paths that lead to no file.
-        (Does::Call(OPENAT, AT_FDCWD, PATH + 8, 0), Some(ENOENT)),
-        (Does::Call(OPENAT, AT_FDCWD, PATH + 24, 0), Some(ENOENT)),
-        (Does::Call(OPENAT, AT_FDCWD, PATH + 32, 0), Some(ENOENT)),
-        (Does::Call(OPENAT, AT_FDCWD, PATH + 7, 0), Some(ENOENT)),
-        (Does::Call(OPENAT, AT_FDCWD, 0, 0), Some(EFAULT)),
-        // And here that byte is a letter, read from the file above.
-        (Does::Call(OPENAT, AT_FDCWD, 0x2_ffff, 0), Some(EFAULT)),
-        // The root is a directory.
-        (Does::Call(OPENAT, AT_FDCWD, PATH + 16, 0), Some(5)),
-        (Does::Call(READ, 5, BUFFER, 1), Some(EISDIR)),
-        (Does::Call(READ, 5, 0, 0), Some(EISDIR)),
-        // The lowest free number is given, 1 among them.
+        (Does::Call(CLOSE, 3, 0, 0), Some(0)),
+        (Does::Call(READ, 3, BUFFER, 1), Some(EBADF)),
+        (Does::Call(OPENAT, AT_FDCWD, PATH, 0), Some(3)),
         (Does::Call(CLOSE, 1, 0, 0), Some(0)),
         (Does::Call(WRITE, 1, PATH, 1), Some(EBADF)),
         (Does::Call(OPENAT, AT_FDCWD, PATH, 0), Some(1)),
         (Does::Call(READ, 1, BUFFER, 9), Some(3)),
     ];
-    let mut acts = Vec::new(alloc);
-    let mut answers = Vec::new(alloc);
-    for (act, answer) in rows {
-        acts.push(act)?;
-        if let Some(answer) = answer {
-            answers.push(answer)?;
-        }
-    }
-    let program = keeping(alloc, &acts)?;
-    let files = image(b"abc", &program);
-    let came = Call::new("run\nimg\n--\n/p", &files).make(alloc)?;
-    assert_eq!(rt; front(&came), answers_shown(alloc, &answers)?.as_slice());
-    Ok(())
+    expect_answers(&rt, rt.alloc(), &rows)
+}
+
+#[test]
+fn a_read_needs_memory_for_the_bytes_that_come(rt: HostRuntime) -> Result<(), Fail> {
+    let rows = [
+        (Does::Store(PATH, *b"/f\0\0\0\0\0\0"), None),
+        (Does::Call(OPENAT, AT_FDCWD, PATH, 0), Some(3)),
+        // A miss leaves the place; a read of nothing looks at no address.
+        (Does::Call(READ, 3, 0, 2), Some(EFAULT)),
+        (Does::Call(READ, 3, 0, 0), Some(0)),
+        (Does::Call(READ, 3, BUFFER, 2), Some(2)),
+        // A descriptor is the low 32 bits.
+        (Does::Call(READ, 0x1_0000_0003, BUFFER, 2), Some(1)),
+        (Does::Call(READ, 3, 0, 2), Some(0)),
+        // The page after the memory is not there.
+        (Does::Call(OPENAT, AT_FDCWD, PATH, 0), Some(4)),
+        (Does::Call(READ, 4, 0x2_fffd, 100), Some(3)),
+        (Does::Call(OPENAT, AT_FDCWD, PATH, 0), Some(5)),
+        (Does::Call(READ, 5, 0x2_fffe, 100), Some(EFAULT)),
+    ];
+    expect_answers(&rt, rt.alloc(), &rows)
+}
+
+#[test]
+fn paths_that_lead_to_no_file(rt: HostRuntime) -> Result<(), Fail> {
+    let rows = [
+        (Does::Store(PATH, *b"/g\0\0//f\0"), None),
+        (Does::Call(OPENAT, AT_FDCWD, PATH, 0), Some(ENOENT)),
+        (Does::Call(OPENAT, AT_FDCWD, PATH + 4, 0), Some(ENOENT)),
+        // One that begins with no slash, and one that is empty.
+        (Does::Call(OPENAT, AT_FDCWD, PATH + 6, 0), Some(ENOENT)),
+        (Does::Call(OPENAT, AT_FDCWD, PATH + 7, 0), Some(ENOENT)),
+        (Does::Call(OPENAT, AT_FDCWD, 0, 0), Some(EFAULT)),
+        // A path may end with the memory: its last byte is a NUL, and then a letter.
+        (Does::Call(OPENAT, AT_FDCWD, 0x2_ffff, 0), Some(ENOENT)),
+        (Does::Store(0x2_fff8, *b"aaaaaaaa"), None),
+        (Does::Call(OPENAT, AT_FDCWD, 0x2_ffff, 0), Some(EFAULT)),
+    ];
+    expect_answers(&rt, rt.alloc(), &rows)
+}
+
+#[test]
+fn the_root_is_a_directory(rt: HostRuntime) -> Result<(), Fail> {
+    let rows = [
+        (Does::Store(PATH, *b"/.\0\0\0\0\0\0"), None),
+        (Does::Call(OPENAT, AT_FDCWD, PATH, 0), Some(3)),
+        (Does::Call(READ, 3, BUFFER, 1), Some(EISDIR)),
+        (Does::Call(READ, 3, 0, 0), Some(EISDIR)),
+    ];
+    expect_answers(&rt, rt.alloc(), &rows)
 }
 
 #[test]
@@ -259,32 +298,21 @@ fn paths_that_are_too_long(rt: HostRuntime) -> Result<(), Fail> {
 #[test]
 fn a_process_has_64_descriptors(rt: HostRuntime) -> Result<(), Fail> {
     let alloc = rt.alloc();
-    let mut acts = Vec::new(alloc);
-    let mut answers = Vec::new(alloc);
-    acts.push(Does::Store(PATH, *b"/f\0\0\0\0\0\0"))?;
-    acts.push(Does::Store(PATH + 8, *b"/g\0\0\0\0\0\0"))?;
+    let mut rows = Vec::new(alloc);
+    rows.push((Does::Store(PATH, *b"/f\0\0/g\0\0"), None))?;
     for descriptor in 3..64 {
-        acts.push(Does::Call(OPENAT, AT_FDCWD, PATH, 0))?;
-        answers.push(descriptor)?;
+        rows.push((Does::Call(OPENAT, AT_FDCWD, PATH, 0), Some(descriptor)))?;
     }
     // Where none is free that is told before the path is looked up, but after it is read.
-    let rows = [
-        (Does::Call(OPENAT, AT_FDCWD, PATH, 0), EMFILE),
-        (Does::Call(OPENAT, AT_FDCWD, PATH + 8, 0), EMFILE),
-        (Does::Call(OPENAT, AT_FDCWD, PATH + 7, 0), ENOENT),
-        (Does::Call(OPENAT, AT_FDCWD, 0, 0), EFAULT),
-        (Does::Call(CLOSE, 10, 0, 0), 0),
-        (Does::Call(OPENAT, AT_FDCWD, PATH, 0), 10),
-    ];
-    for (act, answer) in rows {
-        acts.push(act)?;
-        answers.push(answer)?;
-    }
-    let program = keeping(alloc, &acts)?;
-    let files = image(b"abc", &program);
-    let came = Call::new("run\nimg\n--\n/p", &files).make(alloc)?;
-    assert_eq!(rt; front(&came), answers_shown(alloc, &answers)?.as_slice());
-    Ok(())
+    rows.extend_from_slice(&[
+        (Does::Call(OPENAT, AT_FDCWD, PATH, 0), Some(EMFILE)),
+        (Does::Call(OPENAT, AT_FDCWD, PATH + 4, 0), Some(EMFILE)),
+        (Does::Call(OPENAT, AT_FDCWD, PATH + 7, 0), Some(ENOENT)),
+        (Does::Call(OPENAT, AT_FDCWD, 0, 0), Some(EFAULT)),
+        (Does::Call(CLOSE, 10, 0, 0), Some(0)),
+        (Does::Call(OPENAT, AT_FDCWD, PATH, 0), Some(10)),
+    ])?;
+    expect_answers(&rt, alloc, &rows)
 }
 
 #[test]

@@ -1,5 +1,5 @@
 // Programs for the guest, as ELF files.
-use dt_asm::{AsmErr, Guest};
+use dt_asm::AsmErr;
 use std::alloc::{AllocError, Global};
 
 /// The digest of `hello`'s file, of 162 bytes.
@@ -11,16 +11,6 @@ pub const HELLO_SHOWN: &str = "out 1 6\nhello\n\nexit 1 code 0\nverdict ended";
 /// An index of one file, `/hello`, with mode 0755 and the blob `hello`.
 pub const HELLO_INDEX: &[u8] =
     b"{\"version\":1,\"entries\":[{\"path\":\"/hello\",\"type\":\"file\",\"mode\":493,\"blob\":\"hello\"}]}";
-
-/// An ELF file of one segment at 0x10000, whose code begins at 0x10078 and is followed by these bytes.
-pub fn elf(alloc: Global, code: &[u32], data: &[u8]) -> Result<Vec<u8>, AsmErr> {
-    let mut guest = Guest::new(alloc);
-    for word in code {
-        guest.bytes(&word.to_le_bytes())?;
-    }
-    guest.bytes(data)?;
-    guest.elf()
-}
 
 /// The file of `hello`.
 pub fn hello(alloc: Global) -> Result<Vec<u8>, AsmErr> {

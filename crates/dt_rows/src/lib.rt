@@ -16,6 +16,8 @@ mod guests;
 #[cfg(test)]
 mod images;
 #[cfg(test)]
+mod loading;
+#[cfg(test)]
 mod memory;
 #[cfg(test)]
 mod programs;

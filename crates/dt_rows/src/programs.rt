@@ -1,32 +1,41 @@
 // What programs do, seen in their reports.
 use crate::bench::{Call, RUN_HELLO};
-use crate::guests::{HELLO_INDEX, elf, hello};
+use crate::guests::{HELLO_INDEX, hello};
+use dt_asm::{AsmErr, Guest};
+use dt_rv64::Instr;
 use std::alloc::Global;
 use std::test::Fail;
 
-const LI_A0_1: u32 = 0x0010_0513;
+const A0: u8 = 10;
 
-const LI_A0_3: u32 = 0x0030_0513;
+const WRITE: u32 = 64;
 
-const LI_A1_PAGE: u32 = 0x0001_05b7;
+const EXIT: u32 = 93;
 
-const LI_A1_0: u32 = 0x0000_0593;
+const SOCKET: u32 = 198;
 
-const LI_A2_6: u32 = 0x0060_0613;
+// Where a program lies, its ELF header first.
+const START: i64 = 0x1_0000;
 
-const LI_A2_0: u32 = 0x0000_0613;
+const NOP: Instr = Instr::Addi {
+    rd: 0,
+    rs1: 0,
+    imm: 0,
+};
 
-const LI_A7_WRITE: u32 = 0x0400_0893;
-
-const LI_A7_EXIT: u32 = 0x05d0_0893;
-
-const LI_A7_SOCKET: u32 = 0x0c60_0893;
-
-const ECALL: u32 = 0x0000_0073;
-
-const EBREAK: u32 = 0x0010_0073;
-
-const NOP: u32 = 0x0000_0013;
+// A program that loads the registers of arguments, from a0 on, and makes these calls.
+fn calling(alloc: Global, arguments: &[i64], calls: &[u32]) -> Result<Vec<u8>, AsmErr> {
+    let mut guest = Guest::new(alloc);
+    let mut register = A0;
+    for argument in arguments {
+        guest.li(register, *argument)?;
+        register = register.wrapping_add(1);
+    }
+    for call in calls {
+        guest.call(*call)?;
+    }
+    guest.elf()
+}
 
 // What a report of this program shows before its tree.
 fn shown(alloc: Global, file: &[u8]) -> Result<(u8, Vec<u8>), Fail> {
@@ -43,101 +52,68 @@ fn shown(alloc: Global, file: &[u8]) -> Result<(u8, Vec<u8>), Fail> {
 }
 
 #[test]
-fn ends_and_answers_of_calls(rt: HostRuntime) -> Result<(), Fail> {
+fn programs_end_with_codes(rt: HostRuntime) -> Result<(), Fail> {
     let alloc = rt.alloc();
-    let exit = [LI_A7_EXIT, ECALL];
-    let programs: [(&str, &[u32], u8, &str); 10] = [
-        (
-            "ends with code 3",
-            &[LI_A0_3, LI_A7_EXIT, ECALL],
-            1,
-            "exit 1 code 3\nverdict ended\n",
-        ),
-        (
-            "ends with code 0 by its empty registers",
-            &exit,
-            0,
-            "exit 1 code 0\nverdict ended\n",
-        ),
-        (
-            "a word of zeros is no instruction",
-            &[0],
-            1,
-            "exit 1 signal 4\nverdict ended\n",
-        ),
-        (
-            "a breakpoint",
-            &[EBREAK],
-            1,
-            "exit 1 signal 5\nverdict ended\n",
-        ),
-        (
-            "an instruction that runs past its page",
-            &[NOP],
-            1,
-            "exit 1 signal 4\nverdict ended\n",
-        ),
-        (
-            "a call that is not known",
-            &[LI_A7_SOCKET, ECALL],
-            10,
-            "verdict unsupported 1 198\n",
-        ),
-        (
-            "descriptor 3 cannot be written: minus 9",
-            &[LI_A0_3, LI_A7_WRITE, ECALL, LI_A7_EXIT, ECALL],
-            1,
-            "exit 1 code 247\nverdict ended\n",
-        ),
-        (
-            "nothing is mapped at 0: minus 14",
-            &[
-                LI_A0_1,
-                LI_A1_0,
-                LI_A2_6,
-                LI_A7_WRITE,
-                ECALL,
-                LI_A7_EXIT,
-                ECALL,
-            ],
-            1,
-            "exit 1 code 242\nverdict ended\n",
-        ),
-        (
-            "no byte is no event, whatever the address",
-            &[
-                LI_A0_1,
-                LI_A1_0,
-                LI_A2_0,
-                LI_A7_WRITE,
-                ECALL,
-                LI_A7_EXIT,
-                ECALL,
-            ],
-            0,
-            "exit 1 code 0\nverdict ended\n",
-        ),
-        (
-            "a write answers its count",
-            &[
-                LI_A0_1,
-                LI_A1_PAGE,
-                LI_A2_6,
-                LI_A7_WRITE,
-                ECALL,
-                LI_A7_EXIT,
-                ECALL,
-            ],
-            1,
-            "out 1 6\n\x7fELF\x02\x01\nexit 1 code 6\nverdict ended\n",
-        ),
+    // Registers are empty at the start, and of a code the low 8 bits count.
+    let rows: [(&[i64], u8, &str); 3] = [(&[], 0, "0"), (&[3], 1, "3"), (&[256], 0, "0")];
+    for (arguments, status, code) in rows {
+        let (came, front) = shown(alloc, &calling(alloc, arguments, &[EXIT])?)?;
+        let want = format!(in alloc; "dettrace 1\nexit 1 code {code}\nverdict ended\n")?;
+        assert_eq!(rt; front.as_slice(), want.as_bytes());
+        assert_eq!(rt; came, status, "{code}");
+    }
+    Ok(())
+}
+
+#[test]
+fn faults_end_programs_by_their_signals(rt: HostRuntime) -> Result<(), Fail> {
+    let alloc = rt.alloc();
+    // A word of zeros is no instruction, and zeros stand behind the code.
+    let rows = [(None, 4), (Some(NOP), 4), (Some(Instr::Ebreak), 5)];
+    for (instruction, signal) in rows {
+        let mut guest = Guest::new(alloc);
+        match instruction {
+            Some(instruction) => guest.ins(instruction)?,
+            None => guest.bytes(&[0; 4])?,
+        }
+        let (status, front) = shown(alloc, &guest.elf()?)?;
+        let want = format!(in alloc; "dettrace 1\nexit 1 signal {signal}\nverdict ended\n")?;
+        assert_eq!(rt; front.as_slice(), want.as_bytes());
+        assert_eq!(rt; status, 1, "{signal}");
+    }
+    Ok(())
+}
+
+#[test]
+fn a_call_that_is_not_known_is_the_verdict(rt: HostRuntime) -> Result<(), Fail> {
+    let alloc = rt.alloc();
+    let (status, front) = shown(alloc, &calling(alloc, &[], &[SOCKET])?)?;
+    let want = b"dettrace 1\nverdict unsupported 1 198\n".as_slice();
+    assert_eq!(rt; front.as_slice(), want);
+    assert_eq!(rt; status, 10);
+    Ok(())
+}
+
+#[test]
+fn answers_of_writes(rt: HostRuntime) -> Result<(), Fail> {
+    let alloc = rt.alloc();
+    // Descriptor, buffer and count; the low byte of the answer, with which the program ends; and the event.
+    let rows = [
+        // Descriptor 3 is not open, which is told before the buffer is looked at: minus 9.
+        ([3, 0, 6], 247, ""),
+        // Nothing is mapped at 0: minus 14.
+        ([1, 0, 6], 242, ""),
+        // No byte is no event, whatever the address.
+        ([1, 0, 0], 0, ""),
+        ([1, START, 6], 6, "out 1 6\n\x7fELF\x02\x01\n"),
     ];
-    for (what, code, status, want) in programs {
-        let file = elf(alloc, code, b"")?;
-        let (came, front) = shown(alloc, &file)?;
-        let want = format!(in alloc; "dettrace 1\n{want}")?;
-        assert_eq!(rt; front.as_slice(), want.as_bytes(), "{what}");
-        assert_eq!(rt; came, status, "{what}");
+    for (arguments, answer, event) in rows {
+        let program = calling(alloc, &arguments, &[WRITE, EXIT])?;
+        let (status, front) = shown(alloc, &program)?;
+        let end = format!(in alloc; "exit 1 code {answer}\nverdict ended\n")?;
+        let want = format!(in alloc; "dettrace 1\n{event}{end}")?;
+        assert_eq!(rt; front.as_slice(), want.as_bytes(), "{answer}");
+        assert_eq!(rt; status, u8::from(answer != 0), "{answer}");
     }
     Ok(())
 }
@@ -145,9 +121,13 @@ fn ends_and_answers_of_calls(rt: HostRuntime) -> Result<(), Fail> {
 #[test]
 fn a_program_goes_on_after_a_slice(rt: HostRuntime) -> Result<(), Fail> {
     let alloc = rt.alloc();
-    let mut code = vec![in alloc; NOP; 70_000]?;
-    code.extend_from_slice(&[LI_A0_3, LI_A7_EXIT, ECALL])?;
-    let (status, front) = shown(alloc, &elf(alloc, &code, b"")?)?;
+    let mut guest = Guest::new(alloc);
+    for _ in 0..70_000 {
+        guest.ins(NOP)?;
+    }
+    guest.li(A0, 3)?;
+    guest.call(EXIT)?;
+    let (status, front) = shown(alloc, &guest.elf()?)?;
     assert_eq!(rt;
         front.as_slice(),
         b"dettrace 1\nexit 1 code 3\nverdict ended\n".as_slice()

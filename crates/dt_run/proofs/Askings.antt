@@ -16,14 +16,14 @@ use Rattle.dt_run.specs.declared.failure.Failure.{Failure}
 use Rattle.dt_run.specs.declared.failure.Failure.TheVariants.{Usage, Image, Store, Host, Output, NoMemory}
 use Rattle.dt_run.specs.Process.{status_of}
 use Rattle.dt_run.specs.Course.{course}
-use Rattle.dt_run.specs.Options.{Request, request_of}
-use Rattle.dt_run.specs.ImageOf.{image_of}
+use Rattle.dt_options.specs.Options.{Request, request_of}
+use Rattle.dt_image.specs.ImageOf.{image_of}
 use Rattle.dt_run.specs.Failure.{failure_status, failure_line}
 use Rattle.dt_run.specs.Launch.{launch}
 use Rattle.dt_run.specs.Turn.{first_state}
 use Rattle.dt_run.specs.Run.{Run, run_from, run_of, report_of}
 use Rattle.dt_run.specs.Asked.{asked, run_asked, run_on, asked_report}
-use Rattle.dt_run.specs.Statuses.{is_run_status, Completes, RefusesImage, line_of, TellsLine}
+use Rattle.dt_run.specs.Statuses.{is_run_status, Completes, RefusesImage, status_line, TellsLine, TellsRefusal}
 
 code_status : (b : Bool) → IsTrue (is_run_status (cond b 0 1))
 code_status true = refl
@@ -81,18 +81,26 @@ refuses NoMemory status told words by three is = absurd (⊎_elim (λ e. cc) (λ
 own_status : (f : Failure) (status : ℕ) → (status ≡ failure_status f) ⊎ (status ≡ 7) → status ≢ 7 → status ≡ failure_status f
 own_status f status by other = ⊎_elim (λ e. e) (λ e. absurd (other e)) by
 
-line_of-failure : (f : Failure) (run : Result Run Failure) → failure_status f ≢ 7 → ((refusal : Refusal) → f ≡ Image refusal → run ≡ Err (Image refusal)) → line_of run (failure_status f) ≡ failure_line f
-line_of-failure Usage run other is = refl
-line_of-failure (Image refusal) run other is = ap (λ found. line_of found 3) (is refusal refl)
-line_of-failure Store run other is = refl
-line_of-failure Host run other is = refl
-line_of-failure Output run other is = refl
-line_of-failure NoMemory run other is = absurd (other refl)
+status_line-failure : (f : Failure) → failure_status f ≢ 3 → failure_status f ≢ 7 → status_line (failure_status f) ≡ failure_line f
+status_line-failure Usage no_image other = refl
+status_line-failure (Image refusal) no_image other = absurd (no_image refl)
+status_line-failure Store no_image other = refl
+status_line-failure Host no_image other = refl
+status_line-failure Output no_image other = refl
+status_line-failure NoMemory no_image other = absurd (other refl)
 
 -- the line of a failure is the line of the status that was answered
-pub tells : (f : Failure) (status : ℕ) (told : Option Files) (words : List (List ℕ)) (old new : Option (List ℕ)) (before now : ℕ) → (status ≡ failure_status f) ⊎ (status ≡ 7) → status ≢ 7 → ((refusal : Refusal) → f ≡ Image refusal → IfSome told (λ files. asked files words ≡ Err (Image refusal))) → TellsLine (failure_line f) old new before now → IfSome told (λ files. TellsLine (line_of (asked files words) status) old new before now)
-tells f status None words old new before now by other is line = tt
-tells f status (Some files) words old new before now by other is line =
+pub tells : (f : Failure) (status : ℕ) (old new : Option (List ℕ)) (before now : ℕ) → (status ≡ failure_status f) ⊎ (status ≡ 7) → status ≢ 3 → status ≢ 7 → TellsLine (failure_line f) old new before now → TellsLine (status_line status) old new before now
+tells f status old new before now by no_image other line =
     let own = own_status f status by other in
-    let same = ap (line_of (asked files words)) own ∙ line_of-failure f (asked files words) (λ seven. other (own ∙ seven)) is in
+    let same = ap status_line own ∙ status_line-failure f (λ three. no_image (own ∙ three)) (λ seven. other (own ∙ seven)) in
     subst (λ found. TellsLine found old new before now) (sym same) line
+
+-- at 3 it is the line of the refusal
+pub tells_refusal : (f : Failure) (status : ℕ) (told : Option Files) (words : List (List ℕ)) (old new : Option (List ℕ)) (before now : ℕ) → (status ≡ failure_status f) ⊎ (status ≡ 7) → status ≡ 3 → ((refusal : Refusal) → f ≡ Image refusal → IfSome told (λ files. asked files words ≡ Err (Image refusal))) → TellsLine (failure_line f) old new before now → TellsRefusal told words old new before now
+tells_refusal (Image refusal) status told words old new before now by three is line = record { refusal = refusal; first = is refusal refl; line = line }
+tells_refusal Usage status told words old new before now by three is line = absurd (⊎_elim (λ e. cc) (λ e. cc) by)
+tells_refusal Store status told words old new before now by three is line = absurd (⊎_elim (λ e. cc) (λ e. cc) by)
+tells_refusal Host status told words old new before now by three is line = absurd (⊎_elim (λ e. cc) (λ e. cc) by)
+tells_refusal Output status told words old new before now by three is line = absurd (⊎_elim (λ e. cc) (λ e. cc) by)
+tells_refusal NoMemory status told words old new before now by three is line = absurd (⊎_elim (λ e. cc) (λ e. cc) by)

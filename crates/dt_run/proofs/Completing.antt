@@ -9,14 +9,14 @@ use Rattle.dt_host.specs.Store.{Files}
 use Rattle.dt_host.specs.World.{World}
 use Rattle.dt_run.specs.declared.failure.Failure.{Failure}
 use Rattle.dt_run.specs.declared.failure.Failure.TheVariants.{Usage, Image, Store, Host, Output, NoMemory}
-use Rattle.dt_run.specs.Options.{Request, request_of}
-use Rattle.dt_run.specs.ImageOf.{image_of}
+use Rattle.dt_options.specs.Options.{Request, request_of}
+use Rattle.dt_image.specs.ImageOf.{image_of}
 use Rattle.dt_run.specs.Failure.{failure_status}
 use Rattle.dt_run.specs.Installed.{HoldsImage}
 use Rattle.dt_run.specs.Run.{Run}
 use Rattle.dt_run.specs.Asked.{asked, run_asked}
 use Rattle.dt_host.proofs.Growth.{added-nil, adds_none}
-use Rattle.dt_run.specs.Statuses.{Completes, HoldsTree, RefusesImage, is_run_status, fails_run, line_of, TellsLine}
+use Rattle.dt_run.specs.Statuses.{Completes, HoldsTree, RefusesImage, is_run_status, fails_run, status_line, TellsLine}
 
 -- the image that was read is the one of the request, so this run is asked for
 pub reached : (told : Option Files) (folder at : List ℕ) (image : List Entry) (on : Result (List Entry) Refusal → Result Run Failure) (run : Run) → folder ≡ at → IfSome told (λ files. image_of files folder ≡ Ok image) → on (Ok image) ≡ Ok run → IfSome told (λ files. on (image_of files at) ≡ Ok run)
@@ -68,8 +68,8 @@ refused_after Output status (Some files) words S by usage store accepted no_stor
 refused_after NoMemory status (Some files) words S by usage store accepted no_store = λ r. inr (⊎_elim (λ e. e) (λ e. e) by)
 
 -- a run that was completed has no line
-run_line : (run : Result Run Failure) (status : ℕ) → IsTrue (is_run_status status) → line_of run status ≡ []
-run_line run status is =
+run_line : (status : ℕ) → IsTrue (is_run_status status) → status_line status ≡ []
+run_line status is =
     elim (cases_eq status 0) [
       | inl e ↦ rw e
       | inr not_0 ↦ elim (cases_eq status 1) [
@@ -78,8 +78,11 @@ run_line run status is =
       ]
     ]
 
-pub tells_none : (status : ℕ) (told : Option Files) (words : List (List ℕ)) (err : Option (List ℕ)) (count : ℕ) → IsTrue (is_run_status status) → IfSome told (λ files. TellsLine (line_of (asked files words) status) err err count count)
-tells_none status None words err count is = tt
-tells_none status (Some files) words err count is =
-    subst (λ line. TellsLine line err err count count) (sym (run_line (asked files words) status is))
+pub tells_none : (status : ℕ) (err : Option (List ℕ)) (count : ℕ) → IsTrue (is_run_status status) → TellsLine (status_line status) err err count count
+tells_none status err count is =
+    subst (λ line. TellsLine line err err count count) (sym (run_line status is))
     (record { part = adds_none err []; whole = inl (sym (added-nil err)) })
+
+-- nor is its status a refusal's
+pub no_refusal : (status : ℕ) → IsTrue (is_run_status status) → status ≡ 3 → ⊥
+no_refusal status is three = let bad : IsTrue (is_run_status 3) = subst (λ s. IsTrue (is_run_status s)) three is in cc

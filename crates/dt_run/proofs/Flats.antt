@@ -18,7 +18,7 @@ use Rattle.dt_base.specs.declared.image.What.{What}
 use Rattle.dt_base.specs.declared.image.What.TheVariants.{File, Dir, Link}
 use Rattle.dt_base.specs.Path.{is_path, is_top, has_no_nul, is_name, pieces_of}
 use Rattle.dt_base.specs.Image.{IsImage, is_rising, is_good_entry, is_good_what}
-use Rattle.dt_run.specs.Flat.{IsFlat, is_root_file, is_file}
+use Rattle.dt_image.specs.Flat.{IsFlat, is_root_file, is_file}
 use Rattle.dt_run.specs.Lookup.{entry_named, bytes_of}
 use Rattle.dt_run.specs.RootFile.{IsRootFile}
 

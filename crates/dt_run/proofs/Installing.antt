@@ -14,7 +14,7 @@ use Rattle.dt_host.specs.World.{World, Node, file, dir, link, node_at, file_at, 
 use Rattle.dt_host.specs.Legal.{written}
 use Rattle.dt_host.proofs.Maps.{at_insert, names_tie, get-insert_same}
 use Rattle.dt_host.proofs.Worlds.{node_at-with_node, node_at-with_node_other, node_at-with_bytes_other, file_at-with_bytes}
-use Rattle.dt_run.specs.Flat.{is_root_file}
+use Rattle.dt_image.specs.Flat.{is_root_file}
 use Rattle.dt_run.specs.Lookup.{entry_named, bytes_of}
 use Rattle.dt_run.specs.Installed.{HoldsImage, number_under, host_file, image_file}
 use Rattle.dt_run.specs.RootFile.{AddsFile}

@@ -6,8 +6,8 @@ use Rattle.dt_base.specs.Command.{Words}
 use Rattle.dt_host.specs.Store.{Files}
 use Rattle.dt_run.specs.declared.failure.Failure.{Failure}
 use Rattle.dt_run.specs.declared.failure.Failure.TheVariants.{Usage, Image}
-use Rattle.dt_run.specs.Options.{Request, request_of}
-use Rattle.dt_run.specs.ImageOf.{image_of}
+use Rattle.dt_options.specs.Options.{Request, request_of}
+use Rattle.dt_image.specs.ImageOf.{image_of}
 use Rattle.dt_run.specs.Run.{Run, run_of, report_of}
 
 -- a request's run on an image that was read, or the image's refusal

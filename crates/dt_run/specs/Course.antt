@@ -24,7 +24,7 @@ abbrev pub go_on : Turn → Option Verdict → (State → Course) → Course
 go_on t (Some verdict) rest = record { events = t.events; verdict = verdict; last = t.next }
 go_on t None rest = after t.events (rest t.next)
 
--- at most so many turns, on the tree of these entries
+-- at most so many turns, on the tree of these entries; after them the budget is spent
 unfoldable pub turns : List Entry → ℕ → State → Course
 turns entries zero s = record { events = []; verdict = Budget; last = s }
 turns entries (suc most) s = let t = turn entries s in go_on t t.verdict (turns entries most)

@@ -18,6 +18,10 @@ IsTable table = length table ≤ DESCRIPTOR_LIMIT
 abbrev pub first_table : Table
 first_table = Some Input ∷ Some (Stream 1) ∷ Some (Stream 2) ∷ []
 
+-- the table of a process that has ended: nothing is open
+abbrev pub last_table : Table
+last_table = []
+
 -- what stands at a place, where the place is there
 abbrev pub placed_there : Option (Option Description) → Option Description
 placed_there None = None

@@ -1,10 +1,8 @@
 -- The failure that an error of a part stands for.
-use Rattle.clap.specs.declared.error.kind.ErrorKind.{ErrorKind}
-use Rattle.clap.specs.declared.error.kind.ErrorKind.TheVariants.{OutOfMemory}
 use Rattle.dt_base.specs.declared.refusal.ImageErr.{ImageErr}
 use Rattle.dt_base.specs.declared.refusal.ImageErr.TheVariants.{Refused as ImageRefused, Store as StoreFailed, NoMemory as NoImageMemory}
-use Rattle.dt_run.specs.declared.options.UsageErr.{UsageErr}
-use Rattle.dt_run.specs.declared.options.UsageErr.TheVariants.{Refused as WordsRefused, NoMemory as NoWordsMemory}
+use Rattle.dt_options.specs.declared.options.UsageErr.{UsageErr}
+use Rattle.dt_options.specs.declared.options.UsageErr.TheVariants.{Refused as WordsRefused, NoMemory as NoWordsMemory}
 use Rattle.dt_run.specs.declared.error.RunErr.{RunErr}
 use Rattle.dt_run.specs.declared.error.RunErr.TheVariants.{Host as HostFailed, Sink as SinkFailed, NoMemory as NoRunMemory}
 use Rattle.dt_run.specs.declared.failure.Failure.{Failure}
@@ -26,8 +24,3 @@ abbrev pub of_run : RunErr → Failure
 of_run HostFailed = Host
 of_run SinkFailed = Output
 of_run NoRunMemory = NoMemory
-
--- of what clap says of the words before `--`
-abbrev pub of_kind : ErrorKind → UsageErr
-of_kind OutOfMemory = NoWordsMemory
-of_kind _ = WordsRefused

@@ -2,7 +2,7 @@
 use Rattle.std.specs.Prelude.{◌≡◌, ℕ, List, Option, Some, option_map}
 use Rattle.dt_base.specs.declared.image.Entry.{Entry}
 use Rattle.dt_host.specs.World.{World, file_at, entry, IsDir}
-use Rattle.dt_run.specs.Flat.{IsFlat}
+use Rattle.dt_image.specs.Flat.{IsFlat}
 use Rattle.dt_run.specs.Lookup.{entry_named, bytes_of}
 
 -- the number that the host's root has under a name

@@ -7,10 +7,10 @@ use Rattle.dt_base.specs.declared.image.What.{What}
 use Rattle.dt_base.specs.declared.image.What.TheVariants.{File, Dir, Link}
 use Rattle.dt_base.specs.Command.{Words}
 use Rattle.dt_rv64.specs.declared.machine.Machine.{Machine}
-use Rattle.dt_run.specs.declared.elf.Elf.{Elf}
-use Rattle.dt_run.specs.declared.elf.ElfErr.{ElfErr}
-use Rattle.dt_run.specs.Executable.{exe}
-use Rattle.dt_run.specs.FirstMachine.{first}
+use Rattle.dt_elf.specs.declared.elf.Elf.{Elf}
+use Rattle.dt_elf.specs.declared.elf.ElfErr.{ElfErr}
+use Rattle.dt_elf.specs.Executable.{exe}
+use Rattle.dt_elf.specs.FirstMachine.{first}
 use Rattle.dt_run.specs.Lookup.{root_name, is_dots, entry_named}
 
 -- a machine, where its pages are within the limit

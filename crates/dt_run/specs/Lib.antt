@@ -1,15 +1,8 @@
-pub mod Options
-pub mod Index
-pub mod IndexView
-pub mod Flat
-pub mod ImageOf
 pub mod Errors
 pub mod Failure
 pub mod Failures
 pub mod Installed
 pub mod RootFile
-pub mod Executable
-pub mod FirstMachine
 pub mod Lookup
 pub mod Launch
 pub mod Descriptors
@@ -19,8 +12,6 @@ pub mod Process
 pub mod Call
 pub mod Turn
 pub mod Course
-pub mod Tree
-pub mod Report
 pub mod Run
 pub mod Asked
 pub mod Statuses

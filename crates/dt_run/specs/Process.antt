@@ -21,7 +21,7 @@ ran_in p (Zombie end) = p
 unfoldable pub with_segment : Process → Process
 with_segment p = ran_in p p.phase
 
--- what the rest of a turn costs: the steps of the segment that was run
+-- what a turn costs once its segment was run: the steps of the segment
 abbrev pub cost_of : Phase → ℕ
 cost_of Owes = 0
 cost_of (Ran seg) = seg.count

@@ -11,7 +11,7 @@ use Rattle.dt_run.specs.Process.{status_of}
 use Rattle.dt_run.specs.Turn.{first_state}
 use Rattle.dt_run.specs.Course.{course}
 use Rattle.dt_run.specs.Launch.{launch}
-use Rattle.dt_run.specs.Report.{report}
+use Rattle.dt_image.specs.Report.{report}
 
 -- what a run gives: its events, its verdict, its status and its last tree
 pub record Run : Type 0 where

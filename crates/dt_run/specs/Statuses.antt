@@ -1,14 +1,16 @@
 -- What each status of the program says of what was written, and why it comes.
-use Rattle.std.specs.Prelude.{◌≡◌, ◌⊎◌, ◌||◌, ◌==◌, ℕ, Bool, List, [], Option, Result, Ok, Err, nat_le, if◌then◌else◌}
+use Rattle.std.specs.Prelude.{◌≡◌, ◌⊎◌, ◌||◌, ◌==◌, ℕ, Bool, List, [], Option, Result, Ok, Err, IfSome, nat_le, if◌then◌else◌}
 use Rattle.dt_base.specs.declared.refusal.Refusal.{Refusal}
 use Rattle.dt_host.specs.Cause.{Rose}
 use Rattle.dt_host.specs.Sink.{added, AddsPart}
+use Rattle.dt_host.specs.Store.{Files}
 use Rattle.dt_host.specs.World.{World}
 use Rattle.dt_run.specs.declared.failure.Failure.{Failure}
 use Rattle.dt_run.specs.declared.failure.Failure.TheVariants.{Usage, Image, Store, Host, Output}
 use Rattle.dt_run.specs.Failure.{failure_line}
 use Rattle.dt_run.specs.Installed.{HoldsImage}
 use Rattle.dt_run.specs.Run.{Run, report_of}
+use Rattle.dt_run.specs.Asked.{asked}
 
 -- the status of a run that was completed
 abbrev pub is_run_status : ℕ → Bool
@@ -48,16 +50,10 @@ pub record RefusesImage (asked : Result Run Failure) : Type 0 where
   pub refusal : Refusal
   pub refused : asked ≡ Err (Image refusal)
 
--- the line of a refusal
-abbrev pub refused_line : Result Run Failure → List ℕ
-refused_line (Ok run) = []
-refused_line (Err failure) = failure_line failure
-
--- the line of a status: none at 0, 1 and 10; at 7 it is any failure's (`TellsPart`)
-abbrev pub line_of : Result Run Failure → ℕ → List ℕ
-line_of asked status =
+-- the line of a status: none at 0, 1 and 10; that of an image's refusal has a number, and at 7 it is any failure's (`TellsPart`)
+abbrev pub status_line : ℕ → List ℕ
+status_line status =
     if status == 2 then failure_line Usage
-    else if status == 3 then refused_line asked
     else if status == 4 then failure_line Store
     else if status == 5 then failure_line Host
     else if status == 6 then failure_line Output
@@ -72,3 +68,9 @@ pub record TellsLine (line : List ℕ) (old new : Option (List ℕ)) (before now
 pub record TellsPart (old new : Option (List ℕ)) : Type 0 where
   pub failure : Failure
   pub part : AddsPart old new (failure_line failure)
+
+-- the line of a refusal was added, of the one that refuses the image, where the store tells its files
+pub record TellsRefusal (told : Option Files) (words : List (List ℕ)) (old new : Option (List ℕ)) (before now : ℕ) : Type 0 where
+  pub refusal : Refusal
+  pub first : IfSome told (λ files. asked files words ≡ Err (Image refusal))
+  pub line : TellsLine (failure_line (Image refusal)) old new before now

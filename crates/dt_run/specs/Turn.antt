@@ -14,7 +14,7 @@ use Rattle.dt_run.specs.declared.call.answer.Outcome.TheVariants.{Done, Ends, Un
 use Rattle.dt_run.specs.Process.{with_segment, cost_of}
 use Rattle.dt_run.specs.Served.{Served}
 use Rattle.dt_run.specs.Call.{served}
-use Rattle.dt_run.specs.Descriptors.{first_table}
+use Rattle.dt_run.specs.Descriptors.{first_table, last_table}
 
 -- the state after a turn, what showed in it, and the verdict, where it is the last
 pub record Turn : Type 0 where
@@ -30,13 +30,13 @@ first_state m budget = record { container = record { files = first_table; clock 
 abbrev pub over : State → Verdict → Turn
 over s verdict = record { next = s; events = []; verdict = Some verdict }
 
--- after its stop was served the process owes a segment; or it has ended, and so has the run; or its call isn't known, and the turn has cost its steps and changed nothing else
+-- after its stop was served the process owes a segment; or it has ended with its descriptors closed, and so has the run; or its call isn't known, and the turn has cost its steps and changed nothing else
 abbrev pub settled : State → Served → Outcome → Turn
 settled s r Done = record { next = record s { container = r.container; process = record { machine = r.machine; phase = Owes } }; events = r.events; verdict = None }
-settled s r (Ends end) = record { next = record s { container = r.container; process = record { machine = r.machine; phase = Zombie end } }; events = r.events ++ Exit 1 end ∷ []; verdict = Some Ended }
+settled s r (Ends end) = record { next = record s { container = record r.container { files = last_table }; process = record { machine = r.machine; phase = Zombie end } }; events = r.events ++ Exit 1 end ∷ []; verdict = Some Ended }
 settled s r (Unsupported number) = over s (UnsupportedCall 1 number)
 
--- the rest of a turn that was paid for; a process in another phase than Ran takes none
+-- the rest of a turn that was paid for; in another phase than Ran, which no turn of a run meets here, the run is over
 abbrev pub paid : List Entry → State → Phase → Turn
 paid entries s (Ran seg) = let r = served entries s.container s.process.machine seg.stop in settled s r r.outcome
 paid entries s Owes = over s Ended

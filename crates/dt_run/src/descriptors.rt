@@ -2,7 +2,7 @@
 ghost use Rattle.std.specs.Prelude.{◌≡◌, ◌<◌, ◌≤◌, length, Some, None, IfOk, IfSome, OnOk, IsSome, false};
 ghost use Rattle.std.specs.Option.{option_copied, is_none};
 ghost use Rattle.std.specs.List.{position};
-ghost use Rattle.dt_run.specs.Descriptors.{first_table, free_place, is_full, description_at, opened, placed};
+ghost use Rattle.dt_run.specs.Descriptors.{first_table, last_table, free_place, is_full, description_at, opened, placed};
 
 use dt_base::{Blob, NoMemory};
 use std::alloc::Global;
@@ -100,6 +100,13 @@ impl Descriptors {
         ensures { self.new ≡ placed self.old descriptor None }
     {
         self.table[descriptor as usize] = None;
+    }
+
+    /// Closes all descriptors, as the end of a process does.
+    pub fn close_all(&mut self)
+        ensures { self.new ≡ last_table }
+    {
+        self.table.clear();
     }
 
     // The lowest free number.

@@ -4,8 +4,8 @@ ghost use Rattle.dt_run.specs.Failure.{failure_status, failure_line};
 ghost use Rattle.dt_run.specs.declared.failure.Failure.TheVariants.{NoMemory as OutOfMemory};
 
 use crate::error::RunErr;
-use crate::options::UsageErr;
 use dt_base::{ImageErr, NoMemory, Refusal};
+use dt_options::UsageErr;
 
 /// Why there is no whole report, in the order in which it is found.
 #[derive(Clone, Copy, Debug, PartialEq, Eq)]

@@ -4,7 +4,7 @@ ghost use Rattle.dt_base.specs.declared.image.What.TheVariants.{File};
 ghost use Rattle.dt_base.specs.Image.{IsImage};
 ghost use Rattle.dt_host.specs.Cause.{HasCause};
 ghost use Rattle.dt_host.specs.World.{IsEmptyStart, IsDir, IsFile, content};
-ghost use Rattle.dt_run.specs.Flat.{IsFlat};
+ghost use Rattle.dt_image.specs.Flat.{IsFlat};
 ghost use Rattle.dt_run.specs.Installed.{HoldsImage, number_under};
 ghost use Rattle.dt_run.specs.RootFile.{IsRootFile, HoldsEntry, AddsFile};
 

@@ -6,11 +6,11 @@ ghost use Rattle.dt_run.specs.Installed.{HoldsImage};
 ghost use Rattle.dt_run.specs.Launch.{launched, loaded};
 ghost use Rattle.dt_run.specs.Lookup.{root_name};
 
-use crate::elf::{StartErr, read_elf, start};
 use crate::error::RunErr;
 use crate::install::read_file;
 use crate::lookup::{is_dots, root_name};
 use dt_base::{Errno, NoMemory};
+use dt_elf::{StartErr, read_elf, start};
 use dt_host::Host;
 use dt_rv64::Machine;
 use std::alloc::Global;

@@ -6,22 +6,20 @@ ghost use Rattle.dt_base.specs.Image.{IsImage};
 ghost use Rattle.dt_host.specs.Cause.{HasCause};
 ghost use Rattle.dt_host.specs.Sink.{added, AddsPart};
 ghost use Rattle.dt_host.specs.World.{IsEmptyStart};
-ghost use Rattle.dt_run.specs.Flat.{IsFlat};
+ghost use Rattle.dt_image.specs.Flat.{IsFlat};
 ghost use Rattle.dt_run.specs.Installed.{HoldsImage};
 ghost use Rattle.dt_run.specs.Launch.{launch, first_word};
-ghost use Rattle.dt_run.specs.Report.{report, header, events_text, verdict_text, place_line};
+ghost use Rattle.dt_image.specs.Report.{report, header, events_text, verdict_text, place_line};
 ghost use Rattle.dt_run.specs.Run.{run_from, run_of, report_of};
-ghost use Rattle.dt_run.specs.Tree.{tree_of};
+ghost use Rattle.dt_image.specs.Tree.{tree_of};
 
 use crate::error::RunErr;
 use crate::install::{install, read_entry};
 use crate::launch::launch;
-use crate::report::{
-    write_events, write_file_line, write_header, write_tree_header, write_verdict,
-};
 use crate::turn::{State, play};
 use dt_base::{Blob, Command, Entry, Errno, Event, Image, NoMemory, Verdict};
 use dt_host::{Gate, Host, Sink, sink_all};
+use dt_image::{write_events, write_file_line, write_header, write_tree_header, write_verdict};
 use dt_rv64::Machine;
 use std::alloc::Global;
 

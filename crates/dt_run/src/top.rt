@@ -5,17 +5,17 @@ ghost use Rattle.dt_host.specs.Cause.{HasCause};
 ghost use Rattle.dt_host.specs.Sink.{AddsPart};
 ghost use Rattle.dt_host.specs.World.{IsEmptyStart};
 ghost use Rattle.dt_run.specs.Failure.{failure_status, failure_line};
-ghost use Rattle.dt_run.specs.Options.{request_of};
+ghost use Rattle.dt_options.specs.Options.{request_of};
 ghost use Rattle.dt_run.specs.Asked.{asked, run_on, asked_report};
-ghost use Rattle.dt_run.specs.Statuses.{is_status, is_run_status, Completes, HoldsTree, RefusesImage, precedes_run, fails_run, Stayed, line_of, TellsLine, TellsPart};
-ghost use Rattle.dt_run.specs.ImageOf.{image_of};
+ghost use Rattle.dt_run.specs.Statuses.{is_status, is_run_status, Completes, HoldsTree, RefusesImage, precedes_run, fails_run, Stayed, status_line, TellsLine, TellsRefusal, TellsPart};
+ghost use Rattle.dt_image.specs.ImageOf.{image_of};
 
 use crate::error::RunErr;
 use crate::failure::Failure;
-use crate::image::read_image;
-use crate::options::{Options, read_options};
 use crate::run::run_container;
 use dt_host::{Gate, Host, Sink, SinkErr, Store, sink_all};
+use dt_image::read_image;
+use dt_options::{Options, read_options};
 use std::alloc::Global;
 
 // How many workers a run has.
@@ -66,9 +66,9 @@ pub fn dettrace<S: Store, H: Host, O: Sink, E: Sink, G: Gate>(
     ensures refused_image { Stayed (S.count store.old) (S.count store.new)
         → IfSome (S.told store.old) (λ files. RefusesImage (asked files (map string_bytes words.now)) → (result ≡ 3) ⊎ (result ≡ 7)) }
 
-    // The error stream gets the status's line, with the refusal's number; where that stream fails, a front of it.
-    ensures line { result ≢ 7 → IfSome (S.told store.old) (λ files.
-        TellsLine (line_of (asked files (map string_bytes words.now)) result) (E.told err.old) (E.told err.new) (E.count err.old) (E.count err.new)) }
+    // The error stream gets the status's line, at 3 with the refusal's number; where that stream fails, a front of it.
+    ensures line { result ≢ 3 → result ≢ 7 → TellsLine (status_line result) (E.told err.old) (E.told err.new) (E.count err.old) (E.count err.new) }
+    ensures image_line { result ≡ 3 → TellsRefusal (S.told store.old) (map string_bytes words.now) (E.told err.old) (E.told err.new) (E.count err.old) (E.count err.new) }
     ensures memory_line { result ≡ 7 → TellsPart (E.told err.old) (E.told err.new) }
 {
     match run_words(alloc, words, store, host, out, gate) {

@@ -106,6 +106,7 @@ impl State {
             }
             Outcome::Ends(end) => {
                 self.process.phase = Phase::Zombie(end);
+                self.container.files.close_all();
                 events.push(Event::Exit(FIRST, end))?;
                 Ok(Turned {
                     events,

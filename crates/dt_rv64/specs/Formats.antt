@@ -9,7 +9,7 @@ field lo n word = word / 2 ^ lo % 2 ^ n
 abbrev pub signed : ℕ → ℕ → ℤ
 signed n bits = if nat_lt bits (2 ^ (n - 1)) then pos bits else (pos bits -ℤ pos (2 ^ n))
 
--- the list in which a word stands
+-- opcode: bits 6 to 0, by which the list is chosen in which a word stands
 abbrev pub opcode : ℕ → ℕ
 opcode word = field 0 7 word
 
@@ -25,11 +25,11 @@ rs1 word = field 15 5 word
 abbrev pub rs2 : ℕ → ℕ
 rs2 word = field 20 5 word
 
--- the instruction within its list
+-- funct3: bits 14 to 12, by which an instruction is chosen within its list
 abbrev pub funct3 : ℕ → ℕ
 funct3 word = field 12 3 word
 
--- the same, further
+-- funct7: bits 31 to 25, by which it is chosen further
 abbrev pub funct7 : ℕ → ℕ
 funct7 word = field 25 7 word
 

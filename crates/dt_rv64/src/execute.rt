@@ -1,6 +1,6 @@
 // One instruction carried out, by class.
 ghost use Rattle.std.specs.Prelude.{◌≡◌};
-ghost use Rattle.dt_rv64.specs.Classes.{IsBranch, IsLoad, IsStore, IsImmediate, IsRegister, IsWord, IsMultiply, IsMultiplyWord};
+ghost use Rattle.dt_rv64.specs.Classes.{IsFrom, Branch, Load, Store, Immediate, Register, Word, Multiply, MultiplyWord};
 ghost use Rattle.dt_rv64.specs.Machine.{executed};
 
 use crate::instruction::Instr;
@@ -19,7 +19,7 @@ use crate::words::{
 use dt_space::Near;
 
 impl Machine {
-    // Carries out an instruction: here jumps and stops, and each class below hands on what is not its own.
+    /// Carries out an instruction: here jumps and stops, and each class below hands on what is not its own.
     #[tactic(auto, unfolding(crate::specs::Machine::executed))]
     pub(crate) fn execute(&mut self, instruction: Instr, data: &mut Near) -> Step
         ensures { executed self.old instruction ≡ record { step = result; machine = self.new } }
@@ -39,7 +39,7 @@ impl Machine {
     // Branches.
     #[tactic(auto, unfolding(crate::specs::Machine::executed))]
     fn branch_where(&mut self, instruction: Instr, data: &mut Near) -> Step
-        requires { IsBranch instruction }
+        requires { IsFrom Branch instruction }
         ensures { executed self.old instruction ≡ record { step = result; machine = self.new } }
     {
         match instruction {
@@ -62,7 +62,7 @@ impl Machine {
     // Loads.
     #[tactic(auto, unfolding(crate::specs::Machine::executed))]
     fn load(&mut self, instruction: Instr, data: &mut Near) -> Step
-        requires { IsLoad instruction }
+        requires { IsFrom Load instruction }
         ensures { executed self.old instruction ≡ record { step = result; machine = self.new } }
     {
         match instruction {
@@ -101,7 +101,7 @@ impl Machine {
     // Stores.
     #[tactic(auto, unfolding(crate::specs::Machine::executed))]
     fn store(&mut self, instruction: Instr, data: &mut Near) -> Step
-        requires { IsStore instruction }
+        requires { IsFrom Store instruction }
         ensures { executed self.old instruction ≡ record { step = result; machine = self.new } }
     {
         match instruction {
@@ -132,7 +132,7 @@ impl Machine {
     // Computes from an immediate.
     #[tactic(auto, unfolding(crate::specs::Machine::executed))]
     fn compute_immediate(&mut self, instruction: Instr) -> Step
-        requires { IsImmediate instruction }
+        requires { IsFrom Immediate instruction }
         ensures { executed self.old instruction ≡ record { step = result; machine = self.new } }
     {
         match instruction {
@@ -163,7 +163,7 @@ impl Machine {
     // Computes from registers.
     #[tactic(auto, unfolding(crate::specs::Machine::executed))]
     fn compute(&mut self, instruction: Instr) -> Step
-        requires { IsRegister instruction }
+        requires { IsFrom Register instruction }
         ensures { executed self.old instruction ≡ record { step = result; machine = self.new } }
     {
         match instruction {
@@ -187,7 +187,7 @@ impl Machine {
     // Computes 32 bits.
     #[tactic(auto, unfolding(crate::specs::Machine::executed))]
     fn compute_32(&mut self, instruction: Instr) -> Step
-        requires { IsWord instruction }
+        requires { IsFrom Word instruction }
         ensures { executed self.old instruction ≡ record { step = result; machine = self.new } }
     {
         match instruction {
@@ -222,7 +222,7 @@ impl Machine {
     // Multiplies and divides.
     #[tactic(auto, unfolding(crate::specs::Machine::executed))]
     fn multiply(&mut self, instruction: Instr) -> Step
-        requires { IsMultiply instruction }
+        requires { IsFrom Multiply instruction }
         ensures { executed self.old instruction ≡ record { step = result; machine = self.new } }
     {
         match instruction {
@@ -256,7 +256,7 @@ impl Machine {
     // Multiplies and divides 32 bits.
     #[tactic(auto, unfolding(crate::specs::Machine::executed))]
     fn multiply_word(&mut self, instruction: Instr) -> Step
-        requires { IsMultiplyWord instruction }
+        requires { IsFrom MultiplyWord instruction }
         ensures { executed self.old instruction ≡ record { step = result; machine = self.new } }
     {
         match instruction {

@@ -87,7 +87,7 @@ impl Machine {
         }
     }
 
-    // On to the next instruction.
+    /// Goes on to the next instruction.
     pub(crate) fn advance(&mut self) -> Step
         ensures { passed self.old ≡ record { step = result; machine = self.new } }
     {
@@ -95,7 +95,7 @@ impl Machine {
         Step::Ran
     }
 
-    // Writes a register.
+    /// Writes a register.
     pub(crate) fn put(&mut self, rd: u8, value: u64) -> Step
         ensures { wrote self.old rd value ≡ record { step = result; machine = self.new } }
     {
@@ -104,7 +104,7 @@ impl Machine {
         Step::Ran
     }
 
-    // Jumps, and keeps the address after the jump.
+    /// Jumps, and keeps the address after the jump.
     pub(crate) fn jump(&mut self, rd: u8, target: u64) -> Step
         ensures { jumped self.old rd target ≡ record { step = result; machine = self.new } }
     {
@@ -116,7 +116,7 @@ impl Machine {
         Step::Ran
     }
 
-    // Jumps to an offset from what a register held before the jump, with bit 0 cleared.
+    /// Jumps to an offset from what a register held before the jump, with bit 0 cleared.
     pub(crate) fn jump_register(&mut self, rd: u8, rs1: u8, imm: i64) -> Step
         ensures { jumped self.old rd (even (address self.old rs1 imm)) ≡ record { step = result; machine = self.new } }
     {
@@ -124,7 +124,7 @@ impl Machine {
         self.jump(rd, target)
     }
 
-    // Jumps by an offset where the branch is taken.
+    /// Jumps by an offset where the branch is taken.
     pub(crate) fn branch(&mut self, taken: bool, offset: i64) -> Step
         ensures { branched self.old taken (relative self.old offset) ≡ record { step = result; machine = self.new } }
     {

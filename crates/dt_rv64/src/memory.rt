@@ -8,14 +8,14 @@ use crate::words::{extended_8, extended_16, extended_32};
 use dt_space::{Miss, Near};
 
 impl Machine {
-    // The address of a load or a store.
+    /// The address of a load or a store.
     pub(crate) fn address(&self, rs1: u8, imm: i64) -> u64
         ensures { result ≡ address self.now rs1 imm }
     {
         self.reg(rs1).wrapping_add_signed(imm)
     }
 
-    // Loads a register with what was read.
+    /// Loads a register with what was read.
     pub(crate) fn fill(&mut self, rd: u8, read: Result<u64, Miss>) -> Step
         ensures { filled self.old rd read ≡ record { step = result; machine = self.new } }
     {
@@ -25,7 +25,7 @@ impl Machine {
         }
     }
 
-    // Stores a byte.
+    /// Stores a byte.
     pub(crate) fn store_1(&mut self, data: &mut Near, address: u64, value: u64) -> Step
         ensures { put_at self.old address 1 value ≡ record { step = result; machine = self.new } }
     {
@@ -35,7 +35,7 @@ impl Machine {
         }
     }
 
-    // Stores two bytes.
+    /// Stores two bytes.
     pub(crate) fn store_2(&mut self, data: &mut Near, address: u64, value: u64) -> Step
         ensures { put_at self.old address 2 value ≡ record { step = result; machine = self.new } }
     {
@@ -45,7 +45,7 @@ impl Machine {
         }
     }
 
-    // Stores four bytes.
+    /// Stores four bytes.
     pub(crate) fn store_4(&mut self, data: &mut Near, address: u64, value: u64) -> Step
         ensures { put_at self.old address 4 value ≡ record { step = result; machine = self.new } }
     {
@@ -55,7 +55,7 @@ impl Machine {
         }
     }
 
-    // Stores eight bytes.
+    /// Stores eight bytes.
     pub(crate) fn store_8(&mut self, data: &mut Near, address: u64, value: u64) -> Step
         ensures { put_at self.old address 8 value ≡ record { step = result; machine = self.new } }
     {
@@ -66,7 +66,7 @@ impl Machine {
     }
 }
 
-// The lowest 8 bits of what was read, sign-extended.
+/// The lowest 8 bits of what was read, sign-extended.
 pub fn signed_8(read: Result<u64, Miss>) -> Result<u64, Miss>
     ensures { result ≡ extended_read 8 read }
 {
@@ -76,7 +76,7 @@ pub fn signed_8(read: Result<u64, Miss>) -> Result<u64, Miss>
     }
 }
 
-// The lowest 16 bits of what was read, sign-extended.
+/// The lowest 16 bits of what was read, sign-extended.
 pub fn signed_16(read: Result<u64, Miss>) -> Result<u64, Miss>
     ensures { result ≡ extended_read 16 read }
 {
@@ -86,7 +86,7 @@ pub fn signed_16(read: Result<u64, Miss>) -> Result<u64, Miss>
     }
 }
 
-// The lowest 32 bits of what was read, sign-extended.
+/// The lowest 32 bits of what was read, sign-extended.
 pub fn signed_32(read: Result<u64, Miss>) -> Result<u64, Miss>
     ensures { result ≡ extended_read 32 read }
 {

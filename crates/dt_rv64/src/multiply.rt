@@ -22,7 +22,7 @@ fn upper_half(product: u128) -> u64
     (product >> 64) as u64
 }
 
-// The upper half of the product, both signed.
+/// The upper half of the product, both signed.
 #[tactic(auto, using(crate::proofs::Products::high_products))]
 pub fn multiply_high(a: u64, b: u64) -> u64
     ensures { result ≡ mulh a b }
@@ -30,7 +30,7 @@ pub fn multiply_high(a: u64, b: u64) -> u64
     upper_half(widened(a).wrapping_mul(widened(b)))
 }
 
-// The upper half of the product, the first signed.
+/// The upper half of the product, the first signed.
 #[tactic(auto, using(crate::proofs::Products::high_products))]
 pub fn multiply_high_mixed(a: u64, b: u64) -> u64
     ensures { result ≡ mulhsu a b }
@@ -38,14 +38,14 @@ pub fn multiply_high_mixed(a: u64, b: u64) -> u64
     upper_half(widened(a).wrapping_mul(u128::from(b)))
 }
 
-// The upper half of the product.
+/// The upper half of the product.
 pub fn multiply_high_unsigned(a: u64, b: u64) -> u64
     ensures { result ≡ mulhu a b }
 {
     upper_half(u128::from(a) * u128::from(b))
 }
 
-// The signed quotient; all ones by zero.
+/// The signed quotient; all ones by zero.
 pub fn divide(a: u64, b: u64) -> u64
     ensures { result ≡ div a b }
 {
@@ -58,7 +58,7 @@ pub fn divide(a: u64, b: u64) -> u64
     }
 }
 
-// The quotient; all ones by zero.
+/// The quotient; all ones by zero.
 pub fn divide_unsigned(a: u64, b: u64) -> u64
     ensures { result ≡ divu a b }
 {
@@ -68,7 +68,7 @@ pub fn divide_unsigned(a: u64, b: u64) -> u64
     }
 }
 
-// The signed remainder; the dividend by zero.
+/// The signed remainder; the dividend by zero.
 pub fn remainder(a: u64, b: u64) -> u64
     ensures { result ≡ rem a b }
 {
@@ -81,7 +81,7 @@ pub fn remainder(a: u64, b: u64) -> u64
     }
 }
 
-// The remainder; the dividend by zero.
+/// The remainder; the dividend by zero.
 pub fn remainder_unsigned(a: u64, b: u64) -> u64
     ensures { result ≡ remu a b }
 {
@@ -91,14 +91,14 @@ pub fn remainder_unsigned(a: u64, b: u64) -> u64
     }
 }
 
-// The product of 32 bits.
+/// The product of 32 bits.
 pub fn multiply_32(a: u64, b: u64) -> u64
     ensures { result ≡ mulw a b }
 {
     extended_32(a.wrapping_mul(b))
 }
 
-// The signed quotient of 32 bits; all ones by zero.
+/// The signed quotient of 32 bits; all ones by zero.
 pub fn divide_32(a: u64, b: u64) -> u64
     ensures { result ≡ divw a b }
 {
@@ -118,7 +118,7 @@ fn quotient_32(a: u32, b: u32) -> u32
         .cast_unsigned()
 }
 
-// The quotient of 32 bits; all ones by zero.
+/// The quotient of 32 bits; all ones by zero.
 pub fn divide_unsigned_32(a: u64, b: u64) -> u64
     ensures { result ≡ divuw a b }
 {
@@ -128,7 +128,7 @@ pub fn divide_unsigned_32(a: u64, b: u64) -> u64
     }
 }
 
-// The signed remainder of 32 bits; the dividend by zero.
+/// The signed remainder of 32 bits; the dividend by zero.
 pub fn remainder_32(a: u64, b: u64) -> u64
     ensures { result ≡ remw a b }
 {
@@ -141,7 +141,7 @@ pub fn remainder_32(a: u64, b: u64) -> u64
     }
 }
 
-// The remainder of 32 bits; the dividend by zero.
+/// The remainder of 32 bits; the dividend by zero.
 pub fn remainder_unsigned_32(a: u64, b: u64) -> u64
     ensures { result ≡ remuw a b }
 {

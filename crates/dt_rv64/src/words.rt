@@ -2,14 +2,14 @@
 ghost use Rattle.std.specs.Prelude.{◌≡◌, ◌%◌, ◌^◌};
 ghost use Rattle.dt_rv64.specs.Words.{extended, slt, sltu, sll, srl, sra, addw, subw, sllw, srlw, sraw};
 
-// The lowest 32 bits.
+/// The lowest 32 bits.
 pub fn low_32(a: u64) -> u32
     ensures { result ≡ a % 2 ^ 32 }
 {
     (a & 0xffff_ffff) as u32
 }
 
-// The lowest byte, sign-extended.
+/// The lowest byte, sign-extended.
 pub fn extended_8(a: u64) -> u64
     ensures { result ≡ extended 8 a }
 {
@@ -17,7 +17,7 @@ pub fn extended_8(a: u64) -> u64
     i64::from(low.cast_signed()).cast_unsigned()
 }
 
-// The lowest 16 bits, sign-extended.
+/// The lowest 16 bits, sign-extended.
 pub fn extended_16(a: u64) -> u64
     ensures { result ≡ extended 16 a }
 {
@@ -25,14 +25,14 @@ pub fn extended_16(a: u64) -> u64
     i64::from(low.cast_signed()).cast_unsigned()
 }
 
-// The lowest 32 bits, sign-extended.
+/// The lowest 32 bits, sign-extended.
 pub fn extended_32(a: u64) -> u64
     ensures { result ≡ extended 32 a }
 {
     i64::from(low_32(a).cast_signed()).cast_unsigned()
 }
 
-// 1 where a is less than b, both signed.
+/// 1 where a is less than b, both signed.
 pub fn less(a: u64, b: u64) -> u64
     ensures { result ≡ slt a b }
 {
@@ -43,7 +43,7 @@ pub fn less(a: u64, b: u64) -> u64
     }
 }
 
-// 1 where a is less than b.
+/// 1 where a is less than b.
 pub fn less_unsigned(a: u64, b: u64) -> u64
     ensures { result ≡ sltu a b }
 {
@@ -64,56 +64,56 @@ fn distance_32(b: u64) -> u32
     (b & 31) as u32
 }
 
-// Shift left.
+/// Shift left.
 pub fn left(a: u64, b: u64) -> u64
     ensures { result ≡ sll a b }
 {
     a << distance(b)
 }
 
-// Shift right, zeros from above.
+/// Shift right, zeros from above.
 pub fn right(a: u64, b: u64) -> u64
     ensures { result ≡ srl a b }
 {
     a >> distance(b)
 }
 
-// Shift right, the sign from above.
+/// Shift right, the sign from above.
 pub fn right_signed(a: u64, b: u64) -> u64
     ensures { result ≡ sra a b }
 {
     (a.cast_signed() >> distance(b)).cast_unsigned()
 }
 
-// The sum of 32 bits.
+/// The sum of 32 bits.
 pub fn add_32(a: u64, b: u64) -> u64
     ensures { result ≡ addw a b }
 {
     extended_32(a.wrapping_add(b))
 }
 
-// The difference of 32 bits.
+/// The difference of 32 bits.
 pub fn subtract_32(a: u64, b: u64) -> u64
     ensures { result ≡ subw a b }
 {
     extended_32(a.wrapping_sub(b))
 }
 
-// Shift left of 32 bits.
+/// Shift left of 32 bits.
 pub fn left_32(a: u64, b: u64) -> u64
     ensures { result ≡ sllw a b }
 {
     extended_32(u64::from(low_32(a)) << distance_32(b))
 }
 
-// Shift right of 32 bits, zeros from above.
+/// Shift right of 32 bits, zeros from above.
 pub fn right_32(a: u64, b: u64) -> u64
     ensures { result ≡ srlw a b }
 {
     extended_32(u64::from(low_32(a) >> distance_32(b)))
 }
 
-// Shift right of 32 bits, the sign from above.
+/// Shift right of 32 bits, the sign from above.
 pub fn right_signed_32(a: u64, b: u64) -> u64
     ensures { result ≡ sraw a b }
 {

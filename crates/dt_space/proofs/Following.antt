@@ -3,7 +3,7 @@ use Rattle.std.proofs.Common.{◌≡◌, ℕ, zero, suc, ◌+◌, ◌-◌, ◌<�
 use Rattle.std.proofs.lemmas.List.{length-append, length-replicate, length-take, append_assoc, append-nil, get_or_append_left, get_or-append_right, take_min, drop_min, drop-replicate}
 use Rattle.std.proofs.lemmas.Bool.{cases_lt}
 use Rattle.dt_base.specs.declared.limits.TheConstants.{PAGE_SIZE, PAGE_LIMIT}
-use Rattle.dt_space.specs.Space.{PageView, number_at, size_at, IsSpace}
+use Rattle.dt_space.specs.Space.{PageView, granted, number_at, rights_at, size_at, IsSpace}
 use Rattle.dt_space.specs.Pages.{filled, pages_from, EndsBelow}
 
 -- bytes written over the first zeros of a page
@@ -42,6 +42,12 @@ number_at-pages_from number rights contents zero i lt = absurd (omega (arith, lt
 number_at-pages_from number rights contents (suc count) zero lt = omega arith
 number_at-pages_from number rights contents (suc count) (suc i) lt = omega (arith, number_at-pages_from (number + 1) rights (drop PAGE_SIZE contents) count i (omega (arith, lt)))
 
+rights_at-pages_from : (number rights : ℕ) (contents : List ℕ) (count i : ℕ) → i < count → rights_at (pages_from number rights contents count) i ≡ rights
+unfolding pages_from
+rights_at-pages_from number rights contents zero i lt = absurd (omega (arith, lt))
+rights_at-pages_from number rights contents (suc count) zero lt = refl
+rights_at-pages_from number rights contents (suc count) (suc i) lt = rights_at-pages_from (number + 1) rights (drop PAGE_SIZE contents) count i (omega (arith, lt))
+
 size-filled : (bytes : List ℕ) → length bytes ≤ PAGE_SIZE → length (filled bytes) ≡ PAGE_SIZE
 unfolding filled
 size-filled bytes le = omega (arith, le, length-append bytes (replicate (PAGE_SIZE - length bytes) 0), length-replicate {A = ℕ} (PAGE_SIZE - length bytes) 0)
@@ -67,14 +73,20 @@ module _ (pages : List PageView) (space : IsSpace pages) (first rights : ℕ) (c
   there : (i : ℕ) → length pages ≤ i → i < length pages + count → number_at (pages ++ pages_from first rights contents count) i ≡ first + (i - length pages)
   there i le lt = ap (λ (page : PageView). page.number) (get_or-append_right pages _ (length pages) i (record { number = 0; rights = 0; bytes = [] }) refl le) ∙ number_at-pages_from first rights contents count (i - length pages) (omega arith)
 
+  rights-here : (i : ℕ) → i < length pages → rights_at (pages ++ pages_from first rights contents count) i ≡ rights_at pages i
+  rights-here i lt = ap (λ (page : PageView). page.rights) (get_or_append_left pages _ (record { number = 0; rights = 0; bytes = [] }) i lt)
+
+  rights-there : (i : ℕ) → length pages ≤ i → i < length pages + count → rights_at (pages ++ pages_from first rights contents count) i ≡ rights
+  rights-there i le lt = ap (λ (page : PageView). page.rights) (get_or-append_right pages _ (length pages) i (record { number = 0; rights = 0; bytes = [] }) refl le) ∙ rights_at-pages_from first rights contents count (i - length pages) (omega arith)
+
   whole-here : (i : ℕ) → i < length pages → size_at (pages ++ pages_from first rights contents count) i ≡ size_at pages i
   whole-here i lt = ap (λ (page : PageView). length page.bytes) (get_or_append_left pages _ (record { number = 0; rights = 0; bytes = [] }) i lt)
 
   whole-there : (i : ℕ) → length pages ≤ i → i < length pages + count → size_at (pages ++ pages_from first rights contents count) i ≡ PAGE_SIZE
   whole-there i le lt = ap (λ (page : PageView). length page.bytes) (get_or-append_right pages _ (length pages) i (record { number = 0; rights = 0; bytes = [] }) refl le) ∙ size_at-pages_from first rights contents count (i - length pages) (omega arith)
 
-  pub IsSpace-more : first + count ≤ 2 ^ 26 → length pages + count ≤ PAGE_LIMIT → IsSpace (pages ++ pages_from first rights contents count)
-  IsSpace-more low few = record { rising = rising; low = is_low; whole = is_whole; few = omega (arith, long) }
+  pub IsSpace-more : granted rights ≡ rights → first + count ≤ 2 ^ 26 → length pages + count ≤ PAGE_LIMIT → IsSpace (pages ++ pages_from first rights contents count)
+  IsSpace-more given low few = record { rising = rising; low = is_low; rights = are_given; whole = is_whole; few = omega (arith, long) }
     where
       rising : (i j : ℕ) → i < j → j < length (pages ++ pages_from first rights contents count) → number_at (pages ++ pages_from first rights contents count) i < number_at (pages ++ pages_from first rights contents count) j
       rising i j lt within = elim (cases_lt j (length pages)) [
@@ -89,6 +101,12 @@ module _ (pages : List PageView) (space : IsSpace pages) (first rights : ℕ) (c
       is_low i within = elim (cases_lt i (length pages)) [
         | inl front ↦ omega (arith, here i front, space.low i front)
         | inr back ↦ omega (arith, there i back (omega (arith, long)), long)
+      ]
+
+      are_given : (i : ℕ) → i < length (pages ++ pages_from first rights contents count) → granted (rights_at (pages ++ pages_from first rights contents count) i) ≡ rights_at (pages ++ pages_from first rights contents count) i
+      are_given i within = elim (cases_lt i (length pages)) [
+        | inl front ↦ rw (rights-here i front) (space.rights i front)
+        | inr back ↦ rw (rights-there i back (omega (arith, within, long))) given
       ]
 
       is_whole : (i : ℕ) → i < length (pages ++ pages_from first rights contents count) → size_at (pages ++ pages_from first rights contents count) i ≡ PAGE_SIZE
@@ -114,4 +132,4 @@ first-pages-length pages first rights contents count is = ap length is ∙ lengt
 
 -- the space without a page
 pub IsSpace-nil : IsSpace []
-IsSpace-nil = record { rising = λ i j lt within. absurd (omega (arith, within)); low = λ i within. absurd (omega (arith, within)); whole = λ i within. absurd (omega (arith, within)); few = omega arith }
+IsSpace-nil = record { rising = λ i j lt within. absurd (omega (arith, within)); low = λ i within. absurd (omega (arith, within)); rights = λ i within. absurd (omega (arith, within)); whole = λ i within. absurd (omega (arith, within)); few = omega arith }

@@ -1,12 +1,12 @@
 -- Which page has a number after a range of pages was changed.
-use Rattle.std.proofs.Common.{◌≡◌, ◌≢◌, ℕ, zero, suc, ◌<◌, ◌≤◌, ◌+◌, ◌⊎◌, inl, inr, List, [], ◌∷◌, ◌++◌, map, replicate, Bool, true, false, cond, not, eqb, ltb, leb, ne_eqb, eqb-true, Option, Some, None, option_map, refl, sym, ap, ◌∙◌, arith}
+use Rattle.std.proofs.Common.{◌≡◌, ◌≢◌, ℕ, zero, suc, ◌<◌, ◌≤◌, ◌+◌, ◌⊎◌, inl, inr, List, [], ◌∷◌, ◌++◌, map, replicate, Bool, true, false, cond, not, eqb, ltb, leb, ne_eqb, Option, Some, None, option_map, refl, sym, ap, ◌∙◌, arith}
 use Rattle.std.specs.List.{filter}
 use Rattle.std.proofs.lemmas.Bool.{cases_lt}
 use Rattle.std.proofs.lemmas.Bool.Decides.{eqb_tells, nat_tests}
 use Rattle.dt_base.specs.declared.limits.TheConstants.{PAGE_SIZE}
-use Rattle.dt_space.specs.Space.{PageView, page_at}
+use Rattle.dt_space.specs.Space.{PageView, granted, page_at}
 use Rattle.dt_space.specs.Pages.{filled, pages_from}
-use Rattle.dt_space.specs.Ranges.{granted, is_in, mapped, unmapped, with_rights, protected}
+use Rattle.dt_space.specs.Ranges.{is_in, mapped, unmapped, with_rights, protected}
 use Rattle.dt_space.specs.RangeLaws.{KeepsOthers, HasZeros, HasNone, HasRights, given}
 
 -- the first of two

@@ -3,6 +3,7 @@ pub mod Loads
 pub mod Writes
 pub mod Kept
 pub mod Numbers
+pub mod Rights
 pub mod Following
 pub mod Texts
 pub mod Mapped

@@ -11,11 +11,12 @@ use Rattle.std.proofs.lemmas.List.Folds.{list_any_at, list_any_none}
 use Rattle.std.proofs.lemmas.List.Sorted.{IsNonDecreasingBy-from_default}
 use Rattle.dt_base.specs.declared.limits.TheConstants.{PAGE_SIZE, PAGE_LIMIT}
 use Rattle.dt_space.specs.declared.refusal.MapErr.TheVariants.{Busy, Full}
-use Rattle.dt_space.specs.Space.{PageView, number_at, size_at, IsSpace, page_at}
+use Rattle.dt_space.specs.Space.{PageView, granted, number_at, rights_at, size_at, IsSpace, page_at}
 use Rattle.dt_space.specs.Pages.{pages_from, EndsBelow}
-use Rattle.dt_space.specs.Ranges.{granted, is_in, map_refusal, mapped, first_missing, with_rights}
+use Rattle.dt_space.specs.Ranges.{is_in, map_refusal, mapped, first_missing, with_rights}
 use Rattle.dt_space.specs.Place.{IsPlaceOf}
 use Rattle.dt_space.specs.Gap.{IsLower, IsGap}
+use Rattle.dt_space.proofs.Rights.{granted-granted}
 use Rattle.dt_space.proofs.Following.{IsSpace-more, EndsBelow-more, length-pages_from}
 
 abbrev none : PageView
@@ -122,6 +123,7 @@ pub IsSpace-filter : (test : PageView → Bool) (pages : List PageView) → IsSp
 IsSpace-filter test pages space = record {
   rising = λ i j lt within. rise i j none lt within;
   low = λ i within. low i none within;
+  rights = λ i within. rights i none within;
   whole = λ i within. whole i none within;
   few = omega (arith, fewer test pages, space.few);
 }
@@ -131,6 +133,9 @@ IsSpace-filter test pages space = record {
 
     low : All (λ (x : PageView). x.number < 2 ^ 26) (filter test pages)
     low = All-filter test (λ (x : PageView). x.number < 2 ^ 26) pages (λ i d within. rw (get_or_default pages i d none within) (space.low i within))
+
+    rights : All (λ (x : PageView). granted x.rights ≡ x.rights) (filter test pages)
+    rights = All-filter test (λ (x : PageView). granted x.rights ≡ x.rights) pages (λ i d within. rw (get_or_default pages i d none within) (space.rights i within))
 
     whole : All (λ (x : PageView). length x.bytes ≡ PAGE_SIZE) (filter test pages)
     whole = All-filter test (λ (x : PageView). length x.bytes ≡ PAGE_SIZE) pages (λ i d within. rw (get_or_default pages i d none within) (space.whole i within))
@@ -148,12 +153,26 @@ protected-at first count rights [] i lt = absurd (omega (arith, lt))
 protected-at first count rights (x ∷ pages) zero lt = rights-number first count rights x
 protected-at first count rights (x ∷ pages) (suc i) lt = protected-at first count rights pages i (omega (arith, lt))
 
-pub IsSpace-protected : (first count rights : ℕ) (pages : List PageView) → IsSpace pages → IsSpace (map (with_rights first count rights) pages)
-IsSpace-protected first count rights pages space =
+-- and the rights that it had or was given
+page-rights : (first count rights : ℕ) (page : PageView) → granted rights ≡ rights → granted page.rights ≡ page.rights → granted (with_rights first count rights page).rights ≡ (with_rights first count rights page).rights
+page-rights first count rights page given had = by-test (is_in first count page.number) refl
+  where
+    by-test : (b : Bool) → is_in first count page.number ≡ b → granted (with_rights first count rights page).rights ≡ (with_rights first count rights page).rights
+    by-test true is = rw is given
+    by-test false is = rw is had
+
+rights-protected : (first count rights : ℕ) (pages : List PageView) → granted rights ≡ rights → ((i : ℕ) → i < length pages → granted (rights_at pages i) ≡ rights_at pages i) → (i : ℕ) → i < length pages → granted (rights_at (map (with_rights first count rights) pages) i) ≡ rights_at (map (with_rights first count rights) pages) i
+rights-protected first count rights [] given had i lt = absurd (omega (arith, lt))
+rights-protected first count rights (x ∷ pages) given had zero lt = page-rights first count rights x given (had 0 lt)
+rights-protected first count rights (x ∷ pages) given had (suc i) lt = rights-protected first count rights pages given (λ j within. had (suc j) (omega (arith, within))) i (omega (arith, lt))
+
+pub IsSpace-protected : (first count rights : ℕ) (pages : List PageView) → granted rights ≡ rights → IsSpace pages → IsSpace (map (with_rights first count rights) pages)
+IsSpace-protected first count rights pages given space =
     let long : length (map (with_rights first count rights) pages) ≡ length pages = length-map pages (with_rights first count rights) in
     record {
       rising = λ i j lt within. omega (arith, (protected-at first count rights pages i (omega (arith, lt, within, long))).0, (protected-at first count rights pages j (omega (arith, within, long))).0, space.rising i j lt (omega (arith, within, long)));
       low = λ i within. omega (arith, (protected-at first count rights pages i (omega (arith, within, long))).0, space.low i (omega (arith, within, long)));
+      rights = λ i within. rights-protected first count rights pages given space.rights i (omega (arith, within, long));
       whole = λ i within. (protected-at first count rights pages i (omega (arith, within, long))).1 ∙ space.whole i (omega (arith, within, long));
       few = omega (arith, long, space.few);
     }
@@ -179,17 +198,23 @@ module _ (front back : List PageView) (bound : ℕ) (lower : IsSpace front) (upp
   left-number : (i : ℕ) → i < length front → number_at (front ++ back) i ≡ number_at front i
   left-number i lt = ap (λ (page : PageView). page.number) (get_or_append_left front back none i lt)
 
+  left-rights : (i : ℕ) → i < length front → rights_at (front ++ back) i ≡ rights_at front i
+  left-rights i lt = ap (λ (page : PageView). page.rights) (get_or_append_left front back none i lt)
+
   left-size : (i : ℕ) → i < length front → size_at (front ++ back) i ≡ size_at front i
   left-size i lt = ap (λ (page : PageView). length page.bytes) (get_or_append_left front back none i lt)
 
   right-number : (i : ℕ) → length front ≤ i → number_at (front ++ back) i ≡ number_at back (i - length front)
   right-number i le = ap (λ (page : PageView). page.number) (get_or-append_right front back (length front) i none refl le)
 
+  right-rights : (i : ℕ) → length front ≤ i → rights_at (front ++ back) i ≡ rights_at back (i - length front)
+  right-rights i le = ap (λ (page : PageView). page.rights) (get_or-append_right front back (length front) i none refl le)
+
   right-size : (i : ℕ) → length front ≤ i → size_at (front ++ back) i ≡ size_at back (i - length front)
   right-size i le = ap (λ (page : PageView). length page.bytes) (get_or-append_right front back (length front) i none refl le)
 
   IsSpace-append : length front + length back ≤ PAGE_LIMIT → IsSpace (front ++ back)
-  IsSpace-append few = record { rising = rising; low = low; whole = whole; few = omega (arith, long) }
+  IsSpace-append few = record { rising = rising; low = low; rights = rights; whole = whole; few = omega (arith, long) }
     where
       rising : (i j : ℕ) → i < j → j < length (front ++ back) → number_at (front ++ back) i < number_at (front ++ back) j
       rising i j lt within = elim (cases_lt j (length front)) [
@@ -204,6 +229,12 @@ module _ (front back : List PageView) (bound : ℕ) (lower : IsSpace front) (upp
       low i within = elim (cases_lt i (length front)) [
         | inl first ↦ omega (arith, left-number i first, lower.low i first)
         | inr other ↦ omega (arith, right-number i other, upper.low (i - length front) (omega (arith, within, long, other)))
+      ]
+
+      rights : (i : ℕ) → i < length (front ++ back) → granted (rights_at (front ++ back) i) ≡ rights_at (front ++ back) i
+      rights i within = elim (cases_lt i (length front)) [
+        | inl first ↦ rw (left-rights i first) (lower.rights i first)
+        | inr other ↦ rw (right-rights i other) (upper.rights (i - length front) (omega (arith, within, long, other)))
       ]
 
       whole : (i : ℕ) → i < length (front ++ back) → size_at (front ++ back) i ≡ PAGE_SIZE
@@ -250,11 +281,17 @@ module _ (pages : List PageView) (space : IsSpace pages) (first count place righ
   front-number : (i : ℕ) → i < place → number_at (take place pages) i ≡ number_at pages i
   front-number i lt = ap (λ (page : PageView). page.number) (get_or-take place pages i none lt)
 
+  front-rights : (i : ℕ) → i < place → rights_at (take place pages) i ≡ rights_at pages i
+  front-rights i lt = ap (λ (page : PageView). page.rights) (get_or-take place pages i none lt)
+
   front-size : (i : ℕ) → i < place → size_at (take place pages) i ≡ size_at pages i
   front-size i lt = ap (λ (page : PageView). length page.bytes) (get_or-take place pages i none lt)
 
   back-number : (i : ℕ) → number_at (drop place pages) i ≡ number_at pages (place + i)
   back-number i = ap (λ (page : PageView). page.number) (get_or-drop place pages i none)
+
+  back-rights : (i : ℕ) → rights_at (drop place pages) i ≡ rights_at pages (place + i)
+  back-rights i = ap (λ (page : PageView). page.rights) (get_or-drop place pages i none)
 
   back-size : (i : ℕ) → size_at (drop place pages) i ≡ size_at pages (place + i)
   back-size i = ap (λ (page : PageView). length page.bytes) (get_or-drop place pages i none)
@@ -263,6 +300,7 @@ module _ (pages : List PageView) (space : IsSpace pages) (first count place righ
   front-space = record {
     rising = λ i j lt within. omega (arith, long-front, within, front-number i (omega (arith, lt, within, long-front)), front-number j (omega (arith, within, long-front)), space.rising i j lt (omega (arith, within, long-front, gap.within)));
     low = λ i within. omega (arith, front-number i (omega (arith, within, long-front)), space.low i (omega (arith, within, long-front, gap.within)));
+    rights = λ i within. rw (front-rights i (omega (arith, within, long-front))) (space.rights i (omega (arith, within, long-front, gap.within)));
     whole = λ i within. front-size i (omega (arith, within, long-front)) ∙ space.whole i (omega (arith, within, long-front, gap.within));
     few = omega (arith, long-front, gap.within, space.few);
   }
@@ -271,6 +309,7 @@ module _ (pages : List PageView) (space : IsSpace pages) (first count place righ
   back-space = record {
     rising = λ i j lt within. omega (arith, back-number i, back-number j, space.rising (place + i) (place + j) (omega (arith, lt)) (omega (arith, within, long-back, gap.within)));
     low = λ i within. omega (arith, back-number i, space.low (place + i) (omega (arith, within, long-back, gap.within)));
+    rights = λ i within. rw (back-rights i) (space.rights (place + i) (omega (arith, within, long-back, gap.within)));
     whole = λ i within. back-size i ∙ space.whole (place + i) (omega (arith, within, long-back, gap.within));
     few = omega (arith, long-back, space.few);
   }
@@ -279,7 +318,7 @@ module _ (pages : List PageView) (space : IsSpace pages) (first count place righ
   front-below i within = omega (arith, front-number i (omega (arith, within, long-front)), gap.below i (omega (arith, within, long-front)))
 
   fresh-space : IsSpace (take place pages ++ pages_from first (granted rights) [] count)
-  fresh-space = IsSpace-more (take place pages) front-space first (granted rights) [] count front-below gap.low (omega (arith, long-front, gap.within, gap.few))
+  fresh-space = IsSpace-more (take place pages) front-space first (granted rights) [] count front-below (granted-granted rights) gap.low (omega (arith, long-front, gap.within, gap.few))
 
   fresh-below : EndsBelow (take place pages ++ pages_from first (granted rights) [] count) (first + count)
   fresh-below = EndsBelow-more (take place pages) front-space first (granted rights) [] count front-below (first + count) (omega arith)

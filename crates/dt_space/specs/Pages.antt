@@ -7,7 +7,7 @@ use Rattle.dt_space.specs.Space.{PageView, number_at}
 unfoldable pub filled : List ℕ → List ℕ
 filled bytes = bytes ++ replicate (PAGE_SIZE - length bytes) 0
 
--- so many pages from a number on
+-- so many pages from a number on, with these rights, the contents running through them
 unfoldable pub pages_from : ℕ → ℕ → List ℕ → ℕ → List PageView
 pages_from number rights contents zero = []
 pages_from number rights contents (suc count) = record { number = number; rights = rights; bytes = filled (take PAGE_SIZE contents) } ∷ pages_from (number + 1) rights (drop PAGE_SIZE contents) count

@@ -1,16 +1,11 @@
 -- Ranges of pages that are mapped, unmapped, or given other rights.
-use Rattle.std.specs.Prelude.{◌≡◌, ℕ, zero, suc, ◌+◌, ◌%◌, ◌^◌, List, [], ◌++◌, map, length, Bool, not, ◌&&◌, ◌||◌, ◌==◌, nat_lt, nat_le, bit_or, Option, Some, None, is_some, if◌then◌else◌}
+use Rattle.std.specs.Prelude.{◌≡◌, ℕ, zero, suc, ◌+◌, ◌^◌, List, [], ◌++◌, map, length, Bool, not, ◌&&◌, ◌||◌, ◌==◌, nat_lt, nat_le, Option, Some, None, is_some, if◌then◌else◌}
 use Rattle.std.specs.List.{filter, list_any}
 use Rattle.dt_base.specs.declared.limits.TheConstants.{PAGE_LIMIT}
-use Rattle.dt_space.specs.declared.access.TheConstants.{READ, WRITE}
 use Rattle.dt_space.specs.declared.refusal.MapErr.{MapErr}
 use Rattle.dt_space.specs.declared.refusal.MapErr.TheVariants.{Busy, Full, BadRange, NoMemory}
-use Rattle.dt_space.specs.Space.{PageView, has, page_at}
+use Rattle.dt_space.specs.Space.{PageView, granted, page_at}
 use Rattle.dt_space.specs.Pages.{pages_from}
-
--- the rights that are given for these: the low three bits, and with the right to write that to read
-abbrev pub granted : ℕ → ℕ
-granted rights = if has (rights % 8) WRITE then bit_or (rights % 8) READ else rights % 8
 
 -- the number is one of the range's
 abbrev pub is_in : ℕ → ℕ → ℕ → Bool
@@ -45,6 +40,6 @@ first_missing pages first (suc count) = if is_some (page_at pages first) then fi
 abbrev pub with_rights : ℕ → ℕ → ℕ → PageView → PageView
 with_rights first count rights page = if is_in first count page.number then record page { rights = rights } else page
 
--- the pages with these rights in a range
+-- the pages, those of a range with the rights that are given for these
 abbrev pub protected : List PageView → ℕ → ℕ → ℕ → List PageView
 protected pages first count rights = map (with_rights first count (granted rights)) pages

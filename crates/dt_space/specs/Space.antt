@@ -1,8 +1,17 @@
 -- A process's memory: pages sorted by number, and what an access to a range of addresses finds.
-use Rattle.std.specs.Prelude.{◌≡◌, ℕ, ◌+◌, ◌/◌, ◌%◌, ◌^◌, ◌<◌, ◌≤◌, suc, zero, List, [], ◌∷◌, length, Bool, ◌==◌, bit_and, slice_index_or, slice_get, Option, Some, None, Result, Ok, Err, if◌then◌else◌}
+use Rattle.std.specs.Prelude.{◌≡◌, ℕ, ◌+◌, ◌/◌, ◌%◌, ◌^◌, ◌<◌, ◌≤◌, suc, zero, List, [], ◌∷◌, length, Bool, ◌==◌, bit_and, bit_or, slice_index_or, slice_get, Option, Some, None, Result, Ok, Err, if◌then◌else◌}
 use Rattle.dt_base.specs.declared.limits.TheConstants.{PAGE_SIZE, PAGE_LIMIT}
 use Rattle.dt_base.specs.Fields.{little_endian}
 use Rattle.dt_space.specs.declared.access.Miss.{Miss}
+use Rattle.dt_space.specs.declared.access.TheConstants.{READ, WRITE}
+
+-- these rights have this right among them
+abbrev pub has : ℕ → ℕ → Bool
+has rights right = bit_and rights right == right
+
+-- the rights that are given for these: the low three bits, and with the right to write that to read
+abbrev pub granted : ℕ → ℕ
+granted rights = if has (rights % 8) WRITE then bit_or (rights % 8) READ else rights % 8
 
 -- one page
 pub record PageView : Type 0 where
@@ -14,20 +23,21 @@ pub record PageView : Type 0 where
 abbrev pub number_at : List PageView → ℕ → ℕ
 number_at pages i = let page = slice_index_or pages i (record { number = 0; rights = 0; bytes = [] }) in page.number
 
+-- the rights of the page at place i
+abbrev pub rights_at : List PageView → ℕ → ℕ
+rights_at pages i = let page = slice_index_or pages i (record { number = 0; rights = 0; bytes = [] }) in page.rights
+
 -- how many bytes the page at place i has
 abbrev pub size_at : List PageView → ℕ → ℕ
 size_at pages i = let page = slice_index_or pages i (record { number = 0; rights = 0; bytes = [] }) in length page.bytes
 
--- what each space keeps: the numbers rise and are below 2^26, each page is whole, and there are no more pages than the limit
+-- what each space keeps: the numbers rise and are below 2^26, each page has rights that can be given and is whole, and there are no more pages than the limit
 pub record IsSpace (pages : List PageView) : Type 0 where
   pub rising : (i j : ℕ) → i < j → j < length pages → number_at pages i < number_at pages j
   pub low : (i : ℕ) → i < length pages → number_at pages i < 2 ^ 26
+  pub rights : (i : ℕ) → i < length pages → granted (rights_at pages i) ≡ rights_at pages i
   pub whole : (i : ℕ) → i < length pages → size_at pages i ≡ PAGE_SIZE
   pub few : length pages ≤ PAGE_LIMIT
-
--- these rights have this right among them
-abbrev pub has : ℕ → ℕ → Bool
-has rights right = bit_and rights right == right
 
 -- the page of this number
 abbrev pub page_at : List PageView → ℕ → Option PageView
@@ -43,7 +53,7 @@ byte_of right offset (Some page) = if has page.rights right then slice_get page.
 abbrev pub byte_at : List PageView → ℕ → ℕ → Option ℕ
 byte_at pages right address = byte_of right (address % PAGE_SIZE) (page_at pages (address / PAGE_SIZE))
 
--- a byte before those that follow it, or the miss at its address
+-- a byte before those that follow it, or the first miss
 abbrev pub low_byte : ℕ → Option ℕ → Result (List ℕ) Miss → Result (List ℕ) Miss
 low_byte address None rest = Err (record { at = address })
 low_byte address (Some byte) (Ok bytes) = Ok (byte ∷ bytes)

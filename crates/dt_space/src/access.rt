@@ -1,14 +1,29 @@
 // Rights, and where an access finds none.
+ghost use Rattle.std.specs.Prelude.{◌≡◌};
+ghost use Rattle.dt_space.specs.Space.{granted};
 
 use std::alloc::AllocError;
+
 /// The right to read.
 pub const READ: u8 = 1;
 
-/// The right to write; whoever maps a page gives the right to read with it.
+/// The right to write; a page is never given it without the right to read.
 pub const WRITE: u8 = 2;
 
 /// The right to execute.
 pub const EXECUTE: u8 = 4;
+
+/// The rights that are given for these.
+pub(crate) fn granted_of(rights: u8) -> u8
+    ensures { result ≡ granted rights }
+{
+    let rights = rights & 7;
+    if rights & WRITE == WRITE {
+        rights | READ
+    } else {
+        rights
+    }
+}
 
 /// The first byte of an access that has no page with the right.
 #[derive(Clone, Copy, Debug, PartialEq, Eq)]

@@ -9,18 +9,19 @@ pub struct Near {
 }
 
 impl Near {
-    /// A hint that knows nothing.
+    /// A hint that knows nothing. Which hint it is, no clause says: every hint is right, so a caller may count on no
+    /// more than that.
     pub fn new() -> Self {
         Near { places: [0; 64] }
     }
 
-    // Where the page of this number may stand.
+    /// Where the page of this number may stand. Any answer is right, since the caller looks which page stands there.
     #[inline(always)]
     pub(crate) fn place(&self, number: u64) -> usize {
         self.places[(number % 64) as usize] as usize
     }
 
-    // Keeps the place of the page of this number.
+    /// Keeps the place of the page of this number.
     pub(crate) fn keep(&mut self, number: u64, place: u16) {
         self.places[(number % 64) as usize] = place;
     }

@@ -26,7 +26,7 @@ impl Model for Page {
 }
 
 impl Page {
-    // A page of these bytes, filled up with zeros.
+    /// A page of these bytes, filled up with zeros.
     pub fn new(alloc: Global, number: u64, rights: u8, contents: &[u8]) -> Result<Self, NoMemory>
         requires { length contents.now ≤ PAGE_SIZE }
         ensures { IfOk result (λ page. page ≡ record { number = number; rights = rights; bytes = filled contents.now }) }
@@ -41,7 +41,7 @@ impl Page {
         })
     }
 
-    // The bytes from an offset to the page's end, where the page has the right.
+    /// The bytes from an offset to the page's end, where the page has the right.
     #[inline(always)]
     pub fn bytes_from(&self, right: u8, offset: u64) -> Option<&[u8]>
         requires { offset < PAGE_SIZE }
@@ -54,14 +54,14 @@ impl Page {
         }
     }
 
-    // Whether the page is one of a range's.
+    /// Whether the page is one of a range's.
     pub fn lies_in(&self, first: u64, count: u64) -> bool
         ensures { result ≡ is_in first count self.now.number }
     {
         self.number >= first && self.number - first < count
     }
 
-    // Gives the page these rights and no others, where it is one of a range's.
+    /// Gives the page these rights and no others, where it is one of a range's.
     pub fn protect(&mut self, first: u64, count: u64, rights: u8)
         ensures { self.new ≡ with_rights first count rights self.old }
     {
@@ -70,7 +70,7 @@ impl Page {
         }
     }
 
-    // An equal page, in memory of its own.
+    /// An equal page, in memory of its own.
     pub fn copy(&self, alloc: Global) -> Result<Self, NoMemory>
         ensures { IfOk result (λ page. page ≡ self.now) }
     {
@@ -82,7 +82,7 @@ impl Page {
         })
     }
 
-    // Writes the bytes from an offset on.
+    /// Writes the bytes from an offset on.
     #[inline(always)]
     pub fn put(&mut self, offset: u64, bytes: &[u8])
         requires { offset + length bytes.now ≤ PAGE_SIZE }

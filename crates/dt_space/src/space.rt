@@ -1,6 +1,6 @@
 // A process's memory: a sorted list of pages.
 ghost use Rattle.std.specs.Prelude.{◌≡◌, ◌≤◌, ◌+◌, ◌^◌, ◌++◌, [], IfOk, length};
-ghost use Rattle.dt_space.specs.Space.{IsSpace};
+ghost use Rattle.dt_space.specs.Space.{IsSpace, granted};
 ghost use Rattle.dt_space.specs.Pages.{pages_from, EndsBelow};
 ghost use Rattle.dt_space.specs.Place.{IsPlaceOf};
 
@@ -12,6 +12,7 @@ mod tests;
 mod text;
 mod writes;
 
+use crate::access::granted_of;
 use crate::page::Page;
 use dt_base::{NoMemory, PAGE_LIMIT, PAGE_SIZE};
 use std::alloc::Global;
@@ -44,8 +45,8 @@ impl Space {
         }
     }
 
-    /// The space with `count` pages more, above all of its own, from the number `first` on. The
-    /// contents run through them, and zeros follow.
+    /// The space with `count` pages more, above all of its own, from the number `first` on. `rights` are cut and
+    /// completed as those of `map`. The contents run through the pages, and zeros follow.
     pub fn with_pages(
         self,
         alloc: Global,
@@ -57,13 +58,14 @@ impl Space {
         requires above { EndsBelow self first }
         requires low { first + count ≤ 2 ^ 26 }
         requires few { length self + count ≤ PAGE_LIMIT }
-        ensures { IfOk result (λ space. space ≡ self ++ pages_from first rights contents.now count) }
+        ensures { IfOk result (λ space. space ≡ self ++ pages_from first (granted rights) contents.now count) }
     {
+        let given = granted_of(rights);
         let Space { mut pages } = self;
         let mut rest = contents;
         for number in first..first + count {
             let (piece, after) = rest.split_at((PAGE_SIZE as usize).min(rest.len()));
-            pages.push(Page::new(alloc, number, rights, piece)?)?;
+            pages.push(Page::new(alloc, number, given, piece)?)?;
             rest = after;
         }
         Ok(Space { pages })

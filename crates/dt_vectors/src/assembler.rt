@@ -134,88 +134,24 @@ fn number_of_a_call_in_a_word(rt: HostRuntime) -> Result<(), Fail> {
 }
 
 #[test]
-fn a_register_or_a_low_immediate_past_its_limit_has_no_word(rt: HostRuntime) -> Result<(), Fail> {
+fn a_register_past_31_has_no_word(rt: HostRuntime) -> Result<(), Fail> {
     for i in [
-        Instr::Mulhsu {
-            rd: 32,
-            rs1: 0,
-            rs2: 0,
-        },
-        Instr::Mulhsu {
-            rd: 0,
-            rs1: 32,
-            rs2: 0,
-        },
-        Instr::Mulhsu {
-            rd: 0,
-            rs1: 0,
-            rs2: 32,
-        },
-        Instr::Addi {
-            rd: 32,
-            rs1: 0,
-            imm: 0,
-        },
-        Instr::Addi {
-            rd: 0,
-            rs1: 32,
-            imm: 0,
-        },
-        Instr::Addi {
-            rd: 0,
-            rs1: 0,
-            imm: 2048,
-        },
-        Instr::Addi {
-            rd: 0,
-            rs1: 0,
-            imm: -2049,
-        },
-        Instr::Sd {
-            rs1: 32,
-            rs2: 0,
-            imm: 0,
-        },
-        Instr::Sd {
-            rs1: 0,
-            rs2: 32,
-            imm: 0,
-        },
-        Instr::Sd {
-            rs1: 0,
-            rs2: 0,
-            imm: 2048,
-        },
-        Instr::Sd {
-            rs1: 0,
-            rs2: 0,
-            imm: -2049,
-        },
-        Instr::Bgeu {
-            rs1: 32,
-            rs2: 0,
-            imm: 0,
-        },
-        Instr::Bgeu {
-            rs1: 0,
-            rs2: 32,
-            imm: 0,
-        },
-        Instr::Bgeu {
-            rs1: 0,
-            rs2: 0,
-            imm: 4096,
-        },
-        Instr::Bgeu {
-            rs1: 0,
-            rs2: 0,
-            imm: -4098,
-        },
-        Instr::Bgeu {
-            rs1: 0,
-            rs2: 0,
-            imm: 1,
-        },
+        mulhsu(32, 0, 0),
+        mulhsu(0, 32, 0),
+        mulhsu(0, 0, 32),
+        addi(32, 0, 0),
+        addi(0, 32, 0),
+        sd(32, 0, 0),
+        sd(0, 32, 0),
+        bgeu(32, 0, 0),
+        bgeu(0, 32, 0),
+        lui(32, 0),
+        jal(32, 0),
+        srai(32, 0, 0),
+        srai(0, 32, 0),
+        slliw(32, 0, 0),
+        slliw(0, 32, 0),
+        read_counter(32, 0xc00),
     ] {
         assert_eq!(rt; encode(&i), None);
     }
@@ -223,74 +159,41 @@ fn a_register_or_a_low_immediate_past_its_limit_has_no_word(rt: HostRuntime) -> 
 }
 
 #[test]
-fn another_field_past_its_limit_has_no_word(rt: HostRuntime) -> Result<(), Fail> {
+fn an_immediate_past_its_limits_has_no_word(rt: HostRuntime) -> Result<(), Fail> {
     for i in [
-        Instr::Lui { rd: 32, imm: 0 },
-        Instr::Lui {
-            rd: 0,
-            imm: 0x8000_0000,
-        },
-        Instr::Lui {
-            rd: 0,
-            imm: -0x8000_1000,
-        },
-        Instr::Lui { rd: 0, imm: 1 },
-        Instr::Jal { rd: 32, imm: 0 },
-        Instr::Jal {
-            rd: 0,
-            imm: 0x10_0000,
-        },
-        Instr::Jal {
-            rd: 0,
-            imm: -0x10_0002,
-        },
-        Instr::Jal { rd: 0, imm: 1 },
-        Instr::Srai {
-            rd: 32,
-            rs1: 0,
-            shift: 0,
-        },
-        Instr::Srai {
-            rd: 0,
-            rs1: 32,
-            shift: 0,
-        },
-        Instr::Srai {
-            rd: 0,
-            rs1: 0,
-            shift: 64,
-        },
-        Instr::Slliw {
-            rd: 32,
-            rs1: 0,
-            shift: 0,
-        },
-        Instr::Slliw {
-            rd: 0,
-            rs1: 32,
-            shift: 0,
-        },
-        Instr::Slliw {
-            rd: 0,
-            rs1: 0,
-            shift: 32,
-        },
-        Instr::ReadCounter {
-            rd: 32,
-            counter: 0xc00,
-        },
-        Instr::ReadCounter {
-            rd: 0,
-            counter: 0xbff,
-        },
-        Instr::ReadCounter {
-            rd: 0,
-            counter: 0xc03,
-        },
-        Instr::Unknown,
+        addi(0, 0, 2048),
+        addi(0, 0, -2049),
+        sd(0, 0, 2048),
+        sd(0, 0, -2049),
+        lui(0, 0x8000_0000),
+        lui(0, -0x8000_1000),
+        bgeu(0, 0, 4096),
+        bgeu(0, 0, -4098),
+        jal(0, 0x10_0000),
+        jal(0, -0x10_0002),
+        // Offsets are even, and the low twelve bits of an upper immediate are 0.
+        bgeu(0, 0, 1),
+        jal(0, 1),
+        lui(0, 1),
     ] {
         assert_eq!(rt; encode(&i), None);
     }
+    Ok(())
+}
+
+#[test]
+fn a_shift_or_a_counter_past_its_limit_and_what_is_unknown_have_no_word(
+    rt: HostRuntime,
+) -> Result<(), Fail> {
+    for i in [
+        srai(0, 0, 64),
+        slliw(0, 0, 32),
+        read_counter(0, 0xbff),
+        read_counter(0, 0xc03),
+    ] {
+        assert_eq!(rt; encode(&i), None);
+    }
+    assert_eq!(rt; encode(&Instr::Unknown), None);
     Ok(())
 }
 
@@ -435,4 +338,42 @@ fn started(alloc: Global, code: &[u8]) -> Result<Machine, Fail> {
         pc: CODE,
         space: Space::new(alloc).with_pages(alloc, 16, 4, 5, code)?,
     })
+}
+
+// One instruction for each kind of field.
+
+fn mulhsu(rd: u8, rs1: u8, rs2: u8) -> Instr {
+    Instr::Mulhsu { rd, rs1, rs2 }
+}
+
+fn addi(rd: u8, rs1: u8, imm: i64) -> Instr {
+    Instr::Addi { rd, rs1, imm }
+}
+
+fn sd(rs1: u8, rs2: u8, imm: i64) -> Instr {
+    Instr::Sd { rs1, rs2, imm }
+}
+
+fn bgeu(rs1: u8, rs2: u8, imm: i64) -> Instr {
+    Instr::Bgeu { rs1, rs2, imm }
+}
+
+fn lui(rd: u8, imm: i64) -> Instr {
+    Instr::Lui { rd, imm }
+}
+
+fn jal(rd: u8, imm: i64) -> Instr {
+    Instr::Jal { rd, imm }
+}
+
+fn srai(rd: u8, rs1: u8, shift: u8) -> Instr {
+    Instr::Srai { rd, rs1, shift }
+}
+
+fn slliw(rd: u8, rs1: u8, shift: u8) -> Instr {
+    Instr::Slliw { rd, rs1, shift }
+}
+
+fn read_counter(rd: u8, counter: u16) -> Instr {
+    Instr::ReadCounter { rd, counter }
 }

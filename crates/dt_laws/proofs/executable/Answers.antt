@@ -1,8 +1,5 @@
-use Rattle.std.proofs.Common.{◌≤◌, length, arith}
-use Rattle.dt_laws.proofs.Accepted.{accepted-runs}
+use Rattle.dt_laws.proofs.Accepted.{accepted-file}
 use Rattle.dt_laws.proofs.executable.Goals as goal
 
-pub returns : goal.returns
-returns c =
-    let long : 120 ≤ length c.in_ok-file.file.items = omega (arith, c.in_ok-file.ensures.file.size) in
-    accepted-runs _ long c.in_ok-file.ensures.accepted
+pub returns-clause-executable : goal.returns-clause-executable
+returns-clause-executable c = accepted-file (λ file. file.items) c.args.guest.now c.elf.result c.elf.ensures.file c.elf.ensures.accepted

@@ -1,12 +1,12 @@
 // Ranges of pages: mapped, unmapped, or given other rights.
 ghost use Rattle.std.specs.Prelude.{◌≡◌, ◌+◌, ◌^◌, ◌≤◌, ◌++◌, length, take, drop, [], None, Some, IfOk, OnOk, OnErr, IfErr, MatchResult};
 ghost use Rattle.dt_space.specs.Pages.{pages_from};
-ghost use Rattle.dt_space.specs.Ranges.{granted, map_refusal, IsMapErr, mapped, unmapped, first_missing, protected};
+ghost use Rattle.dt_space.specs.Ranges.{map_refusal, IsMapErr, mapped, unmapped, first_missing, protected};
 ghost use Rattle.dt_space.specs.RangeLaws.{KeepsOthers, HasZeros, HasNone, HasRights};
 ghost use Rattle.dt_space.specs.Gap.{IsLower, IsGap};
 
 use super::Space;
-use crate::access::{READ, WRITE};
+use crate::access::granted_of;
 use crate::page::Page;
 use crate::refusal::{MapErr, Unmapped};
 use dt_base::{NoMemory, PAGE_LIMIT};
@@ -119,16 +119,4 @@ fn put_in(pages: &mut Vec<Page>, place: usize, mut fresh: Vec<Page>) -> Result<(
     let (_, rest) = pages.split_at_mut(place);
     rest.rotate_right(count);
     Ok(())
-}
-
-// The rights that are given for these.
-fn granted_of(rights: u8) -> u8
-    ensures { result ≡ granted rights }
-{
-    let rights = rights & 7;
-    if rights & WRITE == WRITE {
-        rights | READ
-    } else {
-        rights
-    }
 }

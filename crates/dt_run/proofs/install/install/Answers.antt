@@ -3,7 +3,7 @@ use Rattle.dt_base.specs.declared.image.Entry.{Entry}
 use Rattle.dt_base.specs.declared.image.What.TheVariants.{File}
 use Rattle.dt_base.specs.Image.{IsImage}
 use Rattle.dt_host.specs.World.{World}
-use Rattle.dt_run.specs.Flat.{IsFlat}
+use Rattle.dt_image.specs.Flat.{IsFlat}
 use Rattle.dt_run.specs.Installed.{HoldsImage}
 use Rattle.dt_run.specs.RootFile.{AddsFile}
 use Rattle.dt_run.proofs.Flats.{root_file_at, is_root_file_at, unnamed_before, take_next}

@@ -1,7 +1,7 @@
 use Rattle.std.proofs.Common.{◌≡◌, ◌≤◌, ◌+◌, ◌++◌, drop}
 use Rattle.std.specs.List.{flat_map}
-use Rattle.dt_run.specs.Report.{place_line}
-use Rattle.dt_run.specs.Tree.{numbered}
+use Rattle.dt_image.specs.Report.{place_line}
+use Rattle.dt_image.specs.Tree.{numbered}
 use Rattle.dt_run.proofs.run.write_files.Given as goal
 
 -- all lines are those written so far and those from here on, and the host is as it was

@@ -1,6 +1,7 @@
 use Rattle.std.proofs.Common.{◌≡◌, ap, ◌∙◌, []}
+use Rattle.dt_space.specs.Space.{granted}
 use Rattle.dt_space.specs.Pages.{pages_from}
-use Rattle.dt_space.specs.Ranges.{granted, mapped}
+use Rattle.dt_space.specs.Ranges.{mapped}
 use Rattle.dt_space.specs.Gap.{IsGap}
 use Rattle.dt_space.proofs.Mapped.{mapped-parts, IsSpace-mapped}
 use Rattle.dt_space.proofs.Found.{mapped-zeros, mapped-others}

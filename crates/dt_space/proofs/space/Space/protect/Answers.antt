@@ -1,5 +1,6 @@
 use Rattle.std.proofs.Common.{◌≡◌, map, ◌∙◌, refl, arith}
 use Rattle.dt_space.specs.Ranges.{with_rights, protected}
+use Rattle.dt_space.proofs.Rights.{granted-granted}
 use Rattle.dt_space.proofs.Mapped.{protected-more, protected-all, IsSpace-protected}
 use Rattle.dt_space.proofs.Found.{protected-rights, protected-others}
 use Rattle.dt_space.proofs.space.Space.protect.Goals as goal
@@ -11,7 +12,7 @@ loop-place-preserved c = rw c.protect.ensures (protected-more _ _ _ _ _ c.loop-p
 pub invariant_of-self : goal.invariant_of-self
 invariant_of-self c =
     let all : c.loop-place.self-inside.pages.items ≡ map (with_rights c.args.first c.args.count c.granted_of-given.result) c.self.inside.pages.items = protected-all (with_rights c.args.first c.args.count c.granted_of-given.result) c.self.inside.pages.items c.loop-place.self-inside.pages.items c.loop-place.place c.loop-place.invariant (omega arith) in
-    rw all (IsSpace-protected _ _ _ _ c.self.invariant)
+    rw (all, c.granted_of-given.ensures) (IsSpace-protected _ _ _ _ (granted-granted c.args.rights) c.self.invariant)
 
 -- and so each page that has a number is known
 pub returns-clause-ok : goal.returns-clause-ok

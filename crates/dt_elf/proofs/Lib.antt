@@ -1,0 +1,3 @@
+pub mod Headers
+pub mod Placed
+pub mod Starts

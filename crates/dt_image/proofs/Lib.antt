@@ -1,0 +1,9 @@
+pub mod Modes
+pub mod Pieces
+pub mod Conjuncts
+pub mod Sorting
+pub mod Measures
+pub mod Rising
+pub mod Indexed
+pub mod Images
+pub mod Escapes

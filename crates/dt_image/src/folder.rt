@@ -1,0 +1,62 @@
+// Files of a folder of a store.
+ghost use Rattle.std.specs.Prelude.{◌≡◌, ◌≤◌, Some, Err, IfOk, IfSome, IsErrOf, string_bytes, vec_len};
+ghost use Rattle.std.specs.FinMap.{get};
+ghost use Rattle.dt_base.specs.declared.refusal.Refusal.{Refusal};
+ghost use Rattle.dt_host.specs.Cause.{HasCause};
+ghost use Rattle.dt_host.specs.Store.{size_of};
+ghost use Rattle.dt_image.specs.ImageOf.{name_in, fault_of};
+
+use dt_base::{FILE_LIMIT, ImageErr, Refusal};
+use dt_host::{Store, StoreErr, store_whole};
+use std::alloc::{AllocError, Global};
+
+/// The store's name of a file in a folder.
+pub fn name_in(alloc: Global, folder: &str, file: &str) -> Result<String, AllocError>
+    ensures { IfOk result (λ name. string_bytes name ≡ name_in folder.now file.now) }
+{
+    format!(in alloc; "{folder}/{file}")
+}
+
+/// The size of a file of the store, if there is one.
+pub fn size_in<S: Store>(store: &mut S, name: &str) -> Result<Option<u64>, ImageErr>
+    ensures ok { IfSome (S.told store.old) (λ files. IfOk result (λ size. size ≡ size_of files name.now)) }
+    ensures answered { (r : Refusal) → result ≡ Err (ImageErr.Refused r) → ⊥ }
+    ensures stays { S.told store.new ≡ S.told store.old }
+    ensures cause { HasCause (S.count store.old) (S.count store.new) (IsErrOf result ImageErr.Store) }
+{
+    match store.size(name) {
+        Ok(size) => Ok(size),
+        Err(error) => Err(fault(error)),
+    }
+}
+
+/// The bytes of a file of the store, by its size.
+pub fn bytes_in<S: Store>(
+    alloc: Global,
+    store: &mut S,
+    name: &str,
+    size: u64,
+) -> Result<Vec<u8>, ImageErr>
+    requires there { IfSome (S.told store.old) (λ files. size_of files name.now ≡ Some size) }
+    requires within { size ≤ FILE_LIMIT }
+    ensures ok { IfSome (S.told store.old) (λ files. IfOk result (λ bytes. get files name.now ≡ Some bytes.items)) }
+    ensures len { IfOk result (λ bytes. vec_len bytes ≡ size) }
+    ensures answered { (r : Refusal) → result ≡ Err (ImageErr.Refused r) → ⊥ }
+    ensures stays { S.told store.new ≡ S.told store.old }
+    ensures cause { HasCause (S.count store.old) (S.count store.new) (IsErrOf result ImageErr.Store) }
+{
+    let mut bytes = vec![in alloc; 0; size as usize]?;
+    match store_whole(store, name, &mut bytes) {
+        Ok(()) => Ok(bytes),
+        Err(error) => Err(fault(error)),
+    }
+}
+
+fn fault(error: StoreErr) -> ImageErr
+    ensures { result ≡ fault_of error }
+{
+    match error {
+        StoreErr::Failed => ImageErr::Store,
+        StoreErr::NoMemory => ImageErr::NoMemory,
+    }
+}

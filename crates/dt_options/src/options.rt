@@ -1,0 +1,204 @@
+// The command line.
+ghost use Rattle.std.specs.Prelude.{◌≡◌, ◌≤◌, ℕ, List, [], ◌∷◌, length, map, string_bytes, codes, not, Some, None, IfSome, IfOk, Err, IsTrue, ◌<◌, ◌==◌};
+ghost use Rattle.std.specs.List.{list_all, position};
+ghost use Rattle.std.specs.Str.{bytes_eq};
+ghost use Rattle.dt_base.specs.Path.{has_no_nul};
+ghost use Rattle.dt_options.specs.Options.{request_of, request_round, command_in, is_assignment, is_variable, is_variable_start, is_variable_byte};
+ghost use Rattle.dt_options.specs.declared.options.UsageErr.TheVariants.{NoMemory as OutOfMemory};
+
+mod front;
+
+use clap::error::ErrorKind;
+use dt_base::{Blob, Command, NoMemory, Text};
+use front::{SEED, budget, image, number, read_front};
+use std::alloc::{AllocError, AllocFailed, Global};
+use thiserror::Error;
+
+/// What the words of the command line ask for.
+#[derive(Debug, Drop)]
+pub struct Options {
+    /// The name of the folder that holds the image.
+    pub image: Text,
+    /// What runs in it.
+    pub command: Command,
+    /// The key of what looks random to the command.
+    pub seed: u64,
+    /// How many steps the run may take, from 1 to 1,000,000,000.
+    pub budget: u64,
+    /// What the host's choices start from, where the words say so.
+    pub host: Option<u64>,
+}
+
+/// Why there are no options.
+#[derive(Clone, Copy, Debug, PartialEq, Eq, Error)]
+pub enum UsageErr {
+    #[error("the words are no run of a program on an image")]
+    Refused,
+    #[error("out of memory")]
+    NoMemory,
+}
+
+impl From<NoMemory> for UsageErr {
+    ghost from_gives = { λ _ e. e ≡ OutOfMemory };
+
+    fn from(_: NoMemory) -> Self {
+        UsageErr::NoMemory
+    }
+}
+
+impl From<AllocError> for UsageErr {
+    ghost from_gives = { λ _ e. e ≡ OutOfMemory };
+
+    fn from(_: AllocError) -> Self {
+        UsageErr::NoMemory
+    }
+}
+
+impl From<clap::Error> for UsageErr {
+    ghost use Rattle.dt_options.specs.UsageErr.{of_kind};
+    ghost use Rattle.clap.specs.Words.{kind_of};
+
+    ghost from_gives = { λ c e. e ≡ of_kind (kind_of c) };
+
+    fn from(e: clap::Error) -> Self {
+        match e.kind() {
+            ErrorKind::OutOfMemory => UsageErr::NoMemory,
+            _ => UsageErr::Refused,
+        }
+    }
+}
+
+/// Reads the words after the program's name, which are to be
+/// `run IMAGE [--seed N] [--budget N] [--host N] -- [NAME=VALUE ..] PROGRAM [ARG ..]`.
+pub fn read_options(alloc: Global, words: &[String]) -> Result<Options, UsageErr>
+    ensures ok { IfOk result (λ o. request_of (map string_bytes words.now) ≡ Some (record { image = o.image; command = o.command; seed = o.seed; budget = o.budget; host = o.host })) }
+    ensures refused { result ≡ Err UsageErr.Refused → request_of (map string_bytes words.now) ≡ None }
+    ensures ranges { IfOk result (λ o. (1 ≤ o.budget) × (o.budget ≤ 1000000000)) }
+{
+    match dashes(words) {
+        Some(place) => read_parts(alloc, &words[..place], &words[place + 1..]),
+        None => Err(UsageErr::Refused),
+    }
+}
+
+// The place of the first `--`.
+fn dashes(words: &[String]) -> Option<usize>
+    ensures value { result ≡ position (λ word. bytes_eq (string_bytes word) (codes "--")) words.now }
+    ensures within { IfSome result (λ place. place < length words.now) }
+{
+    words.iter().position(|word| word.as_str() == "--")
+}
+
+// Reads the words on both sides of `--`.
+fn read_parts(alloc: Global, front: &[String], rest: &[String]) -> Result<Options, UsageErr>
+    ensures ok { IfOk result (λ o. request_round (map string_bytes front.now) (map string_bytes rest.now) ≡ Some (record { image = o.image; command = o.command; seed = o.seed; budget = o.budget; host = o.host })) }
+    ensures refused { result ≡ Err UsageErr.Refused → request_round (map string_bytes front.now) (map string_bytes rest.now) ≡ None }
+    ensures ranges { IfOk result (λ o. (1 ≤ o.budget) × (o.budget ≤ 1000000000)) }
+{
+    let matches = read_front(alloc, front)?;
+    let Some((_, run)) = matches.subcommand() else {
+        return Err(UsageErr::Refused);
+    };
+    let command = read_command(alloc, rest)?;
+    Ok(Options {
+        image: Text::new(String::from_str(alloc, image(run))?),
+        command,
+        seed: number(run, "seed").unwrap_or(SEED),
+        budget: budget(run),
+        host: number(run, "host"),
+    })
+}
+
+// Reads the words after `--`.
+fn read_command(alloc: Global, words: &[String]) -> Result<Command, UsageErr>
+    ensures ok { IfOk result (λ command. command_in (map string_bytes words.now) ≡ Some command) }
+    ensures refused { result ≡ Err UsageErr.Refused → command_in (map string_bytes words.now) ≡ None }
+{
+    if !have_no_nul(words) {
+        return Err(UsageErr::Refused);
+    }
+    let Some(program) = program(words) else {
+        return Err(UsageErr::Refused);
+    };
+    let (env, args) = words.split_at(program);
+    Ok(Command::new(blobs(alloc, args)?, blobs(alloc, env)?))
+}
+
+fn have_no_nul(words: &[String]) -> bool
+    ensures { result ≡ list_all (λ word. has_no_nul (string_bytes word)) words.now }
+{
+    words.iter().all(|word| has_no_nul(word.as_bytes()))
+}
+
+// The place of the first word that sets no variable.
+fn program(words: &[String]) -> Option<usize>
+    ensures value { result ≡ position (λ word. not (is_assignment (string_bytes word))) words.now }
+    ensures within { IfSome result (λ place. place < length words.now) }
+{
+    words
+        .iter()
+        .position(|word| !is_assignment(word.as_bytes()))
+}
+
+// The bytes of words, in memory of their own.
+fn blobs(alloc: Global, words: &[String]) -> Result<Vec<Blob>, NoMemory>
+    ensures { IfOk result (λ blobs. blobs.items ≡ map string_bytes words.now) }
+{
+    let mut blobs = Vec::new(alloc);
+    for word in words {
+        blobs.push(Blob::new(Vec::from_slice(alloc, word.as_bytes())?))?;
+    }
+    Ok(blobs)
+}
+
+fn has_no_nul(word: &[u8]) -> bool
+    ensures { result ≡ has_no_nul word.now }
+{
+    word.iter().all(|b| *b != 0)
+}
+
+fn is_assignment(word: &[u8]) -> bool
+    ensures { result ≡ is_assignment word.now }
+{
+    match first_equals(word) {
+        Some(place) => is_variable(&word[..place]),
+        None => false,
+    }
+}
+
+fn first_equals(word: &[u8]) -> Option<usize>
+    ensures value { result ≡ position (λ b. b == 61) word.now }
+    ensures within { IfSome result (λ place. place < length word.now) }
+{
+    word.iter().position(|b| *b == b'=')
+}
+
+fn is_variable(name: &[u8]) -> bool
+    ensures { result ≡ is_variable name.now }
+{
+    match name.split_first() {
+        Some((first, rest)) => is_variable_start(*first) && has_variable_bytes(rest),
+        None => false,
+    }
+}
+
+fn is_variable_start(byte: u8) -> bool
+    ensures { result ≡ is_variable_start byte }
+{
+    byte.is_ascii_alphabetic() || byte == b'_'
+}
+
+fn has_variable_bytes(rest: &[u8]) -> bool
+    ensures { result ≡ list_all is_variable_byte rest.now }
+{
+    rest.iter().all(|b| is_variable_byte(*b))
+}
+
+fn is_variable_byte(byte: u8) -> bool
+    ensures { result ≡ is_variable_byte byte }
+{
+    byte.is_ascii_alphanumeric() || byte == b'_'
+}
+
+#[cfg(test)]
+mod tests;

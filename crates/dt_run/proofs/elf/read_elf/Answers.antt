@@ -1,7 +1,0 @@
-use Rattle.std.proofs.Common.{ap, ◌∙◌}
-use Rattle.dt_run.specs.Executable.{exe_after}
-use Rattle.dt_run.proofs.Placed.{if-ok-placed}
-use Rattle.dt_run.proofs.elf.read_elf.Goals as goal
-
-pub returns-in-None-clause-placed : goal.returns-in-None-clause-placed
-returns-in-None-clause-placed c = if-ok-placed _ _ (c.read_segments.ensures ∙ ap (exe_after c.args.bytes.now) c.in-None.ensures)
