@@ -3,13 +3,15 @@
 
 mod folder_store;
 mod std_sink;
+#[cfg(test)]
+mod tests;
 
 use crate::folder_store::FolderStore;
 use crate::std_sink::StdSink;
 use dt_base::NoMemory;
 use dt_host::NoGate;
 use dt_memhost::{MemHost, Picker};
-use dt_run::{Failure, dettrace, tell};
+use dt_run::{Failure, dettrace, write_failure};
 use std::env;
 use std::io::ErrorKind;
 use std::process::ExitCode;
@@ -21,12 +23,12 @@ fn main(rt: HostRuntime) -> ExitCode {
     let mut err = StdSink::new(rt.stderr());
     let words = match command_words(&rt) {
         Ok(words) => words,
-        Err(failure) => return ExitCode::from(tell(failure, &mut err)),
+        Err(failure) => return ExitCode::from(write_failure(failure, &mut err)),
     };
     let picker = Picker::new(Vec::new(alloc), clock_number(&rt));
     let mut host = match MemHost::new(alloc, picker, Vec::new(alloc)) {
         Ok(host) => host,
-        Err(NoMemory) => return ExitCode::from(tell(Failure::NoMemory, &mut err)),
+        Err(NoMemory) => return ExitCode::from(write_failure(Failure::NoMemory, &mut err)),
     };
     let mut store = FolderStore::new(&rt);
     let mut out = StdSink::new(rt.stdout());

@@ -14,8 +14,8 @@ within : (n m : ℕ) → n ≤ m → nat_le n m ≡ true
 within n m h = grind (arith, nat_tests)
 
 -- a field of a file in two parts
-read : (width at : ℕ) (file front back : List ℕ) → file ≡ front ++ back → at + width ≤ length file → field_at width file at ≡ Some (little_endian (take width (drop at (front ++ back))))
-read width at file front back e h =
+read : (width at : ℕ) (file prefix back : List ℕ) → file ≡ prefix ++ back → at + width ≤ length file → field_at width file at ≡ Some (little_endian (take width (drop at (prefix ++ back))))
+read width at file prefix back e h =
     ap (λ b. cond b (Some (little_endian (take width (drop at file)))) None) (within (at + width) (length file) h)
     ∙ ap (λ xs. Some (little_endian (take width (drop at xs)))) e
 

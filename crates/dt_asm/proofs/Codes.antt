@@ -11,19 +11,19 @@ use Rattle.dt_rv64.specs.Instruction.{instr}
 use Rattle.dt_asm.specs.declared.item.Item.{Item}
 use Rattle.dt_asm.specs.declared.error.AsmErr.{AsmErr}
 use Rattle.dt_asm.specs.declared.error.AsmErr.TheVariants.{NoLabel, TwoLabels, Far, BadField, NoMemory, TooLong}
-use Rattle.dt_asm.specs.Sized.{IsSized, IsGrown}
+use Rattle.dt_asm.specs.inner.Sized.{IsSized, IsGrown}
 use Rattle.dt_asm.specs.Refusal.{is_lost, is_set_twice, any_out_of_reach, is_bad}
 use Rattle.dt_asm.specs.File.{Refuses}
 use Rattle.dt_asm.specs.Item.{total, Piece, pieces_from, pieces_of}
 use Rattle.dt_asm.specs.Code.{IsWordOf, IsSpelled, Spells}
-use Rattle.dt_asm.specs.Adding.{IsAdded, RefusesField}
+use Rattle.dt_asm.specs.inner.Adding.{IsAdded, RefusesField}
 
 -- bytes behind others are added
 pub is_added : (piece : Piece) (before bytes after : List ℕ) → after ≡ before ++ bytes → IsSpelled piece bytes → IsAdded piece before after
 is_added piece before bytes after e h =
     let back : drop (length before) after ≡ bytes = ap (drop (length before)) e ∙ drop-append_seam before bytes in
     record {
-      front = e ∙ ap (λ x. before ++ x) (sym back);
+      prefix = e ∙ ap (λ x. before ++ x) (sym back);
       spelled = subst (IsSpelled piece) (sym back) h;
     }
 

@@ -1,4 +1,5 @@
--- A file that a reader of executables accepts, by its fields (ELF-64 object file format, "ELF Header" and "Program Header"; RISC-V ELF psABI for the machine's number): one loaded segment, which is the whole file.
+-- A file that a reader of executables accepts, by its fields (ELF-64 object file format, "ELF Header" and "Program
+-- Header"; RISC-V ELF psABI for the machine's number): one loaded segment, which is the whole file.
 use Rattle.std.specs.Prelude.{◌≡◌, ◌≤◌, ◌+◌, ℕ, List, [], ◌∷◌, length, take, drop, Some, IsSomeAnd}
 use Rattle.dt_base.specs.Fields.{field_at}
 
@@ -7,7 +8,8 @@ pub record IsRoom (size memory : ℕ) : Type 0 where
   pub holds : size ≤ memory
   pub ends : 0x10000 + memory ≤ 0x2000000000
 
--- e_ident: the magic, 64 bits, little-endian, version 1; then the fields that say what the file is and where its one program header lies; then that header
+-- e_ident: the magic, 64 bits, little-endian, version 1; then the fields that say what the file is and where its one
+-- program header lies; then that header
 pub record IsAccepted (file : List ℕ) : Type 0 where
   pub magic : take 4 file ≡ 0x7F ∷ 0x45 ∷ 0x4C ∷ 0x46 ∷ []
   pub class : take 3 (drop 4 file) ≡ 2 ∷ 1 ∷ 1 ∷ []

@@ -6,7 +6,8 @@ use Rattle.dt_rv64.specs.declared.instruction.Instr.TheVariants.{Fence}
 use Rattle.dt_rv64.specs.Instruction.{instr}
 use Rattle.dt_asm.specs.Item.{Piece, word, plain}
 
--- bytes of an instruction: four, the lowest first, of a word that decodes to it; of the many words of FENCE, the one without other fields
+-- bytes of an instruction: four, the lowest first, of a word that decodes to it; of the many words of FENCE, the one
+-- without other fields
 pub record IsWordOf (i : Instr) (bytes : List ℕ) : Type 0 where
   pub four : length bytes ≡ 4
   pub decoded : instr (little_endian bytes) ≡ i

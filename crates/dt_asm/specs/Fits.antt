@@ -1,4 +1,5 @@
--- The instructions that a word can hold: each field is in its range (RISC-V unprivileged specification, RV32I, "Base Instruction Formats" and "Immediate Encoding Variants").
+-- The instructions that a word can hold: each field is in its range (RISC-V unprivileged specification, RV32I, "Base
+-- Instruction Formats" and "Immediate Encoding Variants").
 use Rattle.std.specs.Prelude.{ℕ, ◌-◌, ◌%◌, ◌^◌, ℤ, pos, neg_ℤ, Bool, false, true, ◌&&◌, ◌==◌, nat_lt, nat_le, int_le, int_lt, unsigned_abs}
 use Rattle.dt_rv64.specs.declared.instruction.Instr.{Instr}
 use Rattle.dt_rv64.specs.declared.instruction.Instr.TheVariants.{Lui, Auipc, Jal, Jalr, Beq, Bne, Blt, Bge, Bltu, Bgeu, Lb, Lh, Lw, Ld, Lbu, Lhu, Lwu, Sb, Sh, Sw, Sd, Addi, Slti, Sltiu, Xori, Ori, Andi, Slli, Srli, Srai, Add, Sub, Sll, Slt, Sltu, Xor, Srl, Sra, Or, And, Mul, Mulh, Mulhsu, Mulhu, Div, Divu, Rem, Remu, Addiw, Slliw, Srliw, Sraiw, Addw, Subw, Sllw, Srlw, Sraw, Mulw, Divw, Divuw, Remw, Remuw, Fence, Ecall, Ebreak, ReadCounter, Unknown}
@@ -18,20 +19,20 @@ abbrev pub is_register : ℕ → Bool
 is_register number = nat_lt number 32
 
 -- an immediate of I or S
-abbrev pub is_low : ℤ → Bool
-is_low immediate = is_signed 12 immediate
+abbrev pub is_i_immediate : ℤ → Bool
+is_i_immediate immediate = is_signed 12 immediate
 
 -- an immediate of B
-abbrev pub is_near : ℤ → Bool
-is_near immediate = is_signed 13 immediate && is_multiple 2 immediate
+abbrev pub is_b_immediate : ℤ → Bool
+is_b_immediate immediate = is_signed 13 immediate && is_multiple 2 immediate
 
 -- an immediate of U
-abbrev pub is_upper : ℤ → Bool
-is_upper immediate = is_signed 32 immediate && is_multiple 4096 immediate
+abbrev pub is_u_immediate : ℤ → Bool
+is_u_immediate immediate = is_signed 32 immediate && is_multiple 4096 immediate
 
 -- an immediate of J
-abbrev pub is_far : ℤ → Bool
-is_far immediate = is_signed 21 immediate && is_multiple 2 immediate
+abbrev pub is_j_immediate : ℤ → Bool
+is_j_immediate immediate = is_signed 21 immediate && is_multiple 2 immediate
 
 -- a counter that can be read: cycle, time or instret
 abbrev pub is_counter : ℕ → Bool
@@ -45,23 +46,23 @@ fits_r rd rs1 rs2 = is_register rd && is_register rs1 && is_register rs2
 
 -- I
 abbrev pub fits_i : ℕ → ℕ → ℤ → Bool
-fits_i rd rs1 immediate = is_register rd && is_register rs1 && is_low immediate
+fits_i rd rs1 immediate = is_register rd && is_register rs1 && is_i_immediate immediate
 
 -- S
 abbrev pub fits_s : ℕ → ℕ → ℤ → Bool
-fits_s rs1 rs2 immediate = is_register rs1 && is_register rs2 && is_low immediate
+fits_s rs1 rs2 immediate = is_register rs1 && is_register rs2 && is_i_immediate immediate
 
 -- B
 abbrev pub fits_b : ℕ → ℕ → ℤ → Bool
-fits_b rs1 rs2 immediate = is_register rs1 && is_register rs2 && is_near immediate
+fits_b rs1 rs2 immediate = is_register rs1 && is_register rs2 && is_b_immediate immediate
 
 -- U
 abbrev pub fits_u : ℕ → ℤ → Bool
-fits_u rd immediate = is_register rd && is_upper immediate
+fits_u rd immediate = is_register rd && is_u_immediate immediate
 
 -- J
 abbrev pub fits_j : ℕ → ℤ → Bool
-fits_j rd immediate = is_register rd && is_far immediate
+fits_j rd immediate = is_register rd && is_j_immediate immediate
 
 -- a shift of a word of so many bits by an immediate
 abbrev pub fits_shift : ℕ → ℕ → ℕ → ℕ → Bool

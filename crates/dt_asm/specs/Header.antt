@@ -11,8 +11,8 @@ abbrev pub kind : List ℕ
 kind = low_bytes 2 2 ++ low_bytes 2 243 ++ low_bytes 4 1
 
 -- e_entry, e_phoff and e_shoff
-abbrev pub places : List ℕ
-places = low_bytes 8 0x10078 ++ low_bytes 8 64 ++ low_bytes 8 0
+abbrev pub offsets : List ℕ
+offsets = low_bytes 8 0x10078 ++ low_bytes 8 64 ++ low_bytes 8 0
 
 -- e_flags, e_ehsize, e_phentsize, e_phnum, e_shentsize, e_shnum and e_shstrndx
 abbrev pub sizes : List ℕ
@@ -20,7 +20,7 @@ sizes = low_bytes 4 0 ++ low_bytes 2 64 ++ low_bytes 2 56 ++ low_bytes 2 1 ++ lo
 
 -- the file header
 abbrev pub file_header : List ℕ
-file_header = ident ++ kind ++ places ++ sizes
+file_header = ident ++ kind ++ offsets ++ sizes
 
 -- p_type (PT_LOAD), p_flags, p_offset, p_vaddr, p_paddr, p_filesz, p_memsz and p_align
 abbrev pub program_header : ℕ → ℕ → ℕ → List ℕ

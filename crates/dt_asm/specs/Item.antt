@@ -1,4 +1,4 @@
--- A guest as it is built: a list of items, and the size of its memory. Labels stand for places in the code.
+-- A guest as it is built: a list of items, and the size of its memory. Labels stand for offsets in the code.
 use Rattle.std.specs.Prelude.{ℕ, ◌+◌, ◌==◌, List, [], ◌∷◌, ◌++◌, length, Bool, false, Option, Some, None, unwrap_or, ℤ, pos, ◌-ℤ◌, if◌then◌else◌}
 use Rattle.dt_rv64.specs.declared.instruction.Instr.{Instr}
 use Rattle.dt_rv64.specs.declared.instruction.Instr.TheVariants.{Jal, Beq, Bne, Blt, Bge, Bltu, Bgeu, Unknown}
@@ -32,18 +32,18 @@ abbrev pub sets : ℕ → Item → Bool
 sets name (Label label) = label == name
 sets name _ = false
 
--- where the first of some items that sets a label stands, the first item standing at a place
-abbrev pub place_from : ℕ → List Item → ℕ → Option ℕ
-place_from at [] name = None
-place_from at (item ∷ items) name = if sets name item then Some at else place_from (at + size_of item) items name
+-- the offset of the first of some items that sets a label, the first item standing at an offset
+abbrev pub offset_from : ℕ → List Item → ℕ → Option ℕ
+offset_from at [] name = None
+offset_from at (item ∷ items) name = if sets name item then Some at else offset_from (at + size_of item) items name
 
--- a label's place: the sum of the sizes before it
-abbrev pub place_of : List Item → ℕ → Option ℕ
-place_of items name = place_from 0 items name
+-- a label's offset: the sum of the sizes before it
+abbrev pub offset_of : List Item → ℕ → Option ℕ
+offset_of items name = offset_from 0 items name
 
--- from a place to a label's
+-- from an offset to a label's
 abbrev pub distance : List Item → ℕ → ℕ → ℤ
-distance items at name = pos (unwrap_or (place_of items name) 0) -ℤ pos at
+distance items at name = pos (unwrap_or (offset_of items name) 0) -ℤ pos at
 
 -- the branch with a funct3
 abbrev pub branch_by : ℕ → ℕ → ℕ → ℤ → Instr
@@ -61,7 +61,7 @@ pub data Piece : Type 0 where
   word : Instr → Piece
   plain : List ℕ → Piece
 
--- an item at a place among all items, its label resolved
+-- an item at an offset, its label resolved among all items
 abbrev pub piece_of : List Item → ℕ → Item → Piece
 piece_of items at (Code i) = word i
 piece_of items at (Branch funct3 rs1 rs2 label) = word (branch_by funct3 rs1 rs2 (distance items at label))
@@ -69,7 +69,7 @@ piece_of items at (Jump label) = word (Jal 0 (distance items at label))
 piece_of items at (Bytes bytes) = plain bytes
 piece_of items at (Label label) = plain []
 
--- items from a place on, their labels resolved among all items
+-- items from an offset on, their labels resolved among all items
 abbrev pub pieces_from : List Item → ℕ → List Item → List Piece
 pieces_from items at [] = []
 pieces_from items at (item ∷ rest) = piece_of items at item ∷ pieces_from items (at + size_of item) rest

@@ -1,13 +1,10 @@
 pub mod Fits
-pub mod Classes
-pub mod Shapes
 pub mod Item
 pub mod Header
 pub mod Refusal
 pub mod Code
-pub mod Adding
 pub mod File
 pub mod Load
-pub mod Sized
 pub mod Guests
 pub mod Accepted
+pub mod inner

@@ -7,32 +7,33 @@ use Rattle.dt_rv64.specs.Formats.{signed}
 use Rattle.dt_asm.specs.Fits.{is_signed}
 
 -- a number cut to so many low bits, sign-extended
-abbrev pub extended : ℕ → ℤ → ℤ
-extended bits number = signed bits (unsigned_abs (int_rem_euclid number (pos (2 ^ bits))))
+abbrev pub signed_low : ℕ → ℤ → ℤ
+signed_low bits number = signed bits (unsigned_abs (int_rem_euclid number (pos (2 ^ bits))))
 
 -- what is left of a number above its sign-extended twelve low bits
 abbrev pub without_low : ℤ → ℤ
-without_low number = number -ℤ extended 12 number
+without_low number = number -ℤ signed_low 12 number
 
--- that, moved down by twelve bits
-abbrev pub upper_part : ℤ → ℤ
-upper_part number = int_div_euclid (without_low number) (pos 4096)
+-- its 52 bits above those, moved down by twelve
+abbrev pub hi52 : ℤ → ℤ
+hi52 number = int_div_euclid (without_low number) (pos 4096)
 
 -- LUI and ADDIW, for a number of 32 bits
-abbrev pub loading_word : ℕ → ℤ → List Instr
-loading_word register number = Lui register (extended 32 (without_low number)) ∷ Addiw register register (extended 12 number) ∷ []
+abbrev pub lui_addiw : ℕ → ℤ → List Instr
+lui_addiw register number = Lui register (signed_low 32 (without_low number)) ∷ Addiw register register (signed_low 12 number) ∷ []
 
 -- SLLI by 12, and ADDI of low bits
-abbrev pub moving_up : ℕ → ℤ → List Instr
-moving_up register low = Slli register register 12 ∷ Addi register register low ∷ []
+abbrev pub slli_addi : ℕ → ℤ → List Instr
+slli_addi register low = Slli register register 12 ∷ Addi register register low ∷ []
 
--- ADDI from x0; or LUI and ADDIW; or, for a number of so many parts at most, its upper part, moved up, and its low bits added
+-- ADDI from x0; or LUI and ADDIW; or, for a number of so many parts at most, its upper 52 bits, shifted left, and its
+-- low bits added
 unfoldable pub loading_parts : ℕ → ℕ → ℤ → List Instr
 loading_parts zero register number = []
 loading_parts (suc parts) register number =
     if is_signed 12 number then Addi register 0 number ∷ []
-    else if is_signed 32 number then loading_word register number
-    else loading_parts parts register (upper_part number) ++ moving_up register (extended 12 number)
+    else if is_signed 32 number then lui_addiw register number
+    else loading_parts parts register (hi52 number) ++ slli_addi register (signed_low 12 number)
 
 -- the instructions that load a number; one of 64 bits has at most four parts
 abbrev pub loading : ℕ → ℤ → List Instr

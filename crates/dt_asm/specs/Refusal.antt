@@ -7,10 +7,10 @@ use Rattle.dt_asm.specs.declared.error.AsmErr.{AsmErr}
 use Rattle.dt_asm.specs.declared.error.AsmErr.TheVariants.{NoLabel, TwoLabels, Far, BadField, NoMemory, TooLong}
 use Rattle.dt_asm.specs.declared.item.Item.{Item}
 use Rattle.dt_asm.specs.declared.item.Item.TheVariants.{Branch, Jump, Label}
-use Rattle.dt_asm.specs.Fits.{fits, is_near, is_far}
-use Rattle.dt_asm.specs.Item.{Piece, word, plain, size_of, total, place_of, distance, pieces_of}
+use Rattle.dt_asm.specs.Fits.{fits, is_b_immediate, is_j_immediate}
+use Rattle.dt_asm.specs.Item.{Piece, word, plain, size_of, total, offset_of, distance, pieces_of}
 
--- its place in the order
+-- its number, in the order in which they are looked for
 abbrev pub error_number : AsmErr → ℕ
 error_number NoLabel = 1
 error_number TwoLabels = 2
@@ -21,13 +21,13 @@ error_number TooLong = 6
 
 -- the item uses a label that no item sets
 abbrev pub is_lost : List Item → Item → Bool
-is_lost items (Branch funct3 rs1 rs2 label) = is_none (place_of items label)
-is_lost items (Jump label) = is_none (place_of items label)
+is_lost items (Branch funct3 rs1 rs2 label) = is_none (offset_of items label)
+is_lost items (Jump label) = is_none (offset_of items label)
 is_lost items _ = false
 
 -- the item sets a label that one of these sets too
 abbrev pub is_set_in : List Item → Item → Bool
-is_set_in items (Label label) = is_some (place_of items label)
+is_set_in items (Label label) = is_some (offset_of items label)
 is_set_in items _ = false
 
 -- two items set one label
@@ -37,11 +37,11 @@ is_set_twice (item ∷ items) = is_set_in items item || is_set_twice items
 
 -- the item's label lies outside the range of its form
 abbrev pub is_out_of_reach : List Item → ℕ → Item → Bool
-is_out_of_reach items at (Branch funct3 rs1 rs2 label) = not (is_near (distance items at label))
-is_out_of_reach items at (Jump label) = not (is_far (distance items at label))
+is_out_of_reach items at (Branch funct3 rs1 rs2 label) = not (is_b_immediate (distance items at label))
+is_out_of_reach items at (Jump label) = not (is_j_immediate (distance items at label))
 is_out_of_reach items at _ = false
 
--- one of the items from a place on has its label outside of the range of its form
+-- one of the items from an offset on has its label outside of the range of its form
 abbrev pub any_out_of_reach : List Item → ℕ → List Item → Bool
 any_out_of_reach items at [] = false
 any_out_of_reach items at (item ∷ rest) = is_out_of_reach items at item || any_out_of_reach items (at + size_of item) rest

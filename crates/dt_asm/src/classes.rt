@@ -1,15 +1,12 @@
-// The words of instructions, by their classes, each with an opcode or a few. A function gives `None` for an instruction that is not
-// of its class, and where a field is out of its range.
+// The words of instructions, by their classes, each with an opcode or a few. A function gives `None` for an instruction
+// that is not of its class, and where a field is out of its range.
 ghost use Rattle.std.specs.Prelude.{◌≡◌, ◌&&◌, is_some, IfSome, Some};
 ghost use Rattle.dt_rv64.specs.declared.instruction.Instr.TheVariants.{Fence};
 ghost use Rattle.dt_rv64.specs.Instruction.{instr};
 ghost use Rattle.dt_asm.specs.Fits.{fits};
-ghost use Rattle.dt_asm.specs.Classes.{is_upper_or_jump, is_branch, is_load, is_store, is_op_imm, is_op, is_op_multiply, is_op_imm_32, is_op_32, is_op_32_multiply, is_fence_or_system};
+ghost use Rattle.dt_asm.specs.inner.Classes.{is_lui_auipc_or_jump, is_branch, is_load, is_store, is_op_imm, is_op, is_op_multiply, is_op_imm_32, is_op_32, is_op_32_multiply, is_fence_or_system};
 
-use crate::shapes::{
-    branch_word, counter_word, immediate_word, jump_word, register_word, shift_word, store_word,
-    upper_word,
-};
+use crate::shapes::{b_type, csr_type, i_type, j_type, r_type, s_type, shift_type, u_type};
 use dt_rv64::Instr;
 
 // The opcodes (RISC-V unprivileged specification, "RV32/64G Instruction Set Listings").
@@ -46,15 +43,15 @@ const EBREAK: u32 = 0x0010_0073;
 
 /// The word of LUI, AUIPC, JAL or JALR, if its fields fit.
 #[tactic(auto, unfolding(dt_rv64::specs::Instruction::instr))]
-pub fn upper_or_jump(i: &Instr) -> Option<u32>
+pub fn lui_auipc_or_jump(i: &Instr) -> Option<u32>
     ensures round { IfSome result (λ word. instr word ≡ i.now) }
-    ensures some { is_some result ≡ (is_upper_or_jump i.now && fits i.now) }
+    ensures some { is_some result ≡ (is_lui_auipc_or_jump i.now && fits i.now) }
 {
     match *i {
-        Instr::Lui { rd, imm } => upper_word(LUI, rd, imm),
-        Instr::Auipc { rd, imm } => upper_word(AUIPC, rd, imm),
-        Instr::Jal { rd, imm } => jump_word(JAL, rd, imm),
-        Instr::Jalr { rd, rs1, imm } => immediate_word(JALR, 0, rd, rs1, imm),
+        Instr::Lui { rd, imm } => u_type(LUI, rd, imm),
+        Instr::Auipc { rd, imm } => u_type(AUIPC, rd, imm),
+        Instr::Jal { rd, imm } => j_type(JAL, rd, imm),
+        Instr::Jalr { rd, rs1, imm } => i_type(JALR, 0, rd, rs1, imm),
         _ => None,
     }
 }
@@ -66,12 +63,12 @@ pub fn branch(i: &Instr) -> Option<u32>
     ensures some { is_some result ≡ (is_branch i.now && fits i.now) }
 {
     match *i {
-        Instr::Beq { rs1, rs2, imm } => branch_word(BRANCH, 0, rs1, rs2, imm),
-        Instr::Bne { rs1, rs2, imm } => branch_word(BRANCH, 1, rs1, rs2, imm),
-        Instr::Blt { rs1, rs2, imm } => branch_word(BRANCH, 4, rs1, rs2, imm),
-        Instr::Bge { rs1, rs2, imm } => branch_word(BRANCH, 5, rs1, rs2, imm),
-        Instr::Bltu { rs1, rs2, imm } => branch_word(BRANCH, 6, rs1, rs2, imm),
-        Instr::Bgeu { rs1, rs2, imm } => branch_word(BRANCH, 7, rs1, rs2, imm),
+        Instr::Beq { rs1, rs2, imm } => b_type(BRANCH, 0, rs1, rs2, imm),
+        Instr::Bne { rs1, rs2, imm } => b_type(BRANCH, 1, rs1, rs2, imm),
+        Instr::Blt { rs1, rs2, imm } => b_type(BRANCH, 4, rs1, rs2, imm),
+        Instr::Bge { rs1, rs2, imm } => b_type(BRANCH, 5, rs1, rs2, imm),
+        Instr::Bltu { rs1, rs2, imm } => b_type(BRANCH, 6, rs1, rs2, imm),
+        Instr::Bgeu { rs1, rs2, imm } => b_type(BRANCH, 7, rs1, rs2, imm),
         _ => None,
     }
 }
@@ -83,13 +80,13 @@ pub fn load(i: &Instr) -> Option<u32>
     ensures some { is_some result ≡ (is_load i.now && fits i.now) }
 {
     match *i {
-        Instr::Lb { rd, rs1, imm } => immediate_word(LOAD, 0, rd, rs1, imm),
-        Instr::Lh { rd, rs1, imm } => immediate_word(LOAD, 1, rd, rs1, imm),
-        Instr::Lw { rd, rs1, imm } => immediate_word(LOAD, 2, rd, rs1, imm),
-        Instr::Ld { rd, rs1, imm } => immediate_word(LOAD, 3, rd, rs1, imm),
-        Instr::Lbu { rd, rs1, imm } => immediate_word(LOAD, 4, rd, rs1, imm),
-        Instr::Lhu { rd, rs1, imm } => immediate_word(LOAD, 5, rd, rs1, imm),
-        Instr::Lwu { rd, rs1, imm } => immediate_word(LOAD, 6, rd, rs1, imm),
+        Instr::Lb { rd, rs1, imm } => i_type(LOAD, 0, rd, rs1, imm),
+        Instr::Lh { rd, rs1, imm } => i_type(LOAD, 1, rd, rs1, imm),
+        Instr::Lw { rd, rs1, imm } => i_type(LOAD, 2, rd, rs1, imm),
+        Instr::Ld { rd, rs1, imm } => i_type(LOAD, 3, rd, rs1, imm),
+        Instr::Lbu { rd, rs1, imm } => i_type(LOAD, 4, rd, rs1, imm),
+        Instr::Lhu { rd, rs1, imm } => i_type(LOAD, 5, rd, rs1, imm),
+        Instr::Lwu { rd, rs1, imm } => i_type(LOAD, 6, rd, rs1, imm),
         _ => None,
     }
 }
@@ -101,10 +98,10 @@ pub fn store(i: &Instr) -> Option<u32>
     ensures some { is_some result ≡ (is_store i.now && fits i.now) }
 {
     match *i {
-        Instr::Sb { rs1, rs2, imm } => store_word(STORE, 0, rs1, rs2, imm),
-        Instr::Sh { rs1, rs2, imm } => store_word(STORE, 1, rs1, rs2, imm),
-        Instr::Sw { rs1, rs2, imm } => store_word(STORE, 2, rs1, rs2, imm),
-        Instr::Sd { rs1, rs2, imm } => store_word(STORE, 3, rs1, rs2, imm),
+        Instr::Sb { rs1, rs2, imm } => s_type(STORE, 0, rs1, rs2, imm),
+        Instr::Sh { rs1, rs2, imm } => s_type(STORE, 1, rs1, rs2, imm),
+        Instr::Sw { rs1, rs2, imm } => s_type(STORE, 2, rs1, rs2, imm),
+        Instr::Sd { rs1, rs2, imm } => s_type(STORE, 3, rs1, rs2, imm),
         _ => None,
     }
 }
@@ -116,15 +113,15 @@ pub fn op_immediate(i: &Instr) -> Option<u32>
     ensures some { is_some result ≡ (is_op_imm i.now && fits i.now) }
 {
     match *i {
-        Instr::Addi { rd, rs1, imm } => immediate_word(OP_IMM, 0, rd, rs1, imm),
-        Instr::Slti { rd, rs1, imm } => immediate_word(OP_IMM, 2, rd, rs1, imm),
-        Instr::Sltiu { rd, rs1, imm } => immediate_word(OP_IMM, 3, rd, rs1, imm),
-        Instr::Xori { rd, rs1, imm } => immediate_word(OP_IMM, 4, rd, rs1, imm),
-        Instr::Ori { rd, rs1, imm } => immediate_word(OP_IMM, 6, rd, rs1, imm),
-        Instr::Andi { rd, rs1, imm } => immediate_word(OP_IMM, 7, rd, rs1, imm),
-        Instr::Slli { rd, rs1, shift } => shift_word(OP_IMM, 1, 0, rd, rs1, shift),
-        Instr::Srli { rd, rs1, shift } => shift_word(OP_IMM, 5, 0, rd, rs1, shift),
-        Instr::Srai { rd, rs1, shift } => shift_word(OP_IMM, 5, 0x10, rd, rs1, shift),
+        Instr::Addi { rd, rs1, imm } => i_type(OP_IMM, 0, rd, rs1, imm),
+        Instr::Slti { rd, rs1, imm } => i_type(OP_IMM, 2, rd, rs1, imm),
+        Instr::Sltiu { rd, rs1, imm } => i_type(OP_IMM, 3, rd, rs1, imm),
+        Instr::Xori { rd, rs1, imm } => i_type(OP_IMM, 4, rd, rs1, imm),
+        Instr::Ori { rd, rs1, imm } => i_type(OP_IMM, 6, rd, rs1, imm),
+        Instr::Andi { rd, rs1, imm } => i_type(OP_IMM, 7, rd, rs1, imm),
+        Instr::Slli { rd, rs1, shift } => shift_type(OP_IMM, 1, 0, rd, rs1, shift),
+        Instr::Srli { rd, rs1, shift } => shift_type(OP_IMM, 5, 0, rd, rs1, shift),
+        Instr::Srai { rd, rs1, shift } => shift_type(OP_IMM, 5, 0x10, rd, rs1, shift),
         _ => None,
     }
 }
@@ -136,16 +133,16 @@ pub fn op(i: &Instr) -> Option<u32>
     ensures some { is_some result ≡ (is_op i.now && fits i.now) }
 {
     match *i {
-        Instr::Add { rd, rs1, rs2 } => register_word(OP, 0, 0, rd, rs1, rs2),
-        Instr::Sll { rd, rs1, rs2 } => register_word(OP, 1, 0, rd, rs1, rs2),
-        Instr::Slt { rd, rs1, rs2 } => register_word(OP, 2, 0, rd, rs1, rs2),
-        Instr::Sltu { rd, rs1, rs2 } => register_word(OP, 3, 0, rd, rs1, rs2),
-        Instr::Xor { rd, rs1, rs2 } => register_word(OP, 4, 0, rd, rs1, rs2),
-        Instr::Srl { rd, rs1, rs2 } => register_word(OP, 5, 0, rd, rs1, rs2),
-        Instr::Or { rd, rs1, rs2 } => register_word(OP, 6, 0, rd, rs1, rs2),
-        Instr::And { rd, rs1, rs2 } => register_word(OP, 7, 0, rd, rs1, rs2),
-        Instr::Sub { rd, rs1, rs2 } => register_word(OP, 0, 0x20, rd, rs1, rs2),
-        Instr::Sra { rd, rs1, rs2 } => register_word(OP, 5, 0x20, rd, rs1, rs2),
+        Instr::Add { rd, rs1, rs2 } => r_type(OP, 0, 0, rd, rs1, rs2),
+        Instr::Sll { rd, rs1, rs2 } => r_type(OP, 1, 0, rd, rs1, rs2),
+        Instr::Slt { rd, rs1, rs2 } => r_type(OP, 2, 0, rd, rs1, rs2),
+        Instr::Sltu { rd, rs1, rs2 } => r_type(OP, 3, 0, rd, rs1, rs2),
+        Instr::Xor { rd, rs1, rs2 } => r_type(OP, 4, 0, rd, rs1, rs2),
+        Instr::Srl { rd, rs1, rs2 } => r_type(OP, 5, 0, rd, rs1, rs2),
+        Instr::Or { rd, rs1, rs2 } => r_type(OP, 6, 0, rd, rs1, rs2),
+        Instr::And { rd, rs1, rs2 } => r_type(OP, 7, 0, rd, rs1, rs2),
+        Instr::Sub { rd, rs1, rs2 } => r_type(OP, 0, 0x20, rd, rs1, rs2),
+        Instr::Sra { rd, rs1, rs2 } => r_type(OP, 5, 0x20, rd, rs1, rs2),
         _ => None,
     }
 }
@@ -157,14 +154,14 @@ pub fn op_multiply(i: &Instr) -> Option<u32>
     ensures some { is_some result ≡ (is_op_multiply i.now && fits i.now) }
 {
     match *i {
-        Instr::Mul { rd, rs1, rs2 } => register_word(OP, 0, 1, rd, rs1, rs2),
-        Instr::Mulh { rd, rs1, rs2 } => register_word(OP, 1, 1, rd, rs1, rs2),
-        Instr::Mulhsu { rd, rs1, rs2 } => register_word(OP, 2, 1, rd, rs1, rs2),
-        Instr::Mulhu { rd, rs1, rs2 } => register_word(OP, 3, 1, rd, rs1, rs2),
-        Instr::Div { rd, rs1, rs2 } => register_word(OP, 4, 1, rd, rs1, rs2),
-        Instr::Divu { rd, rs1, rs2 } => register_word(OP, 5, 1, rd, rs1, rs2),
-        Instr::Rem { rd, rs1, rs2 } => register_word(OP, 6, 1, rd, rs1, rs2),
-        Instr::Remu { rd, rs1, rs2 } => register_word(OP, 7, 1, rd, rs1, rs2),
+        Instr::Mul { rd, rs1, rs2 } => r_type(OP, 0, 1, rd, rs1, rs2),
+        Instr::Mulh { rd, rs1, rs2 } => r_type(OP, 1, 1, rd, rs1, rs2),
+        Instr::Mulhsu { rd, rs1, rs2 } => r_type(OP, 2, 1, rd, rs1, rs2),
+        Instr::Mulhu { rd, rs1, rs2 } => r_type(OP, 3, 1, rd, rs1, rs2),
+        Instr::Div { rd, rs1, rs2 } => r_type(OP, 4, 1, rd, rs1, rs2),
+        Instr::Divu { rd, rs1, rs2 } => r_type(OP, 5, 1, rd, rs1, rs2),
+        Instr::Rem { rd, rs1, rs2 } => r_type(OP, 6, 1, rd, rs1, rs2),
+        Instr::Remu { rd, rs1, rs2 } => r_type(OP, 7, 1, rd, rs1, rs2),
         _ => None,
     }
 }
@@ -176,10 +173,10 @@ pub fn op_immediate_32(i: &Instr) -> Option<u32>
     ensures some { is_some result ≡ (is_op_imm_32 i.now && fits i.now) }
 {
     match *i {
-        Instr::Addiw { rd, rs1, imm } => immediate_word(OP_IMM_32, 0, rd, rs1, imm),
-        Instr::Slliw { rd, rs1, shift } => register_word(OP_IMM_32, 1, 0, rd, rs1, shift),
-        Instr::Srliw { rd, rs1, shift } => register_word(OP_IMM_32, 5, 0, rd, rs1, shift),
-        Instr::Sraiw { rd, rs1, shift } => register_word(OP_IMM_32, 5, 0x20, rd, rs1, shift),
+        Instr::Addiw { rd, rs1, imm } => i_type(OP_IMM_32, 0, rd, rs1, imm),
+        Instr::Slliw { rd, rs1, shift } => r_type(OP_IMM_32, 1, 0, rd, rs1, shift),
+        Instr::Srliw { rd, rs1, shift } => r_type(OP_IMM_32, 5, 0, rd, rs1, shift),
+        Instr::Sraiw { rd, rs1, shift } => r_type(OP_IMM_32, 5, 0x20, rd, rs1, shift),
         _ => None,
     }
 }
@@ -191,11 +188,11 @@ pub fn op_32(i: &Instr) -> Option<u32>
     ensures some { is_some result ≡ (is_op_32 i.now && fits i.now) }
 {
     match *i {
-        Instr::Addw { rd, rs1, rs2 } => register_word(OP_32, 0, 0, rd, rs1, rs2),
-        Instr::Sllw { rd, rs1, rs2 } => register_word(OP_32, 1, 0, rd, rs1, rs2),
-        Instr::Srlw { rd, rs1, rs2 } => register_word(OP_32, 5, 0, rd, rs1, rs2),
-        Instr::Subw { rd, rs1, rs2 } => register_word(OP_32, 0, 0x20, rd, rs1, rs2),
-        Instr::Sraw { rd, rs1, rs2 } => register_word(OP_32, 5, 0x20, rd, rs1, rs2),
+        Instr::Addw { rd, rs1, rs2 } => r_type(OP_32, 0, 0, rd, rs1, rs2),
+        Instr::Sllw { rd, rs1, rs2 } => r_type(OP_32, 1, 0, rd, rs1, rs2),
+        Instr::Srlw { rd, rs1, rs2 } => r_type(OP_32, 5, 0, rd, rs1, rs2),
+        Instr::Subw { rd, rs1, rs2 } => r_type(OP_32, 0, 0x20, rd, rs1, rs2),
+        Instr::Sraw { rd, rs1, rs2 } => r_type(OP_32, 5, 0x20, rd, rs1, rs2),
         _ => None,
     }
 }
@@ -207,11 +204,11 @@ pub fn op_32_multiply(i: &Instr) -> Option<u32>
     ensures some { is_some result ≡ (is_op_32_multiply i.now && fits i.now) }
 {
     match *i {
-        Instr::Mulw { rd, rs1, rs2 } => register_word(OP_32, 0, 1, rd, rs1, rs2),
-        Instr::Divw { rd, rs1, rs2 } => register_word(OP_32, 4, 1, rd, rs1, rs2),
-        Instr::Divuw { rd, rs1, rs2 } => register_word(OP_32, 5, 1, rd, rs1, rs2),
-        Instr::Remw { rd, rs1, rs2 } => register_word(OP_32, 6, 1, rd, rs1, rs2),
-        Instr::Remuw { rd, rs1, rs2 } => register_word(OP_32, 7, 1, rd, rs1, rs2),
+        Instr::Mulw { rd, rs1, rs2 } => r_type(OP_32, 0, 1, rd, rs1, rs2),
+        Instr::Divw { rd, rs1, rs2 } => r_type(OP_32, 4, 1, rd, rs1, rs2),
+        Instr::Divuw { rd, rs1, rs2 } => r_type(OP_32, 5, 1, rd, rs1, rs2),
+        Instr::Remw { rd, rs1, rs2 } => r_type(OP_32, 6, 1, rd, rs1, rs2),
+        Instr::Remuw { rd, rs1, rs2 } => r_type(OP_32, 7, 1, rd, rs1, rs2),
         _ => None,
     }
 }
@@ -227,7 +224,7 @@ pub fn fence_or_system(i: &Instr) -> Option<u32>
         Instr::Fence => Some(FENCE),
         Instr::Ecall => Some(ECALL),
         Instr::Ebreak => Some(EBREAK),
-        Instr::ReadCounter { rd, counter } => counter_word(SYSTEM, 2, rd, counter),
+        Instr::ReadCounter { rd, counter } => csr_type(SYSTEM, 2, rd, counter),
         _ => None,
     }
 }

@@ -1,10 +1,10 @@
 // The code of a guest: its items in order, their labels resolved.
 ghost use Rattle.std.specs.Prelude.{◌≡◌, ◌<◌, ◌^◌, ℕ, false, true, IfOk, IfErr, OnOk, length};
 ghost use Rattle.std.specs.List.{list_any};
-ghost use Rattle.dt_asm.specs.Item.{total, pieces_of, piece_of, branch_by as branch_in, word, size_of};
+ghost use Rattle.dt_asm.specs.Item.{total, pieces_of, piece_of, branch_by, word, size_of};
 ghost use Rattle.dt_asm.specs.Refusal.{is_bad};
 ghost use Rattle.dt_asm.specs.Code.{Spells};
-ghost use Rattle.dt_asm.specs.Adding.{IsAdded, RefusesField};
+ghost use Rattle.dt_asm.specs.inner.Adding.{IsAdded, RefusesField};
 
 use crate::encoder::encode;
 use crate::error::AsmErr;
@@ -30,7 +30,7 @@ pub fn code_of(alloc: Global, items: &[Item]) -> Result<Vec<u8>, AsmErr>
     Ok(code)
 }
 
-// Adds the bytes of an item at a place.
+// Adds the bytes of an item at an offset.
 fn add_item(code: &mut Vec<u8>, items: &[Item], at: u64, item: &Item) -> Result<(), AsmErr>
     requires small { total items.now < 2 ^ 63 }
     requires inside { at < 2 ^ 63 }
@@ -73,7 +73,7 @@ fn add_word(code: &mut Vec<u8>, i: &Instr) -> Result<(), AsmErr>
 
 // The branch with a funct3.
 fn branch_by(funct3: u8, rs1: u8, rs2: u8, imm: i64) -> Instr
-    ensures { result ≡ branch_in funct3 rs1 rs2 imm }
+    ensures { result ≡ branch_by funct3 rs1 rs2 imm }
 {
     match funct3 {
         0 => Instr::Beq { rs1, rs2, imm },

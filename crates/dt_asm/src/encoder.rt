@@ -3,16 +3,16 @@ ghost use Rattle.std.specs.Prelude.{◌≡◌, ◌&&◌, is_some, IfSome, Some};
 ghost use Rattle.dt_rv64.specs.declared.instruction.Instr.TheVariants.{Fence};
 ghost use Rattle.dt_rv64.specs.Instruction.{instr};
 ghost use Rattle.dt_asm.specs.Fits.{fits};
-ghost use Rattle.dt_asm.specs.Classes.{is_computational, is_computational_32};
+ghost use Rattle.dt_asm.specs.inner.Classes.{is_computational, is_computational_32};
 
 use crate::classes::{
-    branch, fence_or_system, load, op, op_32, op_32_multiply, op_immediate, op_immediate_32,
-    op_multiply, store, upper_or_jump,
+    branch, fence_or_system, load, lui_auipc_or_jump, op, op_32, op_32_multiply, op_immediate,
+    op_immediate_32, op_multiply, store,
 };
 use dt_rv64::Instr;
 
-/// The word of an instruction, for FENCE that without other fields; `None` exactly where a field is out of its range, or the
-/// instruction is `Unknown`.
+/// The word of an instruction, for FENCE that without other fields; `None` exactly where a field is out of its range,
+/// or the instruction is `Unknown`.
 pub fn encode(i: &Instr) -> Option<u32>
     ensures round { IfSome result (λ word. instr word ≡ i.now) }
     ensures some { is_some result ≡ fits i.now }
@@ -20,7 +20,7 @@ pub fn encode(i: &Instr) -> Option<u32>
 {
     match i {
         Instr::Lui { .. } | Instr::Auipc { .. } | Instr::Jal { .. } | Instr::Jalr { .. } =>
-            upper_or_jump(i),
+            lui_auipc_or_jump(i),
         Instr::Beq { .. }
         | Instr::Bne { .. }
         | Instr::Blt { .. }
@@ -43,8 +43,8 @@ pub fn encode(i: &Instr) -> Option<u32>
     }
 }
 
-// The word of an instruction that computes a register from registers or an immediate (RISC-V unprivileged specification, "Integer
-// Computational Instructions", and M).
+// The word of an instruction that computes a register from registers or an immediate (RISC-V unprivileged
+// specification, "Integer Computational Instructions", and M).
 fn computational(i: &Instr) -> Option<u32>
     ensures round { IfSome result (λ word. instr word ≡ i.now) }
     ensures some { is_some result ≡ (is_computational i.now && fits i.now) }

@@ -7,7 +7,7 @@ ghost use Rattle.dt_asm.specs.File.{IsFileOf, Refuses};
 ghost use Rattle.dt_asm.specs.Accepted.{IsAccepted};
 ghost use Rattle.dt_asm.specs.Load.{loading};
 ghost use Rattle.dt_rv64.specs.declared.instruction.Instr.TheVariants.{Ecall};
-ghost use Rattle.dt_asm.specs.Sized.{IsGrown};
+ghost use Rattle.dt_asm.specs.inner.Sized.{IsGrown};
 
 use crate::code::code_of;
 use crate::error::AsmErr;
@@ -15,13 +15,11 @@ use crate::headers::{HEADERS_SIZE, headers};
 use crate::item::Item;
 use crate::labels::{any_lost, any_out_of_reach, is_set_twice};
 use crate::loads::add_loading;
+use dt_base::abi::A7;
 use dt_base::{Blob, FILE_LIMIT, NoMemory};
 use dt_rv64::Instr;
 use std::alloc::Global;
 use std::marker::Model;
-
-// The register of a call's number.
-const A7: u8 = 17;
 
 // The greatest size that is kept.
 const SIZE_LIMIT: u64 = 0x7fff_ffff_ffff_ffff;
@@ -37,7 +35,7 @@ pub struct Guest {
 
 impl Model for Guest {
     ghost use Rattle.dt_asm.specs.Item.{GuestView};
-    ghost use Rattle.dt_asm.specs.Sized.{IsSized};
+    ghost use Rattle.dt_asm.specs.inner.Sized.{IsSized};
 
     ghost Value = { GuestView };
 
@@ -59,8 +57,8 @@ impl Guest {
         }
     }
 
-    /// Makes the memory this many bytes long, or as long as the file where that is more, and writable. The last size that is given
-    /// holds; it takes no memory.
+    /// Makes the memory this many bytes long, or as long as the file where that is more, and writable. The last size
+    /// that is given holds; it takes no memory.
     pub fn memsz(&mut self, size: u32) -> Result<(), NoMemory>
         ensures size { self.new ≡ record { items = self.old.items; memory = Some size } }
         ensures done { IsOk result }
@@ -86,12 +84,12 @@ impl Guest {
     }
 
     /// Adds the branch with this funct3 to a label.
-    pub fn branch(&mut self, f3: u8, rs1: u8, rs2: u8, label: u32) -> Result<(), NoMemory>
-        ensures ok { OnOk result (self.new ≡ with_items self.old (Branch f3 rs1 rs2 label ∷ [])) }
+    pub fn branch(&mut self, funct3: u8, rs1: u8, rs2: u8, label: u32) -> Result<(), NoMemory>
+        ensures ok { OnOk result (self.new ≡ with_items self.old (Branch funct3 rs1 rs2 label ∷ [])) }
         ensures err { OnErr result (self.new ≡ self.old) }
     {
         self.push(Item::Branch {
-            funct3: f3,
+            funct3,
             rs1,
             rs2,
             label,
@@ -115,8 +113,8 @@ impl Guest {
         self.push(Item::Bytes(bytes))
     }
 
-    /// Adds what loads a number into a register: ADDI from x0 where it fits twelve signed bits; LUI and ADDIW where it fits 32;
-    /// else what loads its upper part, SLLI by 12, and ADDI of its sign-extended low twelve bits.
+    /// Adds what loads a number into a register: ADDI from x0 where it fits twelve signed bits; LUI and ADDIW where it
+    /// fits 32; else what loads its upper 52 bits, SLLI by 12, and ADDI of its sign-extended low twelve bits.
     pub fn li(&mut self, reg: u8, v: i64) -> Result<(), NoMemory>
         ensures ok { OnOk result (self.new ≡ with_items self.old (map Code (loading reg v))) }
         ensures err { OnErr result (self.new ≡ self.old) }
@@ -128,7 +126,8 @@ impl Guest {
 
     /// Adds a call: its number is loaded into a7, and ECALL follows.
     pub fn call(&mut self, number: u32) -> Result<(), NoMemory>
-        ensures ok { OnOk result (self.new ≡ with_items self.old (map Code (loading 17 (pos number)) ++ (Code Ecall ∷ []))) }
+        ensures ok { OnOk result
+            (self.new ≡ with_items self.old (map Code (loading A7 (pos number)) ++ (Code Ecall ∷ []))) }
         ensures err { OnErr result (self.new ≡ self.old) }
     {
         let mut items = Vec::new(self.alloc);

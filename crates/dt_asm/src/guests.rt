@@ -6,16 +6,11 @@ ghost use Rattle.dt_asm.specs.Guests.{instructions, hello_guest, forking, trio_g
 
 use crate::guest::Guest;
 use dt_base::NoMemory;
+use dt_base::abi::{A0, A1, A2};
 use dt_rv64::Instr;
 use std::alloc::Global;
 
-// Registers of arguments, the first of an answer too.
-const A0: u8 = 10;
-
-const A1: u8 = 11;
-
-const A2: u8 = 12;
-
+// The register of a call's fourth argument.
 const A3: u8 = 13;
 
 // Calls (asm-generic/unistd.h).

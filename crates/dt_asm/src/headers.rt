@@ -34,9 +34,9 @@ const FILE_HEADER: [u8; 64] = [
     0, 0, 0, 0, 64, 0, 56, 0, 1, 0, 0, 0, 0, 0, 0, 0,
 ];
 
-/// The file header and the one program header (ELF-64, "ELF Header" and "Program Header") of a file of this many bytes, headers
-/// included, all of which is loaded. Where a size of memory is given, in bytes, the memory is writable, and as long as that or as
-/// the file, whichever is more.
+/// The file header and the one program header (ELF-64, "ELF Header" and "Program Header") of a file of this many bytes,
+/// headers included, all of which is loaded. Where a size of memory is given, in bytes, the memory is writable, and as
+/// long as that or as the file, whichever is more.
 pub fn headers(alloc: Global, size: u64, memory: Option<u32>) -> Result<Vec<u8>, NoMemory>
     ensures bytes { IfOk result (λ bytes. bytes.items ≡ file_header ++ segment_header memory size) }
     ensures few { IfSome memory (λ memory. memory < 2 ^ 32) }

@@ -21,7 +21,7 @@ pub enum Item {
     Jump(u32),
     /// Bytes as they are.
     Bytes(Blob),
-    /// The place that a label stands for.
+    /// The offset that a label stands for, where the next item begins.
     Label(u32),
 }
 

@@ -1,16 +1,16 @@
 // Labels: where they stand, and whether each can be used.
 ghost use Rattle.std.specs.Prelude.{◌≡◌, ◌<◌, ◌≤◌, ◌+◌, ◌^◌, ℕ, IfSome};
 ghost use Rattle.std.specs.List.{list_any};
-ghost use Rattle.dt_asm.specs.Item.{total, place_of as place_in, sets, distance as distance_in, size_of};
-ghost use Rattle.dt_asm.specs.Refusal.{is_lost as loses, is_set_in, is_set_twice as sets_twice, is_out_of_reach as is_beyond, any_out_of_reach as any_beyond};
+ghost use Rattle.dt_asm.specs.Item.{total, offset_of, sets, distance, size_of};
+ghost use Rattle.dt_asm.specs.Refusal.{is_lost, is_set_in, is_set_twice, is_out_of_reach, any_out_of_reach};
 
 use crate::item::Item;
-use crate::shapes::{is_far, is_near};
+use crate::shapes::{is_b_immediate, is_j_immediate};
 
 /// Whether an item uses a label that none of the items sets.
 pub fn any_lost(items: &[Item]) -> bool
     requires { total items.now < 2 ^ 63 }
-    ensures { result ≡ list_any (loses items.now) items.now }
+    ensures { result ≡ list_any (is_lost items.now) items.now }
 {
     items.iter().any(|item| is_lost(items, item))
 }
@@ -18,7 +18,7 @@ pub fn any_lost(items: &[Item]) -> bool
 /// Whether two items set one label.
 pub fn is_set_twice(items: &[Item]) -> bool
     requires { total items.now < 2 ^ 63 }
-    ensures { result ≡ sets_twice items.now }
+    ensures { result ≡ is_set_twice items.now }
 {
     let mut rest = items;
     while let [item, after @ ..] = rest {
@@ -30,11 +30,11 @@ pub fn is_set_twice(items: &[Item]) -> bool
     false
 }
 
-/// Whether the label of an item lies outside the range of its form: -4,096 to 4,094 bytes from a branch, -1,048,576 to 1,048,574
-/// from a jump, and an even number of them.
+/// Whether the label of an item lies outside the range of its form: -4,096 to 4,094 bytes from a branch, -1,048,576 to
+/// 1,048,574 from a jump, and an even number of them.
 pub fn any_out_of_reach(items: &[Item]) -> bool
     requires { total items.now < 2 ^ 63 }
-    ensures { result ≡ any_beyond items.now 0 items.now }
+    ensures { result ≡ any_out_of_reach items.now 0 items.now }
 {
     let mut at = 0;
     for item in items {
@@ -46,23 +46,23 @@ pub fn any_out_of_reach(items: &[Item]) -> bool
     false
 }
 
-/// The bytes from a place to that of a label, both counted from the first item on; a label that is not set is taken to stand at 0.
+/// The bytes from an offset in the code to that of a label; a label that is not set is taken to stand at 0.
 pub fn distance(items: &[Item], at: u64, label: u32) -> i64
     requires small { total items.now < 2 ^ 63 }
     requires inside { at < 2 ^ 63 }
-    ensures { result ≡ distance_in items.now at label }
+    ensures { result ≡ distance items.now at label }
 {
-    let place = place_of(items, label).unwrap_or(0);
-    place.cast_signed() - at.cast_signed()
+    let offset = offset_of(items, label).unwrap_or(0);
+    offset.cast_signed() - at.cast_signed()
 }
 
 // Whether the item uses a label that is not set.
 fn is_lost(items: &[Item], item: &Item) -> bool
     requires { total items.now < 2 ^ 63 }
-    ensures { result ≡ loses items.now item.now }
+    ensures { result ≡ is_lost items.now item.now }
 {
     match item {
-        Item::Branch { label, .. } | Item::Jump(label) => place_of(items, *label).is_none(),
+        Item::Branch { label, .. } | Item::Jump(label) => offset_of(items, *label).is_none(),
         _ => false,
     }
 }
@@ -73,7 +73,7 @@ fn is_set(items: &[Item], item: &Item) -> bool
     ensures { result ≡ is_set_in items.now item.now }
 {
     match item {
-        Item::Label(label) => place_of(items, *label).is_some(),
+        Item::Label(label) => offset_of(items, *label).is_some(),
         _ => false,
     }
 }
@@ -82,19 +82,19 @@ fn is_set(items: &[Item], item: &Item) -> bool
 fn is_out_of_reach(items: &[Item], at: u64, item: &Item) -> bool
     requires small { total items.now < 2 ^ 63 }
     requires inside { at < 2 ^ 63 }
-    ensures { result ≡ is_beyond items.now at item.now }
+    ensures { result ≡ is_out_of_reach items.now at item.now }
 {
     match item {
-        Item::Branch { label, .. } => !is_near(distance(items, at, *label)),
-        Item::Jump(label) => !is_far(distance(items, at, *label)),
+        Item::Branch { label, .. } => !is_b_immediate(distance(items, at, *label)),
+        Item::Jump(label) => !is_j_immediate(distance(items, at, *label)),
         _ => false,
     }
 }
 
 // Where a label is set, counted in bytes from the first item on.
-fn place_of(items: &[Item], name: u32) -> Option<u64>
+fn offset_of(items: &[Item], name: u32) -> Option<u64>
     requires { total items.now < 2 ^ 63 }
-    ensures place { result ≡ place_in items.now name }
+    ensures offset { result ≡ offset_of items.now name }
     ensures within { IfSome result (λ at. at ≤ total items.now) }
 {
     let mut at = 0;

@@ -3,25 +3,26 @@ ghost use Rattle.std.specs.Prelude.{◌≡◌, ◌++◌, ◌∷◌, [], map, OnO
 ghost use Rattle.dt_rv64.specs.declared.instruction.Instr.TheVariants.{Lui, Addi, Slli, Addiw};
 ghost use Rattle.dt_asm.specs.declared.item.Item.TheVariants.{Code};
 ghost use Rattle.dt_asm.specs.Fits.{is_signed};
-ghost use Rattle.dt_asm.specs.Load.{extended, without_low, upper_part as upper_of, loading};
+ghost use Rattle.dt_asm.specs.Load.{signed_low, without_low, hi52, loading};
 
 use crate::item::Item;
 use dt_base::NoMemory;
 use dt_rv64::Instr;
 
-/// Adds the instructions that load a number into a register, one to eight of them. Where memory runs out, some may have been added.
+/// Adds the instructions that load a number into a register, one to eight of them. Where memory runs out, some may have
+/// been added.
 pub fn add_loading(items: &mut Vec<Item>, register: u8, number: i64) -> Result<(), NoMemory>
     ensures { OnOk result (items.new.items ≡ items.old.items ++ map Code (loading register number)) }
 {
     if fits_12(number) {
-        add(items, short(register, number))
+        add(items, addi_from_zero(register, number))
     } else if fits_32(number) {
-        add(items, word_high(register, number))?;
-        add(items, word_low(register, number))
+        add(items, lui(register, number))?;
+        add(items, addiw(register, number))
     } else {
-        add_loading(items, register, upper_part(number))?;
-        add(items, moved_up(register))?;
-        add(items, low_added(register, number))
+        add_loading(items, register, hi52(number))?;
+        add(items, slli_12(register))?;
+        add(items, addi_low(register, number))
     }
 }
 
@@ -40,16 +41,16 @@ fn fits_32(number: i64) -> bool
 }
 
 // The sign-extended low twelve bits.
-fn low_12(number: i64) -> i64
-    ensures { result ≡ extended 12 number }
+fn signed_low_12(number: i64) -> i64
+    ensures { result ≡ signed_low 12 number }
 {
     let bits = number.rem_euclid(4096);
     if bits < 2048 { bits } else { bits - 4096 }
 }
 
 // The sign-extended low 32 bits.
-fn low_32(number: i64) -> i64
-    ensures { result ≡ extended 32 number }
+fn signed_low_32(number: i64) -> i64
+    ensures { result ≡ signed_low 32 number }
 {
     let bits = number.rem_euclid(0x1_0000_0000);
     if bits < 0x8000_0000 {
@@ -59,15 +60,15 @@ fn low_32(number: i64) -> i64
     }
 }
 
-// What is above the sign-extended low twelve bits, moved down by twelve.
-fn upper_part(number: i64) -> i64
-    ensures { result ≡ upper_of number }
+// The 52 bits above the sign-extended low twelve, moved down by twelve.
+fn hi52(number: i64) -> i64
+    ensures { result ≡ hi52 number }
 {
-    let upper = number.div_euclid(4096);
+    let high = number.div_euclid(4096);
     if number.rem_euclid(4096) < 2048 {
-        upper
+        high
     } else {
-        upper + 1
+        high + 1
     }
 }
 
@@ -78,8 +79,8 @@ fn add(items: &mut Vec<Item>, i: Instr) -> Result<(), NoMemory>
     Ok(items.push(Item::Code(i))?)
 }
 
-// Loads a number of twelve bits.
-fn short(register: u8, number: i64) -> Instr
+// ADDI from x0: loads a number of twelve bits.
+fn addi_from_zero(register: u8, number: i64) -> Instr
     ensures { result ≡ Addi register 0 number }
 {
     Instr::Addi {
@@ -89,30 +90,30 @@ fn short(register: u8, number: i64) -> Instr
     }
 }
 
-// Loads what a number of 32 bits has above its sign-extended low twelve bits.
-fn word_high(register: u8, number: i64) -> Instr
+// LUI: loads what a number of 32 bits has above its sign-extended low twelve bits.
+fn lui(register: u8, number: i64) -> Instr
     requires { is_signed 32 number ≡ true }
-    ensures { result ≡ Lui register (extended 32 (without_low number)) }
+    ensures { result ≡ Lui register (signed_low 32 (without_low number)) }
 {
     Instr::Lui {
         rd: register,
-        imm: low_32(without_low_12(number)),
+        imm: signed_low_32(without_low_12(number)),
     }
 }
 
-// Adds the low bits of a number of 32 bits.
-fn word_low(register: u8, number: i64) -> Instr
-    ensures { result ≡ Addiw register register (extended 12 number) }
+// ADDIW: adds the low bits of a number of 32 bits.
+fn addiw(register: u8, number: i64) -> Instr
+    ensures { result ≡ Addiw register register (signed_low 12 number) }
 {
     Instr::Addiw {
         rd: register,
         rs1: register,
-        imm: low_12(number),
+        imm: signed_low_12(number),
     }
 }
 
-// Moves a register up by twelve bits.
-fn moved_up(register: u8) -> Instr
+// SLLI: shifts a register left by twelve bits.
+fn slli_12(register: u8) -> Instr
     ensures { result ≡ Slli register register 12 }
 {
     Instr::Slli {
@@ -122,14 +123,14 @@ fn moved_up(register: u8) -> Instr
     }
 }
 
-// Adds the low bits of a number.
-fn low_added(register: u8, number: i64) -> Instr
-    ensures { result ≡ Addi register register (extended 12 number) }
+// ADDI: adds the low bits of a number.
+fn addi_low(register: u8, number: i64) -> Instr
+    ensures { result ≡ Addi register register (signed_low 12 number) }
 {
     Instr::Addi {
         rd: register,
         rs1: register,
-        imm: low_12(number),
+        imm: signed_low_12(number),
     }
 }
 
@@ -138,5 +139,5 @@ fn without_low_12(number: i64) -> i64
     requires { is_signed 32 number ≡ true }
     ensures { result ≡ without_low number }
 {
-    number - low_12(number)
+    number - signed_low_12(number)
 }

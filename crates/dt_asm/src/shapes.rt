@@ -1,118 +1,119 @@
-// The words of each format, from their fields (RISC-V unprivileged specification, "Base Instruction Formats" and "Immediate
-// Encoding Variants"). `code` is the opcode, `minor` funct3, `upper` funct7 or funct6.
+// The words of each format, from their fields (RISC-V unprivileged specification, "Base Instruction Formats" and
+// "Immediate Encoding Variants").
 ghost use Rattle.std.specs.Prelude.{◌≡◌, ◌<◌, ◌^◌, ◌/◌, ◌%◌, ◌*◌, ◌&&◌, is_some, IfSome};
-ghost use Rattle.dt_asm.specs.Fits.{is_near as nears, is_upper, is_far as reaches, is_low, is_counter, is_register, fits_r, fits_i, fits_s, fits_b, fits_u, fits_j, fits_shift};
-ghost use Rattle.dt_asm.specs.Shapes.{IsBits, IsR, IsI, IsShift, IsCsr, IsS, IsB, IsU, IsJ};
+ghost use Rattle.dt_asm.specs.Fits.{is_b_immediate, is_u_immediate, is_j_immediate, is_i_immediate, is_counter, is_register, fits_r, fits_i, fits_s, fits_b, fits_u, fits_j, fits_shift};
+ghost use Rattle.dt_asm.specs.inner.Shapes.{IsBits, IsR, IsI, IsShift, IsCsr, IsS, IsB, IsU, IsJ};
 
 const REGISTERS: u8 = 32;
 
 /// The word in R format of three registers; `None` exactly where one is over 31.
-pub fn register_word(code: u32, minor: u32, upper: u32, rd: u8, rs1: u8, rs2: u8) -> Option<u32>
-    requires code { code < 2 ^ 7 }
-    requires minor { minor < 2 ^ 3 }
-    requires upper { upper < 2 ^ 7 }
+pub fn r_type(opcode: u32, funct3: u32, funct7: u32, rd: u8, rs1: u8, rs2: u8) -> Option<u32>
+    requires opcode { opcode < 2 ^ 7 }
+    requires funct3 { funct3 < 2 ^ 3 }
+    requires funct7 { funct7 < 2 ^ 7 }
     ensures some { is_some result ≡ fits_r rd rs1 rs2 }
-    ensures word { IfSome result (IsR code minor upper rd rs1 rs2) }
+    ensures word { IfSome result (IsR opcode funct3 funct7 rd rs1 rs2) }
 {
     if rd < REGISTERS && rs1 < REGISTERS && rs2 < REGISTERS {
-        Some(assembled(code, u32::from(rd), minor, rs1, rs2, upper))
+        Some(assembled(opcode, u32::from(rd), funct3, rs1, rs2, funct7))
     } else {
         None
     }
 }
 
-/// The word in I format of two registers and an immediate; `None` exactly where a register is over 31, or the immediate is no
-/// signed number of 12 bits.
-pub fn immediate_word(code: u32, minor: u32, rd: u8, rs1: u8, imm: i64) -> Option<u32>
-    requires code { code < 2 ^ 7 }
-    requires minor { minor < 2 ^ 3 }
+/// The word in I format of two registers and an immediate; `None` exactly where a register is over 31, or the
+/// immediate is no signed number of 12 bits.
+pub fn i_type(opcode: u32, funct3: u32, rd: u8, rs1: u8, imm: i64) -> Option<u32>
+    requires opcode { opcode < 2 ^ 7 }
+    requires funct3 { funct3 < 2 ^ 3 }
     ensures some { is_some result ≡ fits_i rd rs1 imm }
-    ensures word { IfSome result (IsI code minor rd rs1 imm) }
+    ensures word { IfSome result (IsI opcode funct3 rd rs1 imm) }
 {
     if rd < REGISTERS && rs1 < REGISTERS {
-        let bits = low_bits(imm)?;
-        Some(code + (u32::from(rd) << 7) + (minor << 12) + (u32::from(rs1) << 15) + (bits << 20))
+        let bits = i_immediate_bits(imm)?;
+        Some(opcode + (u32::from(rd) << 7) + (funct3 << 12) + (u32::from(rs1) << 15) + (bits << 20))
     } else {
         None
     }
 }
 
-/// The word in I format of two registers and a shift of six bits, below funct6; `None` exactly where a register is over 31, or the
-/// shift over 63.
-pub fn shift_word(code: u32, minor: u32, upper: u32, rd: u8, rs1: u8, shift: u8) -> Option<u32>
-    requires code { code < 2 ^ 7 }
-    requires minor { minor < 2 ^ 3 }
-    requires upper { upper < 2 ^ 6 }
+/// The word in I format of two registers and a shift of six bits, below funct6; `None` exactly where a register is
+/// over 31, or the shift over 63.
+pub fn shift_type(opcode: u32, funct3: u32, funct6: u32, rd: u8, rs1: u8, shift: u8) -> Option<u32>
+    requires opcode { opcode < 2 ^ 7 }
+    requires funct3 { funct3 < 2 ^ 3 }
+    requires funct6 { funct6 < 2 ^ 6 }
     ensures some { is_some result ≡ fits_shift 64 rd rs1 shift }
-    ensures word { IfSome result (IsShift code minor upper rd rs1 shift) }
+    ensures word { IfSome result (IsShift opcode funct3 funct6 rd rs1 shift) }
 {
     if rd < REGISTERS && rs1 < REGISTERS && shift < 64 {
         Some(
-            code + (u32::from(rd) << 7)
-                + (minor << 12)
+            opcode
+                + (u32::from(rd) << 7)
+                + (funct3 << 12)
                 + (u32::from(rs1) << 15)
                 + (u32::from(shift) << 20)
-                + (upper << 26),
+                + (funct6 << 26),
         )
     } else {
         None
     }
 }
 
-/// The word in I format of a register and the number of a counter, with x0 as its source; `None` exactly where the register is over
-/// 31, or the number is not 0xC00, 0xC01 or 0xC02.
-pub fn counter_word(code: u32, minor: u32, rd: u8, counter: u16) -> Option<u32>
-    requires code { code < 2 ^ 7 }
-    requires minor { minor < 2 ^ 3 }
+/// The word in I format of a register and the number of a counter, with x0 as its source; `None` exactly where the
+/// register is over 31, or the number is not 0xC00, 0xC01 or 0xC02.
+pub fn csr_type(opcode: u32, funct3: u32, rd: u8, counter: u16) -> Option<u32>
+    requires opcode { opcode < 2 ^ 7 }
+    requires funct3 { funct3 < 2 ^ 3 }
     ensures some { is_some result ≡ (is_register rd && is_counter counter) }
-    ensures word { IfSome result (IsCsr code minor rd counter) }
+    ensures word { IfSome result (IsCsr opcode funct3 rd counter) }
 {
     if rd < REGISTERS && 0xc00 <= counter && counter <= 0xc02 {
-        Some(code + (u32::from(rd) << 7) + (minor << 12) + (u32::from(counter) << 20))
+        Some(opcode + (u32::from(rd) << 7) + (funct3 << 12) + (u32::from(counter) << 20))
     } else {
         None
     }
 }
 
-/// The word in S format of two registers and an immediate; `None` exactly where a register is over 31, or the immediate is no
-/// signed number of 12 bits.
-pub fn store_word(code: u32, minor: u32, rs1: u8, rs2: u8, imm: i64) -> Option<u32>
-    requires code { code < 2 ^ 7 }
-    requires minor { minor < 2 ^ 3 }
+/// The word in S format of two registers and an immediate; `None` exactly where a register is over 31, or the
+/// immediate is no signed number of 12 bits.
+pub fn s_type(opcode: u32, funct3: u32, rs1: u8, rs2: u8, imm: i64) -> Option<u32>
+    requires opcode { opcode < 2 ^ 7 }
+    requires funct3 { funct3 < 2 ^ 3 }
     ensures some { is_some result ≡ fits_s rs1 rs2 imm }
-    ensures word { IfSome result (IsS code minor rs1 rs2 imm) }
+    ensures word { IfSome result (IsS opcode funct3 rs1 rs2 imm) }
 {
     if rs1 < REGISTERS && rs2 < REGISTERS {
-        let bits = low_bits(imm)?;
-        Some(assembled(code, bits & 0x1f, minor, rs1, rs2, bits >> 5))
+        let bits = i_immediate_bits(imm)?;
+        Some(assembled(opcode, bits & 0x1f, funct3, rs1, rs2, bits >> 5))
     } else {
         None
     }
 }
 
-/// The word in B format of two registers and an offset in bytes; `None` exactly where a register is over 31, or the offset is no
-/// even signed number of 13 bits.
+/// The word in B format of two registers and an offset in bytes; `None` exactly where a register is over 31, or the
+/// offset is no even signed number of 13 bits.
 ///
-/// Bits 4 to 1 and bit 11 stand at the place of rd, bits 12 and 10 to 5 at that of funct7.
-#[tactic(auto, using(crate::proofs::Pieces::near_whole))]
-pub fn branch_word(code: u32, minor: u32, rs1: u8, rs2: u8, imm: i64) -> Option<u32>
-    requires code { code < 2 ^ 7 }
-    requires minor { minor < 2 ^ 3 }
+/// Bits 4 to 1 and bit 11 stand where rd does elsewhere, bits 12 and 10 to 5 where funct7 does.
+#[tactic(auto, using(crate::proofs::Pieces::b_whole))]
+pub fn b_type(opcode: u32, funct3: u32, rs1: u8, rs2: u8, imm: i64) -> Option<u32>
+    requires opcode { opcode < 2 ^ 7 }
+    requires funct3 { funct3 < 2 ^ 3 }
     ensures some { is_some result ≡ fits_b rs1 rs2 imm }
-    ensures word { IfSome result (IsB code minor rs1 rs2 imm) }
+    ensures word { IfSome result (IsB opcode funct3 rs1 rs2 imm) }
 {
     if rs1 < REGISTERS && rs2 < REGISTERS {
-        let bits = near_bits(imm)?;
-        let low = near_low(bits);
-        let high = near_high(bits);
-        Some(assembled(code, low, minor, rs1, rs2, high))
+        let bits = b_immediate_bits(imm)?;
+        let low = b_immediate_low(bits);
+        let high = b_immediate_high(bits);
+        Some(assembled(opcode, low, funct3, rs1, rs2, high))
     } else {
         None
     }
 }
 
 // Bits 4 to 1 of a B immediate, and bit 11 below them.
-fn near_low(bits: u32) -> u32
+fn b_immediate_low(bits: u32) -> u32
     requires { bits < 2 ^ 13 }
     ensures few { result < 2 ^ 5 }
     ensures lowest { result % 2 ≡ bits / 2 ^ 11 % 2 }
@@ -122,7 +123,7 @@ fn near_low(bits: u32) -> u32
 }
 
 // Bit 12 of a B immediate, and bits 10 to 5 below it.
-fn near_high(bits: u32) -> u32
+fn b_immediate_high(bits: u32) -> u32
     requires { bits < 2 ^ 13 }
     ensures few { result < 2 ^ 7 }
     ensures highest { result / 2 ^ 6 ≡ bits / 2 ^ 12 }
@@ -131,69 +132,69 @@ fn near_high(bits: u32) -> u32
     (bits >> 5 & 0x3f) + (bits >> 12 << 6)
 }
 
-/// The word in U format of a register and an immediate; `None` exactly where the register is over 31, or the immediate is no signed
-/// number of 32 bits whose low 12 are 0.
-pub fn upper_word(code: u32, rd: u8, imm: i64) -> Option<u32>
-    requires code { code < 2 ^ 7 }
+/// The word in U format of a register and an immediate; `None` exactly where the register is over 31, or the
+/// immediate is no signed number of 32 bits whose low 12 are 0.
+pub fn u_type(opcode: u32, rd: u8, imm: i64) -> Option<u32>
+    requires opcode { opcode < 2 ^ 7 }
     ensures some { is_some result ≡ fits_u rd imm }
-    ensures word { IfSome result (IsU code rd imm) }
+    ensures word { IfSome result (IsU opcode rd imm) }
 {
     if rd < REGISTERS {
-        let bits = upper_bits(imm)?;
-        Some(code + (u32::from(rd) << 7) + (bits << 12))
+        let bits = u_immediate_bits(imm)?;
+        Some(opcode + (u32::from(rd) << 7) + (bits << 12))
     } else {
         None
     }
 }
 
-/// The word in J format of a register and an offset in bytes; `None` exactly where the register is over 31, or the offset is no
-/// even signed number of 21 bits.
-pub fn jump_word(code: u32, rd: u8, imm: i64) -> Option<u32>
-    requires code { code < 2 ^ 7 }
+/// The word in J format of a register and an offset in bytes; `None` exactly where the register is over 31, or the
+/// offset is no even signed number of 21 bits.
+pub fn j_type(opcode: u32, rd: u8, imm: i64) -> Option<u32>
+    requires opcode { opcode < 2 ^ 7 }
     ensures some { is_some result ≡ fits_j rd imm }
-    ensures word { IfSome result (IsJ code rd imm) }
+    ensures word { IfSome result (IsJ opcode rd imm) }
 {
     if rd < REGISTERS {
-        let bits = far_bits(imm)?;
+        let bits = j_immediate_bits(imm)?;
         let low = (bits >> 12 & 0xff) + ((bits >> 11 & 1) << 8);
         let high = (bits >> 1 & 0x3ff) + (bits >> 20 << 10);
-        Some(code + (u32::from(rd) << 7) + (low << 12) + (high << 21))
+        Some(opcode + (u32::from(rd) << 7) + (low << 12) + (high << 21))
     } else {
         None
     }
 }
 
 /// Whether a B immediate can hold the number: even, and -4,096 to 4,094.
-pub fn is_near(imm: i64) -> bool
-    ensures { result ≡ nears imm }
+pub fn is_b_immediate(imm: i64) -> bool
+    ensures { result ≡ is_b_immediate imm }
 {
     -4096 <= imm && imm < 4096 && imm % 2 == 0
 }
 
 /// Whether a J immediate can hold the number: even, and -1,048,576 to 1,048,574.
-pub fn is_far(imm: i64) -> bool
-    ensures { result ≡ reaches imm }
+pub fn is_j_immediate(imm: i64) -> bool
+    ensures { result ≡ is_j_immediate imm }
 {
     -0x10_0000 <= imm && imm < 0x10_0000 && imm % 2 == 0
 }
 
 // The word of these fields.
-fn assembled(code: u32, rd: u32, minor: u32, rs1: u8, rs2: u8, upper: u32) -> u32
-    requires code { code < 2 ^ 7 }
-    requires minor { minor < 2 ^ 3 }
-    requires upper { upper < 2 ^ 7 }
+fn assembled(opcode: u32, rd: u32, funct3: u32, rs1: u8, rs2: u8, funct7: u32) -> u32
+    requires opcode { opcode < 2 ^ 7 }
+    requires funct3 { funct3 < 2 ^ 3 }
+    requires funct7 { funct7 < 2 ^ 7 }
     requires rd { rd < 2 ^ 5 }
     requires rs1 { rs1 < 2 ^ 5 }
     requires rs2 { rs2 < 2 ^ 5 }
-    ensures { IsR code minor upper rd rs1 rs2 result }
+    ensures { IsR opcode funct3 funct7 rd rs1 rs2 result }
 {
     let sources = (u32::from(rs1) << 15) + (u32::from(rs2) << 20);
-    code + (rd << 7) + (minor << 12) + sources + (upper << 25)
+    opcode + (rd << 7) + (funct3 << 12) + sources + (funct7 << 25)
 }
 
 // The twelve bits of an I or S immediate.
-fn low_bits(imm: i64) -> Option<u32>
-    ensures some { is_some result ≡ is_low imm }
+fn i_immediate_bits(imm: i64) -> Option<u32>
+    ensures some { is_some result ≡ is_i_immediate imm }
     ensures bits { IfSome result (IsBits 12 imm) }
 {
     if -2048 <= imm && imm < 2048 {
@@ -204,21 +205,21 @@ fn low_bits(imm: i64) -> Option<u32>
 }
 
 // The thirteen bits of a B immediate, the lowest of which is 0.
-fn near_bits(imm: i64) -> Option<u32>
-    ensures some { is_some result ≡ nears imm }
+fn b_immediate_bits(imm: i64) -> Option<u32>
+    ensures some { is_some result ≡ is_b_immediate imm }
     ensures bits { IfSome result (λ bits. IsBits 13 imm bits) }
     ensures even { IfSome result (λ bits. bits % 2 ≡ 0) }
 {
-    if is_near(imm) {
+    if is_b_immediate(imm) {
         Some((imm.cast_unsigned() & 0x1fff) as u32)
     } else {
         None
     }
 }
 
-// The twenty upper bits of a U immediate.
-fn upper_bits(imm: i64) -> Option<u32>
-    ensures some { is_some result ≡ is_upper imm }
+// The twenty bits of a U immediate that a word holds.
+fn u_immediate_bits(imm: i64) -> Option<u32>
+    ensures some { is_some result ≡ is_u_immediate imm }
     ensures bits { IfSome result (λ bits. IsBits 32 imm (bits * 2 ^ 12)) }
 {
     if -0x8000_0000 <= imm && imm < 0x8000_0000 && imm % 4096 == 0 {
@@ -229,12 +230,12 @@ fn upper_bits(imm: i64) -> Option<u32>
 }
 
 // The twenty-one bits of a J immediate, the lowest of which is 0.
-fn far_bits(imm: i64) -> Option<u32>
-    ensures some { is_some result ≡ reaches imm }
+fn j_immediate_bits(imm: i64) -> Option<u32>
+    ensures some { is_some result ≡ is_j_immediate imm }
     ensures bits { IfSome result (λ bits. IsBits 21 imm bits) }
     ensures even { IfSome result (λ bits. bits % 2 ≡ 0) }
 {
-    if is_far(imm) {
+    if is_j_immediate(imm) {
         Some((imm.cast_unsigned() & 0x1f_ffff) as u32)
     } else {
         None

@@ -3,7 +3,7 @@ use Rattle.std.specs.Prelude.{ℕ, List, codes}
 use Rattle.dt_base.specs.declared.refusal.Refusal.{Refusal}
 use Rattle.dt_base.specs.declared.refusal.Refusal.TheVariants.{NoIndex, BadIndex, BadPath, Twice, NoParent, NoBlob, TooBig, TooMany}
 
--- its place in the order
+-- its number in the order
 abbrev pub refusal_number : Refusal → ℕ
 refusal_number NoIndex = 1
 refusal_number BadIndex = 2

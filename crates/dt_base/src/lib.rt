@@ -1,6 +1,7 @@
 //! Plain types that every layer of dettrace speaks of, with the numbers and limits of its profile of Linux.
 #![tactic(auto)]
 
+pub mod abi;
 mod blob;
 mod command;
 mod errno;
@@ -9,6 +10,7 @@ mod fields;
 mod image;
 mod limits;
 mod memory;
+mod path;
 mod refusal;
 
 pub use blob::{Blob, Text};
@@ -22,4 +24,5 @@ pub use limits::{
     PAGE_LIMIT, PAGE_SIZE, PATH_LIMIT, SEGMENT_LIMIT, TRANSFER_LIMIT,
 };
 pub use memory::NoMemory;
+pub use path::{has_no_nul, is_name, is_path, is_top};
 pub use refusal::{ImageErr, Refusal};

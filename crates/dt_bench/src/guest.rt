@@ -4,6 +4,7 @@ ghost use Rattle.dt_space.specs.RangeLaws.{HasZeros};
 
 use dt_asm::encode;
 use dt_base::PAGE_SIZE;
+use dt_base::abi::A0;
 use dt_rv64::{Instr, Machine};
 use dt_space::{EXECUTE, READ, Space, WRITE};
 use std::alloc::Global;
@@ -14,8 +15,8 @@ pub const ROUNDS: u64 = 5_000_000;
 /// The instructions of all rounds: ten each.
 pub const INSTRUCTIONS: u64 = 50_000_000;
 
-/// The register in which the loop adds up what it loads: a0.
-pub const SUM: u8 = 10;
+/// The register in which the loop adds up what it loads.
+pub const SUM: u8 = A0;
 
 // The other registers: temporary and saved ones, by the names of the calling convention.
 const T0: u8 = 5;
@@ -37,7 +38,8 @@ const CODE_PAGE: u64 = 16;
 
 const DATA_PAGE: u64 = 256;
 
-// The loop, over s0 rounds. Each takes the next page of those at s1 and moves s2 bytes on, s3 being the mask of an offset.
+// The loop, over s0 rounds. Each takes the next page of those at s1 and moves s2 bytes on, s3 being the mask of an
+// offset.
 const LOOP: [Instr; 11] = [
     Instr::Add {
         rd: T1,

@@ -21,9 +21,9 @@ module _ (bytes : List ℕ) (start count : ℕ) where
 
   pub headers_after-start : headers_after 0 ≡ headers_from bytes start count
   headers_after-start =
-      let place : start + HEADER_SIZE * 0 ≡ start = omega arith in
+      let first : start + HEADER_SIZE * 0 ≡ start = omega arith in
       let left : count - 0 ≡ count = omega arith in
-      rw (place, left) refl
+      rw (first, left) refl
 
   pub headers_after-end : (i : ℕ) → count ≤ i → headers_after i ≡ []
   headers_after-end i all = headers-zero bytes _ _ (omega arith)

@@ -74,5 +74,5 @@ pub exe-entry : (bytes : List ℕ) (elf : Elf) → exe bytes ≡ Ok elf → elf.
 exe-entry bytes elf is = by-refusal (header_refusal bytes) refl is
   where
     by-refusal : (refusal : Option ElfErr) → header_refusal bytes ≡ refusal → exe_after bytes refusal ≡ Ok elf → elf.entry < ADDRESS_LIMIT
-    by-refusal (Some e) told is = let refused : Result Elf ElfErr = Err e in let clash : refused ≡ Ok elf = is in cc
-    by-refusal None told is = rw (← entry-of (e_entry bytes) (only_segment bytes) (list_any is_interp (program_headers bytes)) elf is) (entry-low bytes told)
+    by-refusal (Some e) refused_is is = let refused : Result Elf ElfErr = Err e in let clash : refused ≡ Ok elf = is in cc
+    by-refusal None none is = rw (← entry-of (e_entry bytes) (only_segment bytes) (list_any is_interp (program_headers bytes)) elf is) (entry-low bytes none)

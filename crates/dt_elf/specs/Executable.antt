@@ -12,7 +12,7 @@ use Rattle.dt_elf.specs.declared.elf.ProgramHeader.{ProgramHeader}
 use Rattle.dt_space.specs.declared.access.TheConstants.{READ, WRITE, EXECUTE}
 use Rattle.dt_space.specs.Space.{has}
 
--- the number of so many bytes at a place of the file; 0 past its end
+-- the number of so many bytes at an offset of the file; 0 past its end
 abbrev pub number : ℕ → List ℕ → ℕ → ℕ
 number width bytes at = unwrap_or (field_at width bytes at) 0
 
@@ -30,7 +30,7 @@ e_machine bytes = number 2 bytes 18
 abbrev pub e_entry : List ℕ → ℕ
 e_entry bytes = number 8 bytes 24
 
--- where the program headers stand
+-- the offset of the program headers
 abbrev pub e_phoff : List ℕ → ℕ
 e_phoff bytes = number 8 bytes 32
 
@@ -42,7 +42,7 @@ e_phentsize bytes = number 2 bytes 54
 abbrev pub e_phnum : List ℕ → ℕ
 e_phnum bytes = number 2 bytes 56
 
--- the program header at a place
+-- the program header at an offset
 abbrev pub program_header : List ℕ → ℕ → ProgramHeader
 program_header bytes at = record {
   kind = number 4 bytes at;
@@ -53,7 +53,7 @@ program_header bytes at = record {
   memsz = number 8 bytes (at + 40);
 }
 
--- so many program headers from a place on
+-- so many program headers from an offset on
 unfoldable pub headers_from : List ℕ → ℕ → ℕ → List ProgramHeader
 headers_from bytes at zero = []
 headers_from bytes at (suc count) = program_header bytes at ∷ headers_from bytes (at + HEADER_SIZE) count
@@ -64,11 +64,14 @@ program_headers bytes = headers_from bytes (e_phoff bytes) (e_phnum bytes)
 
 -- a header and its table don't fit into the file
 abbrev pub is_short : List ℕ → Bool
-is_short bytes = nat_lt (length bytes) FILE_HEADER_SIZE || nat_lt (length bytes) (e_phoff bytes + HEADER_SIZE * e_phnum bytes)
+is_short bytes =
+    nat_lt (length bytes) FILE_HEADER_SIZE || nat_lt (length bytes) (e_phoff bytes + HEADER_SIZE * e_phnum bytes)
 
 -- the table of program headers can't be used, or the entry lies outside the address space
 abbrev pub is_bad_header : List ℕ → Bool
-is_bad_header bytes = not (e_phentsize bytes == HEADER_SIZE) || e_phnum bytes == 0 || nat_lt HEADER_LIMIT (e_phnum bytes) || nat_le ADDRESS_LIMIT (e_entry bytes)
+is_bad_header bytes =
+    not (e_phentsize bytes == HEADER_SIZE) || e_phnum bytes == 0 || nat_lt HEADER_LIMIT (e_phnum bytes)
+    || nat_le ADDRESS_LIMIT (e_entry bytes)
 
 -- the first refusal of the file header
 abbrev pub header_refusal : List ℕ → Option ElfErr
@@ -91,15 +94,25 @@ is_interp header = header.kind == PT_INTERP
 
 -- the file part lies in the file and in the memory part, and this lies in the image's range
 abbrev pub is_placed : List ℕ → ProgramHeader → Bool
-is_placed bytes header = nat_le header.filesz header.memsz && nat_le (header.offset + header.filesz) (length bytes) && nat_le PAGE_SIZE header.vaddr && nat_le (header.vaddr + header.memsz) IMAGE_LIMIT
+is_placed bytes header =
+    nat_le header.filesz header.memsz && nat_le (header.offset + header.filesz) (length bytes)
+    && nat_le PAGE_SIZE header.vaddr && nat_le (header.vaddr + header.memsz) IMAGE_LIMIT
 
 -- the rights that a header's flags give; the right to write brings the right to read
 abbrev pub rights_of : ℕ → ℕ
-rights_of flags = (if has flags PF_W then READ + WRITE else if has flags PF_R then READ else 0) + (if has flags PF_X then EXECUTE else 0)
+rights_of flags =
+    (if has flags PF_W then READ + WRITE else if has flags PF_R then READ else 0)
+    + (if has flags PF_X then EXECUTE else 0)
 
 -- the segment of a header
 abbrev pub segment_at : ProgramHeader → Segment
-segment_at header = record { vaddr = header.vaddr; memsz = header.memsz; offset = header.offset; filesz = header.filesz; rights = rights_of header.flags }
+segment_at header = record {
+  vaddr = header.vaddr;
+  memsz = header.memsz;
+  offset = header.offset;
+  filesz = header.filesz;
+  rights = rights_of header.flags;
+}
 
 -- the only header of a list
 abbrev pub only : List ProgramHeader → Option ProgramHeader

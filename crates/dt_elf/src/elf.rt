@@ -49,7 +49,7 @@ pub const ADDRESS_LIMIT: u64 = 0x40_0000_0000;
 /// The end of the addresses that a segment may have.
 pub const IMAGE_LIMIT: u64 = 0x20_0000_0000;
 
-/// Why a file is no executable that can be started. The first that holds is told.
+/// Why a file is no executable that can be started, in the order in which it is looked for.
 #[derive(Clone, Copy, Debug, PartialEq, Eq, Error)]
 pub enum ElfErr {
     #[error("the headers run past the end of the file")]
@@ -98,7 +98,7 @@ pub struct ProgramHeader {
     memsz: u64,
 }
 
-/// Reads an executable, or tells the first reason why it is none.
+/// Reads an executable, or gives the first reason why the file is none.
 pub fn read_elf(bytes: &[u8]) -> Result<Elf, ElfErr>
     ensures exact { result ≡ exe bytes.now }
     ensures placed { IfOk result (λ elf. IsPlaced bytes.now elf.segment) }
@@ -292,21 +292,21 @@ fn exceeds(limit: u64, start: u64, size: u64) -> bool
     limit < start || limit - start < size
 }
 
-// The 16-bit number at a place; 0 past the end.
+// The 16-bit number at an offset; 0 past the end.
 fn half(bytes: &[u8], at: usize) -> u16
     ensures { result ≡ number 2 bytes.now at }
 {
     get16(bytes, at).unwrap_or(0)
 }
 
-// The 32-bit number at a place; 0 past the end.
+// The 32-bit number at an offset; 0 past the end.
 fn word(bytes: &[u8], at: usize) -> u32
     ensures { result ≡ number 4 bytes.now at }
 {
     get32(bytes, at).unwrap_or(0)
 }
 
-// The 64-bit number at a place; 0 past the end.
+// The 64-bit number at an offset; 0 past the end.
 fn double(bytes: &[u8], at: usize) -> u64
     ensures { result ≡ number 8 bytes.now at }
 {

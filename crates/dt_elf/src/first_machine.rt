@@ -1,11 +1,13 @@
 // The machine that starts an executable.
 ghost use Rattle.std.specs.Prelude.{◌≡◌, ◌+◌, ◌≤◌, ◌++◌, ◌↔◌, length, IfOk, Ok, Err, Some, None};
 ghost use Rattle.dt_rv64.specs.Valid.{IsMachine};
+ghost use Rattle.dt_space.specs.Space.{IsSpace};
 ghost use Rattle.dt_elf.specs.declared.elf.TheConstants.{IMAGE_LIMIT};
 ghost use Rattle.dt_elf.specs.Executable.{exe, IsPlaced};
 ghost use Rattle.dt_elf.specs.FirstMachine.{page_count, contents_of, segment_pages, stack_pages, first};
 
 use crate::elf::{Elf, Segment};
+use dt_base::abi::SP;
 use dt_base::{NoMemory, PAGE_LIMIT, PAGE_SIZE};
 use dt_rv64::Machine;
 use dt_space::{READ, Space, WRITE};
@@ -41,7 +43,7 @@ impl From<NoMemory> for StartErr {
     }
 }
 
-/// The machine that starts an executable. TooBig comes exactly where the pages pass the limit.
+/// The machine that starts an executable. `TooBig` comes exactly where the pages pass the limit.
 pub fn start(alloc: Global, elf: &Elf, bytes: &[u8]) -> Result<Machine, StartErr>
     requires { exe bytes.now ≡ Ok elf.now }
     ensures machine { IfOk result (λ machine. first elf.now bytes.now ≡ Some machine) }
@@ -53,7 +55,7 @@ pub fn start(alloc: Global, elf: &Elf, bytes: &[u8]) -> Result<Machine, StartErr
     }
     let space = elf.segment.load(alloc, bytes)?;
     let mut regs = [0; 32];
-    regs[2] = STACK_TOP;
+    regs[usize::from(SP)] = STACK_TOP;
     Ok(Machine {
         regs,
         pc: elf.entry,
@@ -74,7 +76,8 @@ impl Segment {
     fn load(&self, alloc: Global, bytes: &[u8]) -> Result<Space, NoMemory>
         requires placed { IsPlaced bytes.now self.now }
         requires few { page_count self.now + STACK_PAGES ≤ PAGE_LIMIT }
-        ensures { IfOk result (λ space. space ≡ segment_pages self.now bytes.now ++ stack_pages) }
+        ensures pages { IfOk result (λ space. space ≡ segment_pages self.now bytes.now ++ stack_pages) }
+        ensures sound { IfOk result IsSpace }
     {
         let contents = self.contents(alloc, bytes)?;
         let first = self.vaddr / PAGE_SIZE;

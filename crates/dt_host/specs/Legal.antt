@@ -1,15 +1,19 @@
 -- The legal answers of a host, as relations between the world before a call, what was asked, the answer, and the world after it.
 -- Those of the calls without a relation here stand as clauses at the trait.
-use Rattle.std.specs.Prelude.{◌≡◌, ℕ, ◌-◌, ◌^◌, ◌<◌, ◌≤◌, min, List, [], ◌++◌, length, take, drop, None, Result, MatchResult}
+use Rattle.std.specs.Prelude.{◌≡◌, ℕ, ◌-◌, ◌≤◌, min, List, [], ◌++◌, length, take, drop, None, Result, MatchResult}
+use Rattle.std.specs.FinMap.{empty}
 use Rattle.dt_host.specs.declared.entry.HostEntry.{HostEntry}
 use Rattle.dt_host.specs.declared.kind.NodeKind.{NodeKind}
-use Rattle.dt_host.specs.declared.kind.NodeKind.TheVariants.{File}
+use Rattle.dt_host.specs.declared.kind.NodeKind.TheVariants.{File, Dir, Link}
 use Rattle.dt_host.specs.Sink.{MovesSome}
-use Rattle.dt_host.specs.World.{World, Node, file, node_at, with_node, with_forest, with_entry, with_bytes, content, overwritten}
+use Rattle.dt_host.specs.World.{World, Node, file, dir, link, node_at, with_node, with_forest, with_entry, with_bytes, content}
+use Rattle.dt_base.specs.Bytes.{overwritten}
 
 -- a new node of that kind
 abbrev pub new_node : NodeKind → Node
 new_node File = file []
+new_node Dir = dir empty
+new_node (Link target) = link target
 
 -- a new node was made under a number that was free
 pub record MadeAt (old : World) (kind : NodeKind) (new : World) (n : ℕ) : Type 0 where
@@ -30,26 +34,25 @@ Binds old d name n result new =
 abbrev pub named : HostEntry → List ℕ × ℕ
 named found = (found.name, found.ino)
 
--- so many bytes of a file, from a place on, came into the front of a buffer; the file's size is a 64-bit number, as all numbers of a host are
+-- so many bytes of a file, from an offset on, came into the start of a buffer
 pub record Reads (bytes : List ℕ) (off : ℕ) (old new : List ℕ) (count : ℕ) : Type 0 where
   pub moved : MovesSome (min (length old) (length bytes - off)) count
-  pub front : new ≡ take count (drop off bytes) ++ drop count old
-  pub sized : length bytes < 2 ^ 64
+  pub prefix : new ≡ take count (drop off bytes) ++ drop count old
 
--- the world with bytes written over a file from a place on
-abbrev pub written : World → ℕ → ℕ → List ℕ → World
-written w n off bytes = with_forest w (with_bytes w.forest n (overwritten (content w.forest n) off bytes))
+-- the world with bytes written over a file from an offset on
+abbrev pub with_write : World → ℕ → ℕ → List ℕ → World
+with_write w n off bytes = with_forest w (with_bytes w.forest n (overwritten (content w.forest n) off bytes))
 
 -- so many of the bytes were written
 pub record WritesSome (old : World) (n off : ℕ) (bytes : List ℕ) (new : World) (count : ℕ) : Type 0 where
   pub moved : MovesSome (length bytes) count
-  pub front : new ≡ written old n off (take count bytes)
+  pub prefix : new ≡ with_write old n off (take count bytes)
 
--- a front of the bytes was written, maybe none or all of them
+-- a prefix of the bytes was written, maybe none or all of them
 pub record WritesPart (old : World) (n off : ℕ) (bytes : List ℕ) (new : World) : Type 0 where
   pub count : ℕ
   pub within : count ≤ length bytes
-  pub front : new ≡ written old n off (take count bytes)
+  pub prefix : new ≡ with_write old n off (take count bytes)
 
 -- the answers of `write_at`
 abbrev pub Writes : {E : Type 0} → World → ℕ → ℕ → List ℕ → Result ℕ E → World → Type 0
@@ -59,4 +62,4 @@ Writes old n off bytes result new =
 -- the answers of a write that goes on until all is written
 abbrev pub WritesAll : {A E : Type 0} → World → ℕ → ℕ → List ℕ → Result A E → World → Type 0
 WritesAll old n off bytes result new =
-    MatchResult result (λ _. new ≡ written old n off bytes) (λ _. WritesPart old n off bytes new)
+    MatchResult result (λ _. new ≡ with_write old n off bytes) (λ _. WritesPart old n off bytes new)

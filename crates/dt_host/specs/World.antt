@@ -1,5 +1,5 @@
 -- What a host keeps: the nodes of a tree by number, and which of them is the root.
-use Rattle.std.specs.Prelude.{◌≡◌, ℕ, ◌+◌, List, [], ◌++◌, length, take, drop, Option, None, Some, option_and_then, unwrap_or, IsSome}
+use Rattle.std.specs.Prelude.{◌≡◌, ℕ, ◌^◌, ◌<◌, List, [], length, Option, None, Some, option_and_then, unwrap_or, IsSome}
 use Rattle.std.specs.Ordering.{nat_cmp}
 use Rattle.std.specs.Cmp.Lexicographic.{slice_cmp}
 use Rattle.std.specs.FinMap.{FinMap, empty, get, insert}
@@ -43,6 +43,12 @@ dir_names (file bytes) = None
 dir_names (dir names) = Some names
 dir_names (link target) = None
 
+-- the target of a node that is a link
+abbrev pub link_target : Node → Option (List ℕ)
+link_target (file bytes) = None
+link_target (dir names) = None
+link_target (link target) = Some target
+
 -- the bytes of the file of that number
 abbrev pub file_at : Forest → ℕ → Option (List ℕ)
 file_at v n = option_and_then file_bytes (node_at v n)
@@ -50,6 +56,10 @@ file_at v n = option_and_then file_bytes (node_at v n)
 -- the entries of the directory of that number
 abbrev pub dir_at : Forest → ℕ → Option Names
 dir_at v n = option_and_then dir_names (node_at v n)
+
+-- the target of the link of that number
+abbrev pub target_at : Forest → ℕ → Option (List ℕ)
+target_at v n = option_and_then link_target (node_at v n)
 
 -- the number is one of a file
 abbrev pub IsFile : Forest → ℕ → Type 0
@@ -59,9 +69,19 @@ IsFile v n = IsSome (file_at v n)
 abbrev pub IsDir : Forest → ℕ → Type 0
 IsDir v n = IsSome (dir_at v n)
 
+-- the number is one of a link
+abbrev pub IsLink : Forest → ℕ → Type 0
+IsLink v n = IsSome (target_at v n)
+
 -- the bytes of a file; none where there is no file
 unfoldable pub content : Forest → ℕ → List ℕ
 content v n = unwrap_or (file_at v n) []
+
+-- all its numbers have 64 bits: those of its nodes, the root's, and each file's size
+pub record IsSized (v : Forest) : Type 0 where
+  pub numbers : (n : ℕ) → IsLive v n → n < 2 ^ 64
+  pub root : v.root < 2 ^ 64
+  pub files : (n : ℕ) → length (content v n) < 2 ^ 64
 
 -- the entries of a directory; none where there is no directory
 unfoldable pub names_at : Forest → ℕ → Names
@@ -82,10 +102,6 @@ with_bytes v n bytes = with_node v n (file bytes)
 -- the forest with one entry more in that directory
 unfoldable pub with_entry : Forest → ℕ → List ℕ → ℕ → Forest
 with_entry v d name n = with_node v d (dir (insert (names_at v d) name n))
-
--- bytes with others written over them from a place on
-abbrev pub overwritten : List ℕ → ℕ → List ℕ → List ℕ
-overwritten old off bytes = take off old ++ bytes ++ drop (off + length bytes) old
 
 -- the world with this forest
 abbrev pub with_forest : World → Forest → World

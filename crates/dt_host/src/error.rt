@@ -1,9 +1,11 @@
+// Why a call of the outside gave no answer.
 ghost use Rattle.std.specs.Prelude.{◌≡◌};
+ghost use Rattle.dt_host.specs.declared.error.CallErr.TheVariants.{Errno as call_refused, Host as host_failed};
 ghost use Rattle.dt_host.specs.declared.error.HostErr.TheVariants.{NoMemory as no_memory_of_host};
 ghost use Rattle.dt_host.specs.declared.error.StoreErr.TheVariants.{NoMemory as no_memory_of_store};
 ghost use Rattle.dt_host.specs.declared.error.SinkErr.TheVariants.{NoMemory as no_memory_of_sink};
 
-use dt_base::NoMemory;
+use dt_base::{Errno, NoMemory};
 use std::alloc::{AllocError, AllocFailed};
 use thiserror::Error;
 
@@ -16,6 +18,17 @@ pub enum HostErr {
     /// Memory ran out.
     #[error("out of memory")]
     NoMemory,
+}
+
+/// Why a guest's call gave no value: it is refused with an error number, or the host gave no answer.
+#[derive(Clone, Copy, Debug, PartialEq, Eq, Error)]
+pub enum CallErr {
+    /// The guest gets this error number.
+    #[error("the call is refused")]
+    Errno(Errno),
+    /// The host gave no answer.
+    #[error("{0}")]
+    Host(HostErr),
 }
 
 /// Why a call of a store gave no answer.
@@ -53,6 +66,22 @@ impl<T: Drop> From<AllocFailed<T>> for HostErr {
 
     fn from(_: AllocFailed<T>) -> Self {
         HostErr::NoMemory
+    }
+}
+
+impl From<Errno> for CallErr {
+    ghost from_gives = { λ number e. e ≡ call_refused number };
+
+    fn from(number: Errno) -> Self {
+        CallErr::Errno(number)
+    }
+}
+
+impl From<HostErr> for CallErr {
+    ghost from_gives = { λ cause e. e ≡ host_failed cause };
+
+    fn from(cause: HostErr) -> Self {
+        CallErr::Host(cause)
     }
 }
 

@@ -1,15 +1,16 @@
-ghost use Rattle.std.specs.Prelude.{◌≡◌, ℕ, ◌+◌, ◌<◌, ◌≤◌, ◌^◌, None, length, map, IfOk, IfSome, IsErrOf};
+// What keeps the nodes of a container, and what each of its calls may answer.
+ghost use Rattle.std.specs.Prelude.{◌≡◌, ℕ, ◌+◌, ◌<◌, ◌≤◌, ◌^◌, None, Some, length, map, IfOk, IfSome, IsErrOf};
 ghost use Rattle.std.specs.List.Sorted.{IsPermutation};
 ghost use Rattle.std.specs.FinMap.{entries};
 ghost use Rattle.dt_host.specs.Cause.{HasCause};
-ghost use Rattle.dt_host.specs.World.{World, IsLive, IsFile, IsDir, file_at, names_at, entry, content};
+ghost use Rattle.dt_host.specs.World.{World, IsLive, IsFile, IsDir, IsLink, IsSized, file_at, target_at, names_at, entry, content};
 ghost use Rattle.dt_host.specs.Legal.{Makes, Binds, named, Reads, Writes};
 
 use crate::entry::HostEntry;
 use crate::error::HostErr;
 use crate::kind::NodeKind;
 use crate::raw::RawStat;
-use dt_base::FILE_LIMIT;
+use dt_base::{Blob, FILE_LIMIT};
 
 /// The host that keeps the nodes of a container. Its numbers, orders and lengths are its own choice.
 pub trait Host {
@@ -17,10 +18,11 @@ pub trait Host {
 
     ghost count: { Self → ℕ };
 
-    /// How many calls failed so far; the counting stays at 2^64 - 1.
+    /// How many calls failed so far; the counting stays at 2^64 - 1. All numbers of a host have 64 bits.
     fn faults(&self) -> u64
         ensures value { result ≡ count self.now }
-        ensures small { count self.now < 2 ^ 64 };
+        ensures small { count self.now < 2 ^ 64 }
+        ensures sized { IsSized (view self.now).forest };
 
     /// The number of the root directory.
     fn root(&mut self) -> Result<u64, HostErr>
@@ -72,7 +74,15 @@ pub trait Host {
         ensures cause { HasCause (count self.old) (count self.new)
             (IsErrOf result HostErr.Failed) };
 
-    /// Reads bytes of a file from `off` on into the front of `buf`, and answers how many.
+    /// The target of a symbolic link.
+    fn target(&mut self, ino: u64) -> Result<Blob, HostErr>
+        requires { IsLink (view self.old).forest ino }
+        ensures ok { IfOk result (λ target. target_at (view self.old).forest ino ≡ Some target) }
+        ensures stays { view self.new ≡ view self.old }
+        ensures cause { HasCause (count self.old) (count self.new)
+            (IsErrOf result HostErr.Failed) };
+
+    /// Reads bytes of a file from `off` on into the start of `buf`, and answers how many.
     /// It is 0 exactly where the buffer is empty or nothing stands from `off` on.
     fn read_at(&mut self, ino: u64, off: u64, buf: &mut [u8]) -> Result<usize, HostErr>
         requires { IsFile (view self.old).forest ino }
@@ -92,10 +102,10 @@ pub trait Host {
         ensures cause { HasCause (count self.old) (count self.new)
             (IsErrOf result HostErr.Failed) };
 
-    /// Which of those that wait stops next: any place among them.
+    /// Which of those that wait stops next: any index among them.
     fn next_stop(&mut self, waiting: &[u32]) -> Result<usize, HostErr>
         requires { 0 < length waiting.now }
-        ensures ok { IfOk result (λ place. place < length waiting.now) }
+        ensures ok { IfOk result (λ index. index < length waiting.now) }
         ensures stays { view self.new ≡ view self.old }
         ensures cause { HasCause (count self.old) (count self.new)
             (IsErrOf result HostErr.Failed) };

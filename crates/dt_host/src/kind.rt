@@ -1,6 +1,13 @@
+// The kinds of a new node.
+use dt_base::Blob;
+
 /// What kind of node a host makes.
-#[derive(Clone, Copy, Debug, PartialEq, Eq)]
+#[derive(Debug, Drop)]
 pub enum NodeKind {
     /// An empty file.
     File,
+    /// A directory without entries.
+    Dir,
+    /// A symbolic link with this target.
+    Link(Blob),
 }

@@ -1,8 +1,9 @@
 -- The set of bytes that a path is shown without, byte by byte.
-use Rattle.std.proofs.Common.{◌≡◌, ℕ, zero, suc, ◌<◌, nat_lt, Bool, true, false, ◌&&◌, ◌||◌, ◌==◌, refl, inl, inr, arith}
+use Rattle.std.proofs.Common.{◌≡◌, ℕ, zero, suc, ◌<◌, Bool, true, false, ◌&&◌, refl, inl, inr, arith}
 use Rattle.std.proofs.lemmas.Bool.{cases_order}
 use Rattle.percent_encoding.specs.AsciiSet.{contains}
 use Rattle.dt_image.specs.Report.{escaped_set, is_escaped}
+use Rattle.dt_image.proofs.Conjuncts.{left_true, right_true}
 
 abbrev same : Bool → Bool → Bool
 same true b = b
@@ -20,18 +21,13 @@ abbrev agree_below : ℕ → Bool
 agree_below zero = true
 agree_below (suc n) = same (contains escaped_set n) (is_escaped n) && agree_below n
 
-both : (a b : Bool) → (a && b) ≡ true → (a ≡ true) × (b ≡ true)
-both true true h = (refl, refl)
-both true false h = absurd (cc)
-both false b h = absurd (cc)
-
 below : (n b : ℕ) → agree_below n ≡ true → b < n → contains escaped_set b ≡ is_escaped b
 below zero b all lt = absurd (omega arith)
 below (suc n) b all lt =
-    let parts = both (same (contains escaped_set n) (is_escaped n)) (agree_below n) all in
+    let agree = same (contains escaped_set n) (is_escaped n) in
     elim (cases_order b n) [
-      | inl e ↦ rw e (from_same _ _ parts.0)
-      | inr rest ↦ elim rest [ inl less ↦ below n b parts.1 less | inr more ↦ absurd (omega arith) ]
+      | inl e ↦ rw e (from_same _ _ (left_true agree (agree_below n) all))
+      | inr rest ↦ elim rest [ inl less ↦ below n b (right_true agree (agree_below n) all) less | inr more ↦ absurd (omega arith) ]
     ]
 
 -- what the set holds of ASCII

@@ -1,9 +1,10 @@
 -- How bytes, sizes and entries lead to an image.
-use Rattle.std.proofs.Common.{◌≡◌, ℕ, ◌<◌, ◌≤◌, Bool, true, false, ◌&&◌, nat_le, List, length, codes, Option, Some, None, option_map, Err, IfSome, refl, arith}
+use Rattle.std.proofs.Common.{◌≡◌, ℕ, ◌<◌, ◌≤◌, Bool, true, false, nat_le, List, length, codes, Option, Some, None, option_map, Err, IfSome, refl, arith}
 use Rattle.std.specs.Str.{IsUtf8, is_utf8}
 use Rattle.std.proofs.lemmas.Str.{IsUtf8-from_is_utf8, is_utf8-from_IsUtf8}
 use Rattle.std.specs.FinMap.{get}
-use Rattle.std.proofs.lemmas.Bool.Decides.{nat_tests}
+use Rattle.std.proofs.lemmas.Bool.{le-leb, lt-leb}
+use Rattle.std.proofs.Math.Bool.{and-false}
 use Rattle.serde_json.specs.Read.{read}
 use Rattle.dt_base.specs.declared.limits.TheConstants.{INDEX_LIMIT}
 use Rattle.dt_base.specs.declared.refusal.Refusal.TheVariants.{BadIndex}
@@ -11,31 +12,21 @@ use Rattle.dt_base.specs.declared.refusal.Refusal.{Refusal}
 use Rattle.dt_host.specs.Store.{Files, size_of}
 use Rattle.dt_image.specs.ImageOf.{value_of, image_by, image_of, name_in}
 
-within_true : (n m : ℕ) → n ≤ m → nat_le n m ≡ true
-within_true n m h = grind (arith, nat_tests)
-
-within_false : (n m : ℕ) → m < n → nat_le n m ≡ false
-within_false n m h = grind (arith, nat_tests)
-
 pub value_of_text : (bytes : List ℕ) → length bytes ≤ INDEX_LIMIT → IsUtf8 bytes → value_of bytes ≡ read bytes
 unfolding value_of
-value_of_text bytes short text = rw (within_true (length bytes) INDEX_LIMIT short, is_utf8-from_IsUtf8 bytes text)
+value_of_text bytes short text = rw (le-leb (length bytes) INDEX_LIMIT short, is_utf8-from_IsUtf8 bytes text)
 
 not_text : (bytes : List ℕ) (b : Bool) → is_utf8 bytes ≡ b → (IsUtf8 bytes → ⊥) → is_utf8 bytes ≡ false
 not_text bytes true e other = absurd (other (IsUtf8-from_is_utf8 bytes e))
 not_text bytes false e other = e
 
-and_false : (b : Bool) → (b && false) ≡ false
-and_false true = refl
-and_false false = refl
-
 pub value_of_no_text : (bytes : List ℕ) → (IsUtf8 bytes → ⊥) → value_of bytes ≡ None
 unfolding value_of
-value_of_no_text bytes other = rw (not_text bytes (is_utf8 bytes) refl other, and_false (nat_le (length bytes) INDEX_LIMIT))
+value_of_no_text bytes other = rw (not_text bytes (is_utf8 bytes) refl other, and-false (nat_le (length bytes) INDEX_LIMIT))
 
 pub value_of_long : (bytes : List ℕ) → INDEX_LIMIT < length bytes → value_of bytes ≡ None
 unfolding value_of
-value_of_long bytes long = rw (within_false (length bytes) INDEX_LIMIT long)
+value_of_long bytes long = rw (lt-leb (length bytes) INDEX_LIMIT long)
 
 long_index : (files : Files) (folder : List ℕ) (found : Option (List ℕ)) (size : ℕ) → Some size ≡ option_map length found → INDEX_LIMIT < size → image_by files folder found ≡ Err BadIndex
 long_index files folder None size e long = absurd (cc)

@@ -1,76 +1,102 @@
--- From the files of an index to an image.
-use Rattle.std.proofs.Common.{◌≡◌, ℕ, Bool, true, false, not, cond, ◌&&◌, nat_le, List, [], ◌∷◌, Option, Some, None, Result, Ok, Err, refl, sym, ap, subst, ◌∙◌}
-use Rattle.std.specs.Prelude.{IfSome, IfOk, option_and_then}
-use Rattle.std.specs.List.{list_all}
-use Rattle.dt_base.specs.declared.image.Entry.{Entry}
-use Rattle.dt_base.specs.declared.refusal.Refusal.{Refusal}
-use Rattle.dt_base.specs.declared.refusal.Refusal.TheVariants.{BadPath, Twice}
-use Rattle.dt_base.specs.declared.limits.TheConstants.{MODE_LIMIT}
-use Rattle.dt_base.specs.Path.{is_path, is_top}
-use Rattle.std.specs.Prelude.{codes}
+-- From the entries of an index to an image.
+use Rattle.std.proofs.Common.{◌≡◌, ℕ, Bool, true, false, not, cond, ◌&&◌, ◌||◌, nat_le, List, [], ◌∷◌, Option, Some, None, Result, Ok, Err, refl, sym, ap, subst, ◌∙◌}
+use Rattle.std.specs.Prelude.{IfSome, IfOk, option_and_then, codes}
+use Rattle.std.specs.List.{list_all, list_any}
 use Rattle.std.specs.FinMap.{get}
 use Rattle.serde_json.specs.Data.{Data}
+use Rattle.dt_base.specs.declared.image.Entry.{Entry}
+use Rattle.dt_base.specs.declared.refusal.Refusal.{Refusal}
+use Rattle.dt_base.specs.declared.refusal.Refusal.TheVariants.{BadPath, Twice, NoParent}
+use Rattle.dt_base.specs.Path.{is_path, is_top, parent_of}
 use Rattle.dt_host.specs.Store.{Files}
 use Rattle.dt_image.proofs.Conjuncts.{both, left_true, right_true}
-use Rattle.dt_image.specs.Index.{IndexEntry, is_listed, is_good_file, is_blob_name, index_of}
-use Rattle.dt_image.specs.ImageOf.{has_twice, sorted, filled, image_from, image_listed, image_by, image_of, value_of, name_in, is_root_entry}
-use Rattle.dt_image.proofs.Sorting.{list_all-sorted}
+use Rattle.dt_image.specs.Index.{IndexEntry, is_good, is_good_source, index_of}
+use Rattle.dt_image.specs.ImageOf.{has_twice, lists_dir, lists_parent, sorted, with_blobs, image_from, image_listed, image_by, image_of, value_of, name_in}
+use Rattle.dt_image.specs.inner.IndexView.{has_mode, is_listed, is_sound, in_dirs}
+use Rattle.dt_image.proofs.Sorting.{list_any-sorted, list_all-sorted}
 
-root_by : (path top mode blob : Bool) → (not (path && not top) && mode) ≡ true → (path && blob) ≡ true → ((path && top) && mode) ≡ true
-root_by true true mode blob listed good = listed
-root_by true false mode blob listed good = absurd (cc)
-root_by false top mode blob listed good = absurd (cc)
+sound_by : (path source mode : Bool) → mode ≡ true → (path && source) ≡ true → (path && (source && mode)) ≡ true
+sound_by true true mode listed good = listed
+sound_by true false mode listed good = absurd (cc)
+sound_by false source mode listed good = absurd (cc)
 
-root_listed : (files : List IndexEntry) → list_all is_listed files ≡ true → list_all is_good_file files ≡ true → list_all is_root_entry files ≡ true
-root_listed [] listed good = refl
-root_listed (file ∷ files) listed good =
-    both (is_root_entry file) (list_all is_root_entry files)
-    (root_by (is_path file.path) (is_top file.path) (nat_le file.mode MODE_LIMIT) (is_blob_name file.blob) (left_true (is_listed file) (list_all is_listed files) listed) (left_true (is_good_file file) (list_all is_good_file files) good))
-    (root_listed files (right_true (is_listed file) (list_all is_listed files) listed) (right_true (is_good_file file) (list_all is_good_file files) good))
+sound_listed : (entries : List IndexEntry) → list_all is_listed entries ≡ true → list_all is_good entries ≡ true → list_all is_sound entries ≡ true
+sound_listed [] listed good = refl
+sound_listed (entry ∷ entries) listed good =
+    both (is_sound entry) (list_all is_sound entries)
+    (sound_by (is_path entry.path) (is_good_source entry.source) (has_mode entry.source) (left_true (is_listed entry) (list_all is_listed entries) listed) (left_true (is_good entry) (list_all is_good entries) good))
+    (sound_listed entries (right_true (is_listed entry) (list_all is_listed entries) listed) (right_true (is_good entry) (list_all is_good entries) good))
 
--- good files of an index may stand in the root, in any order
-pub root_sorted : (files order : List IndexEntry) → order ≡ sorted files → list_all is_listed files ≡ true → list_all is_good_file files ≡ true → list_all is_root_entry order ≡ true
-root_sorted files order is listed good = ap (list_all is_root_entry) is ∙ list_all-sorted is_root_entry files ∙ root_listed files listed good
+-- good entries of an index are good in any order
+pub sound_sorted : (entries order : List IndexEntry) → order ≡ sorted entries → list_all is_listed entries ≡ true → list_all is_good entries ≡ true → list_all is_sound order ≡ true
+sound_sorted entries order is listed good = ap (list_all is_sound) is ∙ list_all-sorted is_sound entries ∙ sound_listed entries listed good
+
+same_all : (p q : IndexEntry → Bool) → ((entry : IndexEntry) → p entry ≡ q entry) → (entries : List IndexEntry) → list_all p entries ≡ list_all q entries
+same_all p q same [] = refl
+same_all p q same (entry ∷ entries) = ap (λ b. b && list_all p entries) (same entry) ∙ ap (λ rest. q entry && rest) (same_all p q same entries)
+
+-- whether all stand in directories does not depend on their order
+parents_sorted : (entries : List IndexEntry) → list_all (lists_parent (sorted entries)) (sorted entries) ≡ list_all (lists_parent entries) entries
+parents_sorted entries =
+    list_all-sorted (lists_parent (sorted entries)) entries
+    ∙ same_all (lists_parent (sorted entries)) (lists_parent entries) (λ entry. ap (λ found. is_top entry.path || found) (list_any-sorted (lists_dir (parent_of entry.path)) entries)) entries
 
 -- the image of an index, from what the tests say
-abbrev indexed : Bool → Bool → Result (List Entry) Refusal → Result (List Entry) Refusal
-indexed good twice rest = cond (not good) (Err BadPath) (cond twice (Err Twice) rest)
+abbrev indexed : Bool → Bool → Bool → Result (List Entry) Refusal → Result (List Entry) Refusal
+indexed good twice parents rest = cond (not good) (Err BadPath) (cond twice (Err Twice) (cond (not parents) (Err NoParent) rest))
 
-bad : (held : Files) (folder : List ℕ) (files : List IndexEntry) → list_all is_good_file files ≡ false → image_from held folder files ≡ Err BadPath
+bad : (held : Files) (folder : List ℕ) (entries : List IndexEntry) → list_all is_good entries ≡ false → image_from held folder entries ≡ Err BadPath
 unfolding image_from
-bad held folder files other = ap (λ good. indexed good (has_twice files) (filled held folder (sorted files))) other
+bad held folder entries other = ap (λ good. indexed good (has_twice entries) (list_all (lists_parent entries) entries) (with_blobs held folder (sorted entries))) other
 
-twice : (held : Files) (folder : List ℕ) (files : List IndexEntry) → list_all is_good_file files ≡ true → has_twice files ≡ true → image_from held folder files ≡ Err Twice
+twice : (held : Files) (folder : List ℕ) (entries : List IndexEntry) → list_all is_good entries ≡ true → has_twice entries ≡ true → image_from held folder entries ≡ Err Twice
 unfolding image_from
-twice held folder files good again =
-    ap (λ b. indexed b (has_twice files) (filled held folder (sorted files))) good
-    ∙ ap (λ b. indexed true b (filled held folder (sorted files))) again
+twice held folder entries good again =
+    ap (λ b. indexed b (has_twice entries) (list_all (lists_parent entries) entries) (with_blobs held folder (sorted entries))) good
+    ∙ ap (λ b. indexed true b (list_all (lists_parent entries) entries) (with_blobs held folder (sorted entries))) again
 
-once : (held : Files) (folder : List ℕ) (files order : List IndexEntry) → list_all is_good_file files ≡ true → has_twice files ≡ false → order ≡ sorted files → image_from held folder files ≡ filled held folder order
+once : (held : Files) (folder : List ℕ) (entries order : List IndexEntry) → list_all is_good entries ≡ true → has_twice entries ≡ false → order ≡ sorted entries → image_from held folder entries ≡ in_dirs held folder order
 unfolding image_from
-once held folder files order good other is =
-    ap (λ b. indexed b (has_twice files) (filled held folder (sorted files))) good
-    ∙ ap (λ b. indexed true b (filled held folder (sorted files))) other
-    ∙ ap (filled held folder) (sym is)
+once held folder entries order good other is =
+    ap (λ b. indexed b (has_twice entries) (list_all (lists_parent entries) entries) (with_blobs held folder (sorted entries))) good
+    ∙ ap (λ b. indexed true b (list_all (lists_parent entries) entries) (with_blobs held folder (sorted entries))) other
+    ∙ ap (λ b. cond (not b) (Err NoParent) (with_blobs held folder (sorted entries))) (sym (parents_sorted entries))
+    ∙ ap (in_dirs held folder) (sym is)
 
-pub told_bad : (told : Option Files) (folder : List ℕ) (files : List IndexEntry) → list_all is_good_file files ≡ false → IfSome told (λ held. image_from held folder files ≡ Err BadPath)
-told_bad None folder files other = tt
-told_bad (Some held) folder files other = bad held folder files other
+pub told_bad : (told : Option Files) (folder : List ℕ) (entries : List IndexEntry) → list_all is_good entries ≡ false → IfSome told (λ held. image_from held folder entries ≡ Err BadPath)
+told_bad None folder entries other = tt
+told_bad (Some held) folder entries other = bad held folder entries other
 
-pub told_twice : (told : Option Files) (folder : List ℕ) (files : List IndexEntry) → list_all is_good_file files ≡ true → has_twice files ≡ true → IfSome told (λ held. image_from held folder files ≡ Err Twice)
-told_twice None folder files good again = tt
-told_twice (Some held) folder files good again = twice held folder files good again
+pub told_twice : (told : Option Files) (folder : List ℕ) (entries : List IndexEntry) → list_all is_good entries ≡ true → has_twice entries ≡ true → IfSome told (λ held. image_from held folder entries ≡ Err Twice)
+told_twice None folder entries good again = tt
+told_twice (Some held) folder entries good again = twice held folder entries good again
 
-pub told_once : (told : Option Files) (folder : List ℕ) (files order : List IndexEntry) (answer : Result (List Entry) Refusal) → list_all is_good_file files ≡ true → has_twice files ≡ false → order ≡ sorted files
-    → IfSome told (λ held. filled held folder order ≡ answer) → IfSome told (λ held. image_from held folder files ≡ answer)
-told_once None folder files order answer good other is made = tt
-told_once (Some held) folder files order answer good other is made = once held folder files order good other is ∙ made
+pub told_once : (told : Option Files) (folder : List ℕ) (entries order : List IndexEntry) (answer : Result (List Entry) Refusal) → list_all is_good entries ≡ true → has_twice entries ≡ false → order ≡ sorted entries
+    → IfSome told (λ held. in_dirs held folder order ≡ answer) → IfSome told (λ held. image_from held folder entries ≡ answer)
+told_once None folder entries order answer good other is made = tt
+told_once (Some held) folder entries order answer good other is made = once held folder entries order good other is ∙ made
 
-pub told_once_ok : {E : Type 0} (told : Option Files) (folder : List ℕ) (files order : List IndexEntry) (answer : Result (List Entry) E) → list_all is_good_file files ≡ true → has_twice files ≡ false → order ≡ sorted files
-    → IfSome told (λ held. IfOk answer (λ image. filled held folder order ≡ Ok image)) → IfSome told (λ held. IfOk answer (λ image. image_from held folder files ≡ Ok image))
-told_once_ok None folder files order answer good other is made = tt
-told_once_ok (Some held) folder files order (Ok image) good other is made = once held folder files order good other is ∙ made
-told_once_ok (Some held) folder files order (Err e) good other is made = tt
+pub told_once_ok : {E : Type 0} (told : Option Files) (folder : List ℕ) (entries order : List IndexEntry) (answer : Result (List Entry) E) → list_all is_good entries ≡ true → has_twice entries ≡ false → order ≡ sorted entries
+    → IfSome told (λ held. IfOk answer (λ image. in_dirs held folder order ≡ Ok image)) → IfSome told (λ held. IfOk answer (λ image. image_from held folder entries ≡ Ok image))
+told_once_ok None folder entries order answer good other is made = tt
+told_once_ok (Some held) folder entries order (Ok image) good other is made = once held folder entries order good other is ∙ made
+told_once_ok (Some held) folder entries order (Err e) good other is made = tt
+
+-- the image of entries in order, by whether all stand in directories
+pub told_dirs : (told : Option Files) (folder : List ℕ) (order : List IndexEntry) (answer : Result (List Entry) Refusal) → list_all (lists_parent order) order ≡ true
+    → IfSome told (λ held. with_blobs held folder order ≡ answer) → IfSome told (λ held. in_dirs held folder order ≡ answer)
+told_dirs None folder order answer all made = tt
+told_dirs (Some held) folder order answer all made = ap (λ b. cond (not b) (Err NoParent) (with_blobs held folder order)) all ∙ made
+
+pub told_dirs_ok : {E : Type 0} (told : Option Files) (folder : List ℕ) (order : List IndexEntry) (answer : Result (List Entry) E) → list_all (lists_parent order) order ≡ true
+    → IfSome told (λ held. IfOk answer (λ image. with_blobs held folder order ≡ Ok image)) → IfSome told (λ held. IfOk answer (λ image. in_dirs held folder order ≡ Ok image))
+told_dirs_ok None folder order answer all made = tt
+told_dirs_ok (Some held) folder order (Ok image) all made = ap (λ b. cond (not b) (Err NoParent) (with_blobs held folder order)) all ∙ made
+told_dirs_ok (Some held) folder order (Err e) all made = tt
+
+pub told_no_dir : (told : Option Files) (folder : List ℕ) (order : List IndexEntry) → list_all (lists_parent order) order ≡ false → IfSome told (λ held. in_dirs held folder order ≡ Err NoParent)
+told_no_dir None folder order other = tt
+told_no_dir (Some held) folder order other = ap (λ b. cond (not b) (Err NoParent) (with_blobs held folder order)) other
 
 pub not_twice : (b : Bool) → true ≡ not b → b ≡ false
 not_twice true e = cc
@@ -80,13 +106,13 @@ pub is_twice : (b : Bool) → false ≡ not b → b ≡ true
 is_twice true e = refl
 is_twice false e = cc
 
--- the image of a folder whose index lists these files
-pub told_index : (told now : Option Files) (folder bytes : List ℕ) (value : Data) (files : List IndexEntry) (answer : Result (List Entry) Refusal) → now ≡ told
-    → IfSome told (λ held. get held (name_in folder (codes "image.json")) ≡ Some bytes) → value_of bytes ≡ Some value → Some files ≡ index_of value
-    → IfSome now (λ held. image_from held folder files ≡ answer) → IfSome told (λ held. image_of held folder ≡ answer)
-told_index None now folder bytes value files answer stays at read lists made = tt
-told_index (Some held) now folder bytes value files answer stays at read lists made =
+-- the image of a folder whose index lists these entries
+pub told_index : (told now : Option Files) (folder bytes : List ℕ) (value : Data) (entries : List IndexEntry) (answer : Result (List Entry) Refusal) → now ≡ told
+    → IfSome told (λ held. get held (name_in folder (codes "image.json")) ≡ Some bytes) → value_of bytes ≡ Some value → Some entries ≡ index_of value
+    → IfSome now (λ held. image_from held folder entries ≡ answer) → IfSome told (λ held. image_of held folder ≡ answer)
+told_index None now folder bytes value entries answer stays at read lists made = tt
+told_index (Some held) now folder bytes value entries answer stays at read lists made =
     ap (image_by held folder) at
     ∙ ap (λ found. image_listed held folder (option_and_then index_of found)) read
     ∙ ap (image_listed held folder) (sym lists)
-    ∙ subst (λ told. IfSome told (λ held. image_from held folder files ≡ answer)) stays made
+    ∙ subst (λ told. IfSome told (λ held. image_from held folder entries ≡ answer)) stays made

@@ -1,9 +1,12 @@
 pub mod Modes
-pub mod Pieces
 pub mod Conjuncts
 pub mod Sorting
 pub mod Measures
 pub mod Rising
+pub mod Dirs
 pub mod Indexed
 pub mod Images
 pub mod Escapes
+pub mod Children
+pub mod Ordered
+pub mod Shown

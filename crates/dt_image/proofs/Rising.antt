@@ -1,7 +1,8 @@
--- Entries that stand in the root in order make an image.
+-- Entries that stand in order, each in a directory of these, make an image.
 use Rattle.std.proofs.Common.{◌≡◌, ℕ, ◌≤◌, Bool, true, false, ◌&&◌, ◌||◌, List, [], ◌∷◌, length, map, IsTrue, refl, sym, ap, ◌∙◌, arith}
 use Rattle.std.specs.List.{list_all, list_any}
 use Rattle.std.specs.List.Sorted.{IsStrictlySortedBy}
+use Rattle.std.specs.Str.{bytes_eq}
 use Rattle.std.specs.Ordering.{nat_cmp, is_lt}
 use Rattle.std.specs.Cmp.Lexicographic.{slice_cmp}
 use Rattle.std.proofs.lemmas.List.{length-map}
@@ -9,53 +10,77 @@ use Rattle.dt_base.specs.declared.image.Entry.{Entry}
 use Rattle.dt_base.specs.declared.limits.TheConstants.{ENTRY_LIMIT}
 use Rattle.dt_base.specs.Image.{IsImage, is_good_entry, is_rising, has_parent, is_dir_at}
 use Rattle.dt_base.specs.Path.{is_top, parent_of}
-use Rattle.dt_image.proofs.Conjuncts.{both, left_true, right_true}
-use Rattle.dt_image.specs.declared.index.FileEntry.{FileEntry}
+use Rattle.dt_image.proofs.Conjuncts.{both}
+use Rattle.dt_image.specs.declared.index.EntryRef.{EntryRef}
 use Rattle.dt_image.specs.declared.blobs.Measured.{Measured}
-use Rattle.dt_image.specs.Flat.{is_file, is_root_file, IsFlat}
+use Rattle.dt_image.specs.Index.{IndexEntry}
+use Rattle.dt_image.specs.ImageOf.{lists_dir, lists_parent}
+use Rattle.dt_image.specs.inner.IndexView.{entry_in, path_cmp, spot, spot_of}
 
 -- the paths rise in byte order
-abbrev rise : List (List ℕ) → Bool
+abbrev rise : List (List ℕ × Bool) → Bool
 rise [] = true
 rise (first ∷ []) = true
-rise (first ∷ second ∷ rest) = is_lt (slice_cmp nat_cmp first second) && rise (second ∷ rest)
+rise (first ∷ second ∷ rest) = is_lt (slice_cmp nat_cmp first.0 second.0) && rise (second ∷ rest)
 
-rise-entries : (entries : List Entry) → is_rising entries ≡ rise (map (λ entry. entry.path) entries)
+rise-entries : (entries : List Entry) → is_rising entries ≡ rise (map spot entries)
 rise-entries [] = refl
 rise-entries (first ∷ []) = refl
 rise-entries (first ∷ second ∷ rest) = ap (λ more. is_lt (slice_cmp nat_cmp first.path second.path) && more) (rise-entries (second ∷ rest))
 
-rise-files : (files : List FileEntry) → IsStrictlySortedBy (λ a b. slice_cmp nat_cmp a.path.now b.path.now) files → rise (map (λ file. file.path.now) files) ≡ true
+-- where the entries of an index stand
+abbrev pub spots : List EntryRef → List (List ℕ × Bool)
+spots order = map (λ entry. spot_of (entry_in entry)) order
+
+rise-order : (order : List EntryRef) → IsStrictlySortedBy path_cmp order → rise (spots order) ≡ true
 unfolding IsStrictlySortedBy
-rise-files [] rising = refl
-rise-files (first ∷ []) rising = refl
-rise-files (first ∷ second ∷ rest) rising =
-    both (is_lt (slice_cmp nat_cmp first.path.now second.path.now)) (rise (map (λ file. file.path.now) (second ∷ rest))) (ap is_lt rising.0.0) (rise-files (second ∷ rest) rising.1)
+rise-order [] rising = refl
+rise-order (first ∷ []) rising = refl
+rise-order (first ∷ second ∷ rest) rising =
+    both (is_lt (slice_cmp nat_cmp first.path.now second.path.now)) (rise (spots (second ∷ rest))) (ap is_lt rising.0.0) (rise-order (second ∷ rest) rising.1)
 
-paths_of : (blobs : List Measured) → map (λ file. file.path.now) (map (λ blob. blob.file) blobs) ≡ map (λ blob. blob.file.path.now) blobs
-paths_of [] = refl
-paths_of (blob ∷ blobs) = ap (λ rest. blob.file.path.now ∷ rest) (paths_of blobs)
+spots_of : (blobs : List Measured) → spots (map (λ blob. blob.entry) blobs) ≡ map (λ blob. spot_of (entry_in blob.entry)) blobs
+spots_of [] = refl
+spots_of (blob ∷ blobs) = ap (λ rest. spot_of (entry_in blob.entry) ∷ rest) (spots_of blobs)
 
-top_of : (a b c : Bool) → (a && b) ≡ true → (b || c) ≡ true
-top_of true true c e = refl
-top_of true false c e = absurd (cc)
-top_of false b c e = absurd (cc)
+-- a directory is at that path
+abbrev dir_in : List ℕ → List ℕ × Bool → Bool
+dir_in path s = s.1 && bytes_eq path s.0
 
-parents : (all entries : List Entry) → list_all is_root_file entries ≡ true → list_all (has_parent all) entries ≡ true
-parents all [] flat = refl
-parents all (entry ∷ entries) flat =
-    both (has_parent all entry) (list_all (has_parent all) entries)
-    (top_of (is_file entry.what) (is_top entry.path) (list_any (is_dir_at (parent_of entry.path)) all) (left_true (is_root_file entry) (list_all is_root_file entries) flat))
-    (parents all entries (right_true (is_root_file entry) (list_all is_root_file entries) flat))
+-- the root or a directory of these has it
+abbrev parent_in : List (List ℕ × Bool) → List ℕ × Bool → Bool
+parent_in all s = is_top s.0 || list_any (dir_in (parent_of s.0)) all
 
-pub IsImage-flat : (entries : List Entry) (blobs : List Measured) (files : List FileEntry) → map (λ blob. blob.file) blobs ≡ files
-    → map (λ entry. entry.path) entries ≡ map (λ blob. blob.file.path.now) blobs → length blobs ≤ ENTRY_LIMIT
-    → IsTrue (list_all is_good_entry entries) → IsFlat entries → IsStrictlySortedBy (λ a b. slice_cmp nat_cmp a.path.now b.path.now) files → IsImage entries
-IsImage-flat entries blobs files same paths few good flat rising =
-    let many : length entries ≡ length blobs = sym (length-map entries (λ entry. entry.path)) ∙ ap length paths ∙ length-map blobs (λ blob. blob.file.path.now) in
+dirs-entries : (path : List ℕ) (all : List Entry) → list_any (is_dir_at path) all ≡ list_any (dir_in path) (map spot all)
+dirs-entries path [] = refl
+dirs-entries path (entry ∷ all) = ap (λ rest. is_dir_at path entry || rest) (dirs-entries path all)
+
+dirs-order : (path : List ℕ) (all : List EntryRef) → list_any (lists_dir path) (map entry_in all) ≡ list_any (dir_in path) (spots all)
+dirs-order path [] = refl
+dirs-order path (entry ∷ all) = ap (λ rest. lists_dir path (entry_in entry) || rest) (dirs-order path all)
+
+parents-entries : (all entries : List Entry) → list_all (has_parent all) entries ≡ list_all (parent_in (map spot all)) (map spot entries)
+parents-entries all [] = refl
+parents-entries all (entry ∷ entries) =
+    ap (λ found. (is_top entry.path || found) && list_all (has_parent all) entries) (dirs-entries (parent_of entry.path) all)
+    ∙ ap (λ rest. parent_in (map spot all) (spot entry) && rest) (parents-entries all entries)
+
+parents-order : (all order : List EntryRef) → list_all (λ entry. lists_parent (map entry_in all) (entry_in entry)) order ≡ list_all (parent_in (spots all)) (spots order)
+parents-order all [] = refl
+parents-order all (entry ∷ order) =
+    ap (λ found. (is_top entry.path.now || found) && list_all (λ entry. lists_parent (map entry_in all) (entry_in entry)) order) (dirs-order (parent_of entry.path.now) all)
+    ∙ ap (λ rest. parent_in (spots all) (spot_of (entry_in entry)) && rest) (parents-order all order)
+
+pub IsImage-made : (entries : List Entry) (blobs : List Measured) (order : List EntryRef) → map (λ blob. blob.entry) blobs ≡ order
+    → map spot entries ≡ map (λ blob. spot_of (entry_in blob.entry)) blobs → length blobs ≤ ENTRY_LIMIT
+    → IsTrue (list_all is_good_entry entries) → list_all (λ entry. lists_parent (map entry_in order) (entry_in entry)) order ≡ true
+    → IsStrictlySortedBy path_cmp order → IsImage entries
+IsImage-made entries blobs order same spotted few good parents rising =
+    let many : length entries ≡ length blobs = sym (length-map entries spot) ∙ ap length spotted ∙ length-map blobs (λ blob. spot_of (entry_in blob.entry)) in
+    let at : map spot entries ≡ spots order = spotted ∙ sym (spots_of blobs) ∙ ap spots same in
     record {
       few = omega (arith, many);
       good = good;
-      rising = rise-entries entries ∙ ap rise (paths ∙ sym (paths_of blobs) ∙ ap (map (λ file. file.path.now)) same) ∙ rise-files files rising;
-      parents = parents entries entries flat;
+      rising = rise-entries entries ∙ ap rise at ∙ rise-order order rising;
+      parents = parents-entries entries entries ∙ ap (λ s. list_all (parent_in s) s) at ∙ sym (parents-order order order) ∙ parents;
     }

@@ -1,5 +1,5 @@
 -- The image of a folder: what its index and its blobs say.
-use Rattle.std.specs.Prelude.{ℕ, Bool, false, not, ◌&&◌, ◌||◌, List, [], ◌∷◌, ◌++◌, length, map, fold, codes, nat_le, is_some, Option, Some, None, option_and_then, Result, Ok, Err, if◌then◌else◌}
+use Rattle.std.specs.Prelude.{ℕ, Bool, true, false, not, ◌&&◌, ◌||◌, List, [], ◌∷◌, ◌++◌, length, map, fold, codes, nat_le, is_some, Option, Some, None, option_and_then, Result, Ok, Err, if◌then◌else◌}
 use Rattle.std.specs.List.{list_all, list_any}
 use Rattle.std.specs.Str.{is_utf8, bytes_eq}
 use Rattle.std.specs.Ordering.{nat_cmp, is_lt}
@@ -7,80 +7,110 @@ use Rattle.std.specs.Cmp.Lexicographic.{slice_cmp}
 use Rattle.std.specs.FinMap.{get}
 use Rattle.serde_json.specs.Data.{Data}
 use Rattle.serde_json.specs.Read.{read}
-use Rattle.dt_base.specs.Path.{is_path, is_top}
 use Rattle.dt_base.specs.declared.image.Entry.{Entry}
-use Rattle.dt_base.specs.declared.image.What.TheVariants.{File}
+use Rattle.dt_base.specs.declared.image.What.{What}
+use Rattle.dt_base.specs.declared.image.What.TheVariants.{File, Dir, Link}
 use Rattle.dt_base.specs.declared.refusal.Refusal.{Refusal}
-use Rattle.dt_base.specs.declared.refusal.Refusal.TheVariants.{NoIndex, BadIndex, BadPath, Twice, NoBlob, TooBig, TooMany}
-use Rattle.dt_base.specs.declared.limits.TheConstants.{INDEX_LIMIT, FILE_LIMIT, ENTRY_LIMIT, MODE_LIMIT}
-use Rattle.dt_base.specs.declared.refusal.ImageErr.{ImageErr}
-use Rattle.dt_base.specs.declared.refusal.ImageErr.TheVariants.{Store, NoMemory}
+use Rattle.dt_base.specs.declared.refusal.Refusal.TheVariants.{NoIndex, BadIndex, BadPath, Twice, NoParent, NoBlob, TooBig, TooMany}
+use Rattle.dt_base.specs.declared.limits.TheConstants.{INDEX_LIMIT, FILE_LIMIT, ENTRY_LIMIT, LINK_MODE}
+use Rattle.dt_base.specs.Path.{is_top, parent_of}
 use Rattle.dt_host.specs.Store.{Files, bytes_of}
-use Rattle.dt_host.specs.declared.error.StoreErr.{StoreErr}
-use Rattle.dt_host.specs.declared.error.StoreErr.TheVariants as store
-use Rattle.dt_image.specs.Index.{IndexEntry, index_of, is_good_file}
+use Rattle.dt_image.specs.Index.{Source, file, dir, link, IndexEntry, index_of, is_good}
 
 -- a store's name of a file in a folder
 abbrev pub name_in : List ℕ → List ℕ → List ℕ
-name_in folder file = folder ++ (codes "/" ++ file)
+name_in folder name = folder ++ (codes "/" ++ name)
 
 -- the JSON value that the bytes of an index are, if they are one within the limit; bytes that are no UTF-8 are none
 unfoldable pub value_of : List ℕ → Option Data
 value_of bytes = if nat_le (length bytes) INDEX_LIMIT && is_utf8 bytes then read bytes else None
 
--- the files that the bytes of an index list
+-- the entries that the bytes of an index list
 abbrev pub listed : List ℕ → Option (List IndexEntry)
 listed bytes = option_and_then index_of (value_of bytes)
 
 -- it has that path
 abbrev pub has_path : List ℕ → IndexEntry → Bool
-has_path path file = bytes_eq path file.path
+has_path path entry = bytes_eq path entry.path
 
--- two of the files have one path
+-- two of the entries have one path
 abbrev pub has_twice : List IndexEntry → Bool
 has_twice [] = false
-has_twice (file ∷ files) = list_any (has_path file.path) files || has_twice files
+has_twice (entry ∷ entries) = list_any (has_path entry.path) entries || has_twice entries
 
--- the files with one more, which stands before the first whose path is greater
-abbrev pub with_file : List IndexEntry → IndexEntry → List IndexEntry
-with_file [] file = file ∷ []
-with_file (next ∷ files) file = if is_lt (slice_cmp nat_cmp file.path next.path) then file ∷ next ∷ files else next ∷ with_file files file
+-- a directory is made from it
+abbrev pub makes_dir : Source → Bool
+makes_dir (file mode blob) = false
+makes_dir (dir mode) = true
+makes_dir (link target) = false
 
--- the files in byte order of their paths
+-- it is a directory of that path
+abbrev pub lists_dir : List ℕ → IndexEntry → Bool
+lists_dir path entry = makes_dir entry.source && bytes_eq path entry.path
+
+-- the entry stands in the root, or in a directory that these list
+abbrev pub lists_parent : List IndexEntry → IndexEntry → Bool
+lists_parent entries entry = is_top entry.path || list_any (lists_dir (parent_of entry.path)) entries
+
+-- the entries with one more, which stands before the first whose path is greater
+abbrev pub placed : List IndexEntry → IndexEntry → List IndexEntry
+placed [] entry = entry ∷ []
+placed (next ∷ entries) entry = if is_lt (slice_cmp nat_cmp entry.path next.path) then entry ∷ next ∷ entries else next ∷ placed entries entry
+
+-- the entries in byte order of their paths
 unfoldable pub sorted : List IndexEntry → List IndexEntry
-sorted files = fold with_file [] files
+sorted entries = fold placed [] entries
 
--- the folder has its blob
-abbrev pub has_blob : Files → List ℕ → IndexEntry → Bool
-has_blob files folder file = is_some (get files (name_in folder file.blob))
+-- the bytes of a blob of the folder
+abbrev pub blob_of : Files → List ℕ → List ℕ → List ℕ
+blob_of files folder blob = bytes_of files (name_in folder blob)
 
--- the bytes of its blob
-abbrev pub blob_of : Files → List ℕ → IndexEntry → List ℕ
-blob_of files folder file = bytes_of files (name_in folder file.blob)
+-- the folder has the blob that a file is made from
+abbrev pub has_blob : Files → List ℕ → Source → Bool
+has_blob files folder (file mode blob) = is_some (get files (name_in folder blob))
+has_blob files folder (dir mode) = true
+has_blob files folder (link target) = true
 
--- its blob is no longer than a file may be
-abbrev pub fits : Files → List ℕ → IndexEntry → Bool
-fits files folder file = nat_le (length (blob_of files folder file)) FILE_LIMIT
+-- that blob is no longer than a file may be
+abbrev pub fits : Files → List ℕ → Source → Bool
+fits files folder (file mode blob) = nat_le (length (blob_of files folder blob)) FILE_LIMIT
+fits files folder (dir mode) = true
+fits files folder (link target) = true
 
--- the entry of the file, with the bytes of its blob
+-- what is made, with the bytes of its blob
+abbrev pub made : Files → List ℕ → Source → What
+made files folder (file mode blob) = File (blob_of files folder blob)
+made files folder (dir mode) = Dir
+made files folder (link target) = Link target
+
+-- its mode, which is the same for all links
+abbrev pub mode_made : Source → ℕ
+mode_made (file mode blob) = mode
+mode_made (dir mode) = mode
+mode_made (link target) = LINK_MODE
+
+-- the image's entry
 abbrev pub entry_with : Files → List ℕ → IndexEntry → Entry
-entry_with files folder file = record { path = file.path; mode = file.mode; what = File (blob_of files folder file) }
+entry_with files folder entry = record { path = entry.path; mode = mode_made entry.source; what = made files folder entry.source }
 
--- the image of files in order, or the first that holds: a blob is missing, one is too long, or there are too many files
-unfoldable pub filled : Files → List ℕ → List IndexEntry → Result (List Entry) Refusal
-filled files folder order =
-    if not (list_all (has_blob files folder) order) then Err NoBlob
-    else (if not (list_all (fits files folder) order) then Err TooBig
+-- the image of entries in order, with the bytes of their blobs; or the first of these that holds: a blob is missing,
+-- one is too long, there are too many entries
+unfoldable pub with_blobs : Files → List ℕ → List IndexEntry → Result (List Entry) Refusal
+with_blobs files folder order =
+    if not (list_all (λ entry. has_blob files folder entry.source) order) then Err NoBlob
+    else (if not (list_all (λ entry. fits files folder entry.source) order) then Err TooBig
     else (if nat_le (length order) ENTRY_LIMIT then Ok (map (entry_with files folder) order) else Err TooMany))
 
--- the image of the files of an index, or the first that holds: a name is not good, a path stands twice, or as above
+-- the image of the entries of an index; or the first of these that holds: a path, target or blob's name is not good, a
+-- path stands twice, an entry stands in no directory of the index, or as above
 unfoldable pub image_from : Files → List ℕ → List IndexEntry → Result (List Entry) Refusal
 image_from files folder index =
-    if not (list_all is_good_file index) then Err BadPath
+    if not (list_all is_good index) then Err BadPath
     else (if has_twice index then Err Twice
-    else filled files folder (sorted index))
+    else (if not (list_all (lists_parent index) index) then Err NoParent
+    else with_blobs files folder (sorted index)))
 
--- the image of a list of files, if an index gave one
+-- the image of a list of entries, if an index gave one
 abbrev pub image_listed : Files → List ℕ → Option (List IndexEntry) → Result (List Entry) Refusal
 image_listed files folder None = Err BadIndex
 image_listed files folder (Some index) = image_from files folder index
@@ -93,12 +123,3 @@ image_by files folder (Some bytes) = image_listed files folder (listed bytes)
 -- the image of a folder, or why it has none
 abbrev pub image_of : Files → List ℕ → Result (List Entry) Refusal
 image_of files folder = image_by files folder (get files (name_in folder (codes "image.json")))
-
--- how a store's failure shows
-abbrev pub fault_of : StoreErr → ImageErr
-fault_of store.Failed = Store
-fault_of store.NoMemory = NoMemory
-
--- the file is one that an image may have in its root
-abbrev pub is_root_entry : IndexEntry → Bool
-is_root_entry file = is_path file.path && is_top file.path && nat_le file.mode MODE_LIMIT

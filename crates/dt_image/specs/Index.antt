@@ -1,18 +1,25 @@
 -- An image's index: a JSON value that lists what the image holds.
-use Rattle.std.specs.Prelude.{ℕ, Bool, not, ◌&&◌, ◌||◌, ◌==◌, List, [], ◌∷◌, length, take, codes, nat_le, Option, Some, None, option_and_then, if◌then◌else◌}
+use Rattle.std.specs.Prelude.{ℕ, Bool, true, not, ◌&&◌, ◌||◌, ◌==◌, List, [], ◌∷◌, length, take, codes, nat_le, Option, Some, None, option_and_then, if◌then◌else◌}
 use Rattle.std.specs.List.{list_all}
 use Rattle.std.specs.Str.{bytes_eq}
 use Rattle.std.specs.Char.{is_ascii_alphanumeric}
 use Rattle.serde_json.specs.Data.{Data, Items, no_items, item}
 use Rattle.serde_json.specs.Find.{get, as_str, as_number, as_u64, as_array}
-use Rattle.dt_base.specs.Path.{is_path, is_top}
+use Rattle.dt_base.specs.Path.{is_path}
+use Rattle.dt_base.specs.Image.{is_target}
 use Rattle.dt_base.specs.declared.limits.TheConstants.{NAME_LIMIT, MODE_LIMIT}
 
--- a file of an index: its path, its mode, and the name of the blob with its bytes
+-- what an entry is made from: a file from its mode and the name of the blob with its bytes, a directory from its mode,
+-- a symbolic link from its target
+pub data Source : Type 0 where
+  file : ℕ → List ℕ → Source
+  dir : ℕ → Source
+  link : List ℕ → Source
+
+-- an entry of an index: its path, and what it is made from
 pub record IndexEntry : Type 0 where
   pub path : List ℕ
-  pub mode : ℕ
-  pub blob : List ℕ
+  pub source : Source
 
 infixl 10 ◌>>=◌
 -- what a value leads to, if there is one
@@ -39,6 +46,59 @@ if_mode mode = if nat_le mode MODE_LIMIT then Some mode else None
 abbrev pub mode_of : Data → Option ℕ
 mode_of value = option_and_then if_mode (number_at (codes "mode") value)
 
+-- what a file is made from
+unfoldable pub file_of : Data → Option Source
+file_of value = do
+  mode ← mode_of value
+  blob ← text_at (codes "blob") value
+  Some (file mode blob)
+
+-- what a directory is made from
+unfoldable pub dir_of : Data → Option Source
+dir_of value = do
+  mode ← mode_of value
+  Some (dir mode)
+
+-- what a symbolic link is made from
+unfoldable pub link_of : Data → Option Source
+link_of value = do
+  target ← text_at (codes "target") value
+  Some (link target)
+
+-- what an entry of that type is made from, by the members that the type has; others are not looked at
+abbrev pub source_of : List ℕ → Data → Option Source
+source_of kind value =
+    if bytes_eq kind (codes "file") then file_of value
+    else (if bytes_eq kind (codes "dir") then dir_of value
+    else (if bytes_eq kind (codes "link") then link_of value else None))
+
+-- the entry that a value is, if it is one
+unfoldable pub entry_of : Data → Option IndexEntry
+entry_of value = do
+  path ← text_at (codes "path") value
+  kind ← text_at (codes "type") value
+  source ← source_of kind value
+  Some (record { path = path; source = source })
+
+-- the entries that these values are, if each is one
+abbrev pub entries_of : Items → Option (List IndexEntry)
+entries_of no_items = Some []
+entries_of (item value values) = do
+  entry ← entry_of value
+  entries ← entries_of values
+  Some (entry ∷ entries)
+
+-- the values of the entries of an index of version 1
+unfoldable pub versioned_items : Data → Option Items
+versioned_items value = do
+  version ← number_at (codes "version") value
+  entries ← items_at (codes "entries") value
+  if version == 1 then Some entries else None
+
+-- the entries of an index of version 1
+unfoldable pub index_of : Data → Option (List IndexEntry)
+index_of value = option_and_then entries_of (versioned_items value)
+
 -- a letter or digit of ASCII, `.`, `_` or `-`
 abbrev pub is_blob_byte : ℕ → Bool
 is_blob_byte b = is_ascii_alphanumeric b || (b == 46) || (b == 95) || (b == 45)
@@ -47,50 +107,12 @@ is_blob_byte b = is_ascii_alphanumeric b || (b == 46) || (b == 95) || (b == 45)
 abbrev pub is_blob_name : List ℕ → Bool
 is_blob_name name = nat_le 1 (length name) && nat_le (length name) NAME_LIMIT && not (bytes_eq (take 1 name) (codes ".")) && list_all is_blob_byte name
 
--- a good path of more than one name
-abbrev pub is_nested : List ℕ → Bool
-is_nested path = is_path path && not (is_top path)
+-- the blob's name or the target is good
+abbrev pub is_good_source : Source → Bool
+is_good_source (file mode blob) = is_blob_name blob
+is_good_source (dir mode) = true
+is_good_source (link target) = is_target target
 
--- an entry of this type and path is a file, and its path is no good path of more than one name
-abbrev pub is_flat_file : List ℕ → List ℕ → Bool
-is_flat_file kind path = bytes_eq kind (codes "file") && not (is_nested path)
-
--- the entry, if that is so
-abbrev pub if_flat_file : List ℕ → List ℕ → ℕ → List ℕ → Option IndexEntry
-if_flat_file kind path mode blob = if is_flat_file kind path then Some (record { path = path; mode = mode; blob = blob }) else None
-
--- the file that an entry of an index is, if it is one and has no good path of more than one name
-unfoldable pub file_of : Data → Option IndexEntry
-file_of value = do
-  kind ← text_at (codes "type") value
-  path ← text_at (codes "path") value
-  mode ← mode_of value
-  blob ← text_at (codes "blob") value
-  if_flat_file kind path mode blob
-
--- the files that these entries are, if each is one
-abbrev pub files_of : Items → Option (List IndexEntry)
-files_of no_items = Some []
-files_of (item value values) = do
-  file ← file_of value
-  files ← files_of values
-  Some (file ∷ files)
-
--- the entries of an index of version 1
-unfoldable pub versioned_items : Data → Option Items
-versioned_items value = do
-  version ← number_at (codes "version") value
-  entries ← items_at (codes "entries") value
-  if version == 1 then Some entries else None
-
--- the files of an index of version 1, if each entry is a file and none has a good path of more than one name
-unfoldable pub index_of : Data → Option (List IndexEntry)
-index_of value = option_and_then files_of (versioned_items value)
-
--- what holds of each file of an index: its path is not nested, and its mode is within the limit
-abbrev pub is_listed : IndexEntry → Bool
-is_listed file = not (is_nested file.path) && nat_le file.mode MODE_LIMIT
-
--- its path and its blob's name are good
-abbrev pub is_good_file : IndexEntry → Bool
-is_good_file file = is_path file.path && is_blob_name file.blob
+-- and so is the path
+abbrev pub is_good : IndexEntry → Bool
+is_good entry = is_path entry.path && is_good_source entry.source

@@ -1,6 +1,5 @@
 pub mod Index
-pub mod IndexView
-pub mod Flat
+pub mod inner
 pub mod ImageOf
-pub mod Tree
+pub mod Paths
 pub mod Report

@@ -1,22 +1,22 @@
 -- The report of a run, as text.
-use Rattle.std.specs.Prelude.{ℕ, ◌+◌, ◌-◌, ◌^◌, Bool, false, ◌||◌, ◌==◌, nat_lt, List, ◌++◌, length, codes, replicate}
+use Rattle.std.specs.Prelude.{ℕ, ◌+◌, ◌-◌, ◌^◌, Bool, false, ◌||◌, ◌==◌, nat_lt, List, [], ◌++◌, length, codes, replicate, Option, None, Some}
 use Rattle.std.specs.List.{flat_map}
 use Rattle.std.specs.Fmt.{decimal, digits}
+use Rattle.std.specs.FinMap.{get}
 use Rattle.dt_base.specs.declared.event.Event.{Event}
 use Rattle.dt_base.specs.declared.event.Event.TheVariants.{Out, Exit}
 use Rattle.dt_base.specs.declared.event.End.{End}
 use Rattle.dt_base.specs.declared.event.End.TheVariants.{Code, Signal}
 use Rattle.dt_base.specs.declared.event.Verdict.{Verdict}
 use Rattle.dt_base.specs.declared.event.Verdict.TheVariants.{Ended, Deadlock, Budget, Unsupported, NoStart}
-use Rattle.dt_base.specs.declared.image.Entry.{Entry}
-use Rattle.dt_base.specs.declared.image.What.{What}
-use Rattle.dt_base.specs.declared.image.What.TheVariants.{File, Dir, Link}
 use Rattle.dt_base.specs.Errno.{errno_number}
+use Rattle.dt_host.specs.World.{Node, file, dir, link, node_at}
+use Rattle.dt_tree.specs.FileTree.{Attributes, FileTree}
 use Rattle.hex.specs.Hex.{encode_lower}
 use Rattle.sha2.specs.Sha256.{sha256}
 use Rattle.percent_encoding.specs.declared.ascii_set.AsciiSet.{AsciiSet}
 use Rattle.percent_encoding.specs.Percent.{percent_encode}
-use Rattle.dt_image.specs.Tree.{Place, tree_of}
+use Rattle.dt_image.specs.Paths.{paths_of}
 
 -- the first line
 abbrev pub header : List ℕ
@@ -27,9 +27,11 @@ abbrev pub end_text : End → List ℕ
 end_text (Code code) = codes "code " ++ decimal code
 end_text (Signal signal) = codes "signal " ++ decimal signal
 
--- an event: the bytes that were put out, between a line with their stream and count and a line's end, or the end of a process
+-- an event: the bytes that were put out, between a line with their stream and count and a line's end; or the end of a
+-- process
 abbrev pub event_text : Event → List ℕ
-event_text (Out stream bytes) = codes "out " ++ (decimal stream ++ (codes " " ++ (decimal (length bytes) ++ (codes "\n" ++ (bytes ++ codes "\n")))))
+event_text (Out stream bytes) =
+    codes "out " ++ (decimal stream ++ (codes " " ++ (decimal (length bytes) ++ (codes "\n" ++ (bytes ++ codes "\n")))))
 event_text (Exit pid end) = codes "exit " ++ (decimal pid ++ (codes " " ++ (end_text end ++ codes "\n")))
 
 -- the events in their order
@@ -41,10 +43,11 @@ abbrev pub verdict_text : Verdict → List ℕ
 verdict_text Ended = codes "verdict ended\n"
 verdict_text Deadlock = codes "verdict deadlock\n"
 verdict_text Budget = codes "verdict budget\n"
-verdict_text (Unsupported pid call) = codes "verdict unsupported " ++ (decimal pid ++ (codes " " ++ (decimal call ++ codes "\n")))
+verdict_text (Unsupported pid call) =
+    codes "verdict unsupported " ++ (decimal pid ++ (codes " " ++ (decimal call ++ codes "\n")))
 verdict_text (NoStart errno) = codes "verdict nostart " ++ (decimal (errno_number errno) ++ codes "\n")
 
--- a mode in octal, with zeros in front up to four digits
+-- a mode in octal, with leading zeros up to four digits
 abbrev pub mode_text : ℕ → List ℕ
 mode_text mode = replicate (4 - length (digits 8 false mode)) 48 ++ digits 8 false mode
 
@@ -61,39 +64,49 @@ abbrev pub escaped : List ℕ → List ℕ
 escaped bytes = percent_encode escaped_set bytes
 
 -- a file: inode, mode, stamp, size, digest, path
-unfoldable pub file_line : ℕ → ℕ → List ℕ → List ℕ → List ℕ
-file_line inode mode path bytes =
-    codes "file " ++ (decimal inode ++ (codes " " ++ (mode_text mode ++ (codes " 0 " ++ (decimal (length bytes)
-    ++ (codes " " ++ (encode_lower (sha256 bytes) ++ (codes " " ++ (escaped path ++ codes "\n")))))))))
+unfoldable pub file_line : ℕ → ℕ → ℕ → List ℕ → List ℕ → List ℕ
+file_line inode mode stamp path bytes =
+    codes "file " ++ (decimal inode ++ (codes " " ++ (mode_text mode ++ (codes " " ++ (decimal stamp ++ (codes " "
+    ++ (decimal (length bytes) ++ (codes " " ++ (encode_lower (sha256 bytes) ++ (codes " " ++ (escaped path ++ codes "\n")))))))))))
 
 -- a directory: inode, mode, stamp, path
-unfoldable pub dir_line : ℕ → ℕ → List ℕ → List ℕ
-dir_line inode mode path =
-    codes "dir " ++ (decimal inode ++ (codes " " ++ (mode_text mode ++ (codes " 0 " ++ (escaped path ++ codes "\n")))))
+unfoldable pub dir_line : ℕ → ℕ → ℕ → List ℕ → List ℕ
+dir_line inode mode stamp path =
+    codes "dir " ++ (decimal inode ++ (codes " " ++ (mode_text mode ++ (codes " " ++ (decimal stamp ++ (codes " " ++ (escaped path ++ codes "\n")))))))
 
 -- a symbolic link: inode, stamp, path, target
-unfoldable pub link_line : ℕ → List ℕ → List ℕ → List ℕ
-link_line inode path target =
-    codes "link " ++ (decimal inode ++ (codes " 0 " ++ (escaped path ++ (codes " " ++ (escaped target ++ codes "\n")))))
+unfoldable pub link_line : ℕ → ℕ → List ℕ → List ℕ → List ℕ
+link_line inode stamp path target =
+    codes "link " ++ (decimal inode ++ (codes " " ++ (decimal stamp ++ (codes " " ++ (escaped path ++ (codes " " ++ (escaped target ++ codes "\n")))))))
 
--- the line of what stands at a path
-abbrev pub line_of : ℕ → ℕ → List ℕ → What → List ℕ
-line_of inode mode path (File bytes) = file_line inode mode path bytes
-line_of inode mode path Dir = dir_line inode mode path
-line_of inode mode path (Link target) = link_line inode path target
+-- the line of a node with these attributes, at a path and under an inode
+abbrev pub node_line : List ℕ × ℕ → Node → Attributes → List ℕ
+node_line at (file bytes) a = file_line at.1 a.mode a.stamp at.0 bytes
+node_line at (dir names) a = dir_line at.1 a.mode a.stamp at.0
+node_line at (link target) a = link_line at.1 a.stamp at.0 target
+
+-- the line of what may be there
+abbrev pub line_of : List ℕ × ℕ → Option Node → Option Attributes → List ℕ
+line_of at None a = []
+line_of at (Some node) None = []
+line_of at (Some node) (Some a) = node_line at node a
 
 -- the line of one path of a tree
-abbrev pub place_line : Place → List ℕ
-place_line place = line_of place.inode place.entry.mode place.entry.path place.entry.what
+abbrev pub path_line : FileTree → List ℕ × ℕ → List ℕ
+path_line t at = line_of at (node_at t.shape at.1) (get t.attributes at.1)
 
 -- the line that says how many lines follow
 abbrev pub tree_header : ℕ → List ℕ
 tree_header count = codes "tree " ++ (decimal count ++ codes "\n")
 
--- the tree: how many paths there are, and a line for each
-abbrev pub tree_text : List Entry → List ℕ
-tree_text entries = tree_header (length entries) ++ flat_map place_line (tree_of entries)
+-- a line for each path below the root, in byte order
+abbrev pub path_lines : FileTree → List ℕ
+path_lines t = flat_map (path_line t) (paths_of t.shape)
+
+-- the tree: how many paths there are, and their lines
+abbrev pub tree_text : FileTree → List ℕ
+tree_text t = tree_header (length (paths_of t.shape)) ++ path_lines t
 
 -- the whole report: the header, the events, the verdict and the tree
-abbrev pub report : List Event → Verdict → List Entry → List ℕ
-report events verdict entries = header ++ (events_text events ++ (verdict_text verdict ++ tree_text entries))
+abbrev pub report : List Event → Verdict → FileTree → List ℕ
+report events verdict t = header ++ (events_text events ++ (verdict_text verdict ++ tree_text t))

@@ -1,46 +1,48 @@
-// The files of an image, with the bytes of their blobs.
-ghost use Rattle.std.specs.Prelude.{◌≡◌, ◌≤◌, ℕ, Ok, Err, Some, IfOk, IfSome, IsErrOf, IsTrue, map, length, vec_len, false, nat_le};
-ghost use Rattle.std.specs.Ordering.{nat_cmp};
-ghost use Rattle.std.specs.Cmp.Lexicographic.{slice_cmp};
+// The entries of an image, with the bytes of their blobs.
+ghost use Rattle.std.specs.Prelude.{◌≡◌, ◌≤◌, ℕ, Ok, Err, Some, IfOk, IfSome, IsErrOf, IsTrue, map, length, is_some, true, false, nat_le};
 ghost use Rattle.std.specs.List.{list_all, All};
 ghost use Rattle.std.specs.List.Sorted.{IsStrictlySortedBy};
-ghost use Rattle.dt_base.specs.Image.{is_good_entry};
+ghost use Rattle.std.specs.FinMap.{get};
+ghost use Rattle.dt_base.specs.Image.{is_dir, is_good_what, is_good_entry};
 ghost use Rattle.dt_base.specs.declared.refusal.Refusal.{Refusal};
 ghost use Rattle.dt_host.specs.Cause.{HasCause};
 ghost use Rattle.dt_host.specs.Store.{Files, size_of};
-ghost use Rattle.dt_image.specs.Flat.{is_root_file, IsFlat};
-ghost use Rattle.dt_image.specs.ImageOf.{name_in, has_blob, fits, entry_with, filled, is_root_entry};
-ghost use Rattle.dt_image.specs.IndexView.{entry_of, HasSize};
+ghost use Rattle.dt_image.specs.ImageOf.{name_in, lists_parent, has_blob, makes_dir, made, mode_made, entry_with, with_blobs};
+ghost use Rattle.dt_image.specs.inner.IndexView.{source_in, entry_in, path_cmp, blob_size, HasSize, is_good_made, is_sound, spot, spot_of};
 
 use crate::folder::{bytes_in, name_in, size_in};
-use crate::index::FileEntry;
-use dt_base::{Blob, ENTRY_LIMIT, Entry, FILE_LIMIT, Image, ImageErr, Refusal, What};
+use crate::index::{EntryRef, SourceRef};
+use dt_base::{
+    Blob, ENTRY_LIMIT, Entry, FILE_LIMIT, Image, ImageErr, LINK_MODE, NoMemory, Refusal, What,
+};
 use dt_host::Store;
 use std::alloc::Global;
 
-// A file of an index, and the size of its blob in bytes.
+// An entry of an index, and the size of its blob in bytes; 0 where it has none.
 #[derive(Clone, Copy, Debug)]
 struct Measured<'v> {
-    file: FileEntry<'v>,
+    entry: EntryRef<'v>,
     size: u64,
 }
 
-/// The image of files that stand in order. No blob is read before the sizes of all are known and within the limit.
-pub fn fill<S: Store>(
+/// The image of entries that stand in order. No blob is read before the sizes of all are known and within the limit.
+pub fn with_blobs<S: Store>(
     alloc: Global,
     store: &mut S,
     folder: &str,
-    files: &[FileEntry<'_>],
+    order: &[EntryRef<'_>],
 ) -> Result<Image, ImageErr>
-    requires root { IsTrue (list_all is_root_entry (map entry_of files.now)) }
-    requires rising { IsStrictlySortedBy (λ a b. slice_cmp nat_cmp a.path.now b.path.now) files.now }
-    ensures ok { IfSome (S.told store.old) (λ held. IfOk result (λ image. filled held folder.now (map entry_of files.now) ≡ Ok image)) }
-    ensures refused { (r : Refusal) → result ≡ Err (ImageErr.Refused r) → IfSome (S.told store.old) (λ held. filled held folder.now (map entry_of files.now) ≡ Err r) }
-    ensures flat { IfOk result IsFlat }
+    requires sound { IsTrue (list_all is_sound (map entry_in order.now)) }
+    requires rising { IsStrictlySortedBy path_cmp order.now }
+    requires parents { list_all (λ entry. lists_parent (map entry_in order.now) (entry_in entry)) order.now ≡ true }
+    ensures ok { IfSome (S.told store.old) (λ held.
+        IfOk result (λ image. with_blobs held folder.now (map entry_in order.now) ≡ Ok image)) }
+    ensures refused { (r : Refusal) → result ≡ Err (ImageErr.Refused r) →
+        IfSome (S.told store.old) (λ held. with_blobs held folder.now (map entry_in order.now) ≡ Err r) }
     ensures stays { S.told store.new ≡ S.told store.old }
     ensures cause { HasCause (S.count store.old) (S.count store.new) (IsErrOf result ImageErr.Store) }
 {
-    let blobs = measure(alloc, store, folder, files)?;
+    let blobs = measure(alloc, store, folder, order)?;
     if !fit(&blobs) {
         return Err(ImageErr::Refused(Refusal::TooBig));
     }
@@ -55,18 +57,20 @@ fn measure<'v, S: Store>(
     alloc: Global,
     store: &mut S,
     folder: &str,
-    files: &[FileEntry<'v>],
+    order: &[EntryRef<'v>],
 ) -> Result<Vec<Measured<'v>>, ImageErr>
-    ensures files { IfOk result (λ blobs. map (λ blob. blob.file) blobs.items ≡ files.now) }
-    ensures sizes { IfSome (S.told store.old) (λ held. IfOk result (λ blobs. All (HasSize held folder.now) blobs.items)) }
+    ensures entries { IfOk result (λ blobs. map (λ blob. blob.entry) blobs.items ≡ order.now) }
+    ensures sizes { IfSome (S.told store.old) (λ held.
+        IfOk result (λ blobs. All (HasSize held folder.now) blobs.items)) }
     ensures refused { (r : Refusal) → result ≡ Err (ImageErr.Refused r) → (r ≡ Refusal.NoBlob)
-        × IfSome (S.told store.old) (λ held. list_all (has_blob held folder.now) (map entry_of files.now) ≡ false) }
+        × IfSome (S.told store.old) (λ held.
+        list_all (λ entry. has_blob held folder.now entry.source) (map entry_in order.now) ≡ false) }
     ensures stays { S.told store.new ≡ S.told store.old }
     ensures cause { HasCause (S.count store.old) (S.count store.new) (IsErrOf result ImageErr.Store) }
 {
     let mut blobs = Vec::new(alloc);
-    for file in files {
-        blobs.push(measure_one(alloc, store, folder, *file)?)?;
+    for entry in order {
+        blobs.push(measure_one(alloc, store, folder, *entry)?)?;
     }
     Ok(blobs)
 }
@@ -75,18 +79,57 @@ fn measure_one<'v, S: Store>(
     alloc: Global,
     store: &mut S,
     folder: &str,
-    file: FileEntry<'v>,
+    entry: EntryRef<'v>,
 ) -> Result<Measured<'v>, ImageErr>
-    ensures file { IfOk result (λ blob. blob.file ≡ file.entry) }
+    ensures entry { IfOk result (λ blob. blob.entry ≡ entry.entry) }
     ensures size { IfSome (S.told store.old) (λ held. IfOk result (HasSize held folder.now)) }
     ensures refused { (r : Refusal) → result ≡ Err (ImageErr.Refused r) → (r ≡ Refusal.NoBlob)
-        × IfSome (S.told store.old) (λ held. has_blob held folder.now (entry_of file.entry) ≡ false) }
+        × IfSome (S.told store.old) (λ held.
+        has_blob held folder.now (source_in entry.entry.source) ≡ false) }
     ensures stays { S.told store.new ≡ S.told store.old }
     ensures cause { HasCause (S.count store.old) (S.count store.new) (IsErrOf result ImageErr.Store) }
 {
-    let name = name_in(alloc, folder, file.source.blob)?;
+    let size = blob_size(alloc, store, folder, entry.source)?;
+    Ok(Measured { entry, size })
+}
+
+// The size of the blob that a file is made from; 0 for a directory or a link.
+fn blob_size<S: Store>(
+    alloc: Global,
+    store: &mut S,
+    folder: &str,
+    source: SourceRef<'_>,
+) -> Result<u64, ImageErr>
+    ensures ok { IfSome (S.told store.old) (λ held.
+        IfOk result (λ size. blob_size held folder.now (source_in source.entry) ≡ Some size)) }
+    ensures refused { (r : Refusal) → result ≡ Err (ImageErr.Refused r) → (r ≡ Refusal.NoBlob)
+        × IfSome (S.told store.old) (λ held. has_blob held folder.now (source_in source.entry) ≡ false) }
+    ensures stays { S.told store.new ≡ S.told store.old }
+    ensures cause { HasCause (S.count store.old) (S.count store.new) (IsErrOf result ImageErr.Store) }
+{
+    match source {
+        SourceRef::File(_, blob) => size_of(alloc, store, folder, blob),
+        SourceRef::Dir(_) | SourceRef::Link(_) => Ok(0),
+    }
+}
+
+// The size of a blob.
+fn size_of<S: Store>(
+    alloc: Global,
+    store: &mut S,
+    folder: &str,
+    blob: &str,
+) -> Result<u64, ImageErr>
+    ensures ok { IfSome (S.told store.old) (λ held.
+        IfOk result (λ size. size_of held (name_in folder.now blob.now) ≡ Some size)) }
+    ensures refused { (r : Refusal) → result ≡ Err (ImageErr.Refused r) → (r ≡ Refusal.NoBlob)
+        × IfSome (S.told store.old) (λ held. is_some (get held (name_in folder.now blob.now)) ≡ false) }
+    ensures stays { S.told store.new ≡ S.told store.old }
+    ensures cause { HasCause (S.count store.old) (S.count store.new) (IsErrOf result ImageErr.Store) }
+{
+    let name = name_in(alloc, folder, blob)?;
     match size_in(store, name.as_str())? {
-        Some(size) => Ok(Measured { file, size }),
+        Some(size) => Ok(size),
         None => Err(ImageErr::Refused(Refusal::NoBlob)),
     }
 }
@@ -98,14 +141,14 @@ fn fit(blobs: &[Measured<'_>]) -> bool
     blobs.iter().all(|blob| blob.size <= FILE_LIMIT)
 }
 
-// There are no more than an image may have.
+// There are no more entries than an image may have.
 fn are_few(blobs: &[Measured<'_>]) -> bool
     ensures { result ≡ nat_le (length blobs.now) ENTRY_LIMIT }
 {
     blobs.len() as u64 <= ENTRY_LIMIT
 }
 
-// The entries of all files.
+// The entries with their bytes.
 fn read<S: Store>(
     alloc: Global,
     store: &mut S,
@@ -114,11 +157,12 @@ fn read<S: Store>(
 ) -> Result<Vec<Entry>, ImageErr>
     requires sizes { IfSome (S.told store.old) (λ held. All (HasSize held folder.now) blobs.now) }
     requires fit { All (λ blob. blob.size ≤ FILE_LIMIT) blobs.now }
-    requires root { All (λ blob. IsTrue (is_root_entry (entry_of blob.file))) blobs.now }
-    ensures ok { IfSome (S.told store.old) (λ held. IfOk result (λ entries. entries.items ≡ map (λ blob. entry_with held folder.now (entry_of blob.file)) blobs.now)) }
-    ensures paths { IfOk result (λ entries. map (λ entry. entry.path) entries.items ≡ map (λ blob. blob.file.path.now) blobs.now) }
+    requires sound { All (λ blob. IsTrue (is_sound (entry_in blob.entry))) blobs.now }
+    ensures ok { IfSome (S.told store.old) (λ held. IfOk result (λ entries.
+        entries.items ≡ map (λ blob. entry_with held folder.now (entry_in blob.entry)) blobs.now)) }
+    ensures spots { IfOk result (λ entries.
+        map spot entries.items ≡ map (λ blob. spot_of (entry_in blob.entry)) blobs.now) }
     ensures good { IfOk result (λ entries. IsTrue (list_all is_good_entry entries.items)) }
-    ensures flat { IfOk result (λ entries. IsFlat entries.items) }
     ensures answered { (r : Refusal) → result ≡ Err (ImageErr.Refused r) → ⊥ }
     ensures stays { S.told store.new ≡ S.told store.old }
     ensures cause { HasCause (S.count store.old) (S.count store.new) (IsErrOf result ImageErr.Store) }
@@ -138,21 +182,66 @@ fn read_one<S: Store>(
 ) -> Result<Entry, ImageErr>
     requires size { IfSome (S.told store.old) (λ held. HasSize held folder.now blob) }
     requires fits { blob.size ≤ FILE_LIMIT }
-    requires root { IsTrue (is_root_entry (entry_of blob.file)) }
-    ensures ok { IfSome (S.told store.old) (λ held. IfOk result (λ entry. entry ≡ entry_with held folder.now (entry_of blob.entry.file))) }
-    ensures path { IfOk result (λ entry. entry.path ≡ blob.entry.file.path.now) }
+    requires sound { IsTrue (is_sound (entry_in blob.entry)) }
+    ensures ok { IfSome (S.told store.old) (λ held.
+        IfOk result (λ entry. entry ≡ entry_with held folder.now (entry_in blob.entry.entry))) }
+    ensures spot { IfOk result (λ entry. spot entry ≡ spot_of (entry_in blob.entry.entry)) }
     ensures good { IfOk result (λ entry. IsTrue (is_good_entry entry)) }
-    ensures flat { IfOk result (λ entry. IsTrue (is_root_file entry)) }
     ensures answered { (r : Refusal) → result ≡ Err (ImageErr.Refused r) → ⊥ }
     ensures stays { S.told store.new ≡ S.told store.old }
     ensures cause { HasCause (S.count store.old) (S.count store.new) (IsErrOf result ImageErr.Store) }
 {
-    let file = blob.file;
-    let name = name_in(alloc, folder, file.source.blob)?;
-    let bytes = bytes_in(alloc, store, name.as_str(), blob.size)?;
+    let entry = blob.entry;
+    let what = make(alloc, store, folder, entry.source, blob.size)?;
     Ok(Entry {
-        path: Blob::new(Vec::from_slice(alloc, file.path.as_bytes())?),
-        mode: file.source.mode,
-        what: What::File(Blob::new(bytes)),
+        path: copy_of(alloc, entry.path)?,
+        mode: mode_made(entry.source),
+        what,
     })
+}
+
+// What a source makes, whose blob has that size.
+fn make<S: Store>(
+    alloc: Global,
+    store: &mut S,
+    folder: &str,
+    source: SourceRef<'_>,
+    size: u64,
+) -> Result<What, ImageErr>
+    requires size { IfSome (S.told store.old) (λ held.
+        blob_size held folder.now (source_in source) ≡ Some size) }
+    requires fits { size ≤ FILE_LIMIT }
+    requires sound { IsTrue (is_good_made (source_in source)) }
+    ensures ok { IfSome (S.told store.old) (λ held.
+        IfOk result (λ what. what ≡ made held folder.now (source_in source.entry))) }
+    ensures kind { IfOk result (λ what. is_dir what ≡ makes_dir (source_in source.entry)) }
+    ensures good { IfOk result (λ what. IsTrue (is_good_what what (mode_made (source_in source.entry)))) }
+    ensures answered { (r : Refusal) → result ≡ Err (ImageErr.Refused r) → ⊥ }
+    ensures stays { S.told store.new ≡ S.told store.old }
+    ensures cause { HasCause (S.count store.old) (S.count store.new) (IsErrOf result ImageErr.Store) }
+{
+    match source {
+        SourceRef::File(_, blob) => {
+            let name = name_in(alloc, folder, blob)?;
+            let bytes = bytes_in(alloc, store, name.as_str(), size)?;
+            Ok(What::File(Blob::new(bytes)))
+        }
+        SourceRef::Dir(_) => Ok(What::Dir),
+        SourceRef::Link(target) => Ok(What::Link(copy_of(alloc, target)?)),
+    }
+}
+
+fn mode_made(source: SourceRef<'_>) -> u32
+    ensures { result ≡ mode_made (source_in source.entry) }
+{
+    match source {
+        SourceRef::File(mode, _) | SourceRef::Dir(mode) => mode,
+        SourceRef::Link(_) => LINK_MODE,
+    }
+}
+
+fn copy_of(alloc: Global, text: &str) -> Result<Blob, NoMemory>
+    ensures { IfOk result (λ copy. copy ≡ text.now) }
+{
+    Ok(Blob::new(Vec::from_slice(alloc, text.as_bytes())?))
 }

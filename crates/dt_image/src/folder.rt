@@ -4,7 +4,8 @@ ghost use Rattle.std.specs.FinMap.{get};
 ghost use Rattle.dt_base.specs.declared.refusal.Refusal.{Refusal};
 ghost use Rattle.dt_host.specs.Cause.{HasCause};
 ghost use Rattle.dt_host.specs.Store.{size_of};
-ghost use Rattle.dt_image.specs.ImageOf.{name_in, fault_of};
+ghost use Rattle.dt_image.specs.ImageOf.{name_in};
+ghost use Rattle.dt_image.specs.inner.StoreFault.{image_err};
 
 use dt_base::{FILE_LIMIT, ImageErr, Refusal};
 use dt_host::{Store, StoreErr, store_whole};
@@ -26,7 +27,7 @@ pub fn size_in<S: Store>(store: &mut S, name: &str) -> Result<Option<u64>, Image
 {
     match store.size(name) {
         Ok(size) => Ok(size),
-        Err(error) => Err(fault(error)),
+        Err(error) => Err(image_err(error)),
     }
 }
 
@@ -48,12 +49,12 @@ pub fn bytes_in<S: Store>(
     let mut bytes = vec![in alloc; 0; size as usize]?;
     match store_whole(store, name, &mut bytes) {
         Ok(()) => Ok(bytes),
-        Err(error) => Err(fault(error)),
+        Err(error) => Err(image_err(error)),
     }
 }
 
-fn fault(error: StoreErr) -> ImageErr
-    ensures { result ≡ fault_of error }
+fn image_err(error: StoreErr) -> ImageErr
+    ensures { result ≡ image_err error }
 {
     match error {
         StoreErr::Failed => ImageErr::Store,

@@ -2,42 +2,46 @@
 ghost use Rattle.std.specs.Prelude.{◌≡◌, ◌&&◌, ℕ, Some, IfOk, IfSome, ◌≤◌, option_map, codes, map, length, IsTrue};
 ghost use Rattle.std.specs.List.{list_all};
 ghost use Rattle.serde_json.specs.View.{view, items_view};
-ghost use Rattle.dt_image.specs.Index.{text_at, number_at, mode_of, items_at, is_blob_byte, is_blob_name, is_flat_file, is_listed, is_good_file, file_of, files_of, index_of, versioned_items};
-ghost use Rattle.dt_image.specs.IndexView.{entry_of};
+ghost use Rattle.dt_base.specs.Image.{is_target};
+ghost use Rattle.dt_image.specs.Index.{text_at, number_at, mode_of, items_at, is_blob_byte, is_blob_name, is_good_source, is_good, file_of, dir_of, link_of, source_of, entry_of, entries_of, index_of, versioned_items};
+ghost use Rattle.dt_image.specs.inner.IndexView.{source_in, entry_in, has_mode, is_listed};
 
-use crate::path::{is_nested, is_path};
-use dt_base::{MODE_LIMIT, NAME_LIMIT, NoMemory};
+use dt_base::{MODE_LIMIT, NAME_LIMIT, NoMemory, PATH_LIMIT, has_no_nul, is_path};
 use serde_json::Value;
 use std::alloc::Global;
 
-/// What a file of an image is made from: its mode, and the name of the blob with its bytes.
+/// What an entry is made from: a file from its mode and the name of the blob with its bytes, a directory from its
+/// mode, a symbolic link from its target.
 #[derive(Clone, Copy, Debug)]
-pub struct Source<'v> {
-    pub mode: u32,
-    pub blob: &'v str,
+pub enum SourceRef<'v> {
+    File(u32, &'v str),
+    Dir(u32),
+    Link(&'v str),
 }
 
-/// A file of an index: its path in the image, and what it is made from.
+/// An entry of an index: its path in the image, and what it is made from.
 #[derive(Clone, Copy, Debug)]
-pub struct FileEntry<'v> {
+pub struct EntryRef<'v> {
     pub path: &'v str,
-    pub source: Source<'v>,
+    pub source: SourceRef<'v>,
 }
 
 #[tactic(auto, unfolding(crate::specs::Index::index_of))]
-/// The files of an index of version 1, in its order; None where it is no such index.
-pub fn index_of(alloc: Global, index: &Value) -> Result<Option<Vec<FileEntry<'_>>>, NoMemory>
-    ensures value { IfOk result (λ found. option_map (λ files. map entry_of files.items) found ≡ index_of (view index.now)) }
-    ensures listed { IfOk result (λ found. IfSome found (λ files. IsTrue (list_all is_listed (map entry_of files.items)))) }
+/// The entries of an index of version 1, in its order; None where it is no such index.
+pub fn index_of(alloc: Global, index: &Value) -> Result<Option<Vec<EntryRef<'_>>>, NoMemory>
+    ensures value { IfOk result (λ found.
+        option_map (λ entries. map entry_in entries.items) found ≡ index_of (view index.now)) }
+    ensures listed { IfOk result (λ found.
+        IfSome found (λ entries. IsTrue (list_all is_listed (map entry_in entries.items)))) }
 {
     match versioned_items(index) {
-        Some(items) => files_of(alloc, items),
+        Some(items) => entries_of(alloc, items),
         None => Ok(None),
     }
 }
 
 #[tactic(auto, unfolding(crate::specs::Index::versioned_items))]
-// The entries of an index of version 1.
+// The values of the entries of an index of version 1.
 fn versioned_items(index: &Value) -> Option<&[Value]>
     ensures { option_map (λ items. items_view items.now) result ≡ versioned_items (view index.now) }
 {
@@ -46,38 +50,75 @@ fn versioned_items(index: &Value) -> Option<&[Value]>
     if version == 1 { Some(items) } else { None }
 }
 
-// The files that all of these are.
-fn files_of(alloc: Global, items: &[Value]) -> Result<Option<Vec<FileEntry<'_>>>, NoMemory>
-    ensures value { IfOk result (λ found. option_map (λ files. map entry_of files.items) found ≡ files_of (items_view items.now)) }
-    ensures listed { IfOk result (λ found. IfSome found (λ files. IsTrue (list_all is_listed (map entry_of files.items)))) }
+// The entries that all of these are.
+fn entries_of(alloc: Global, items: &[Value]) -> Result<Option<Vec<EntryRef<'_>>>, NoMemory>
+    ensures value { IfOk result (λ found.
+        option_map (λ entries. map entry_in entries.items) found ≡ entries_of (items_view items.now)) }
+    ensures listed { IfOk result (λ found.
+        IfSome found (λ entries. IsTrue (list_all is_listed (map entry_in entries.items)))) }
 {
-    let mut files = Vec::new(alloc);
+    let mut entries = Vec::new(alloc);
     for item in items {
-        match file_of(item) {
-            Some(file) => files.push(file)?,
+        match entry_of(item) {
+            Some(entry) => entries.push(entry)?,
             None => return Ok(None),
         }
     }
-    Ok(Some(files))
+    Ok(Some(entries))
 }
 
-#[tactic(auto, unfolding(crate::specs::Index::file_of))]
-fn file_of(entry: &Value) -> Option<FileEntry<'_>>
-    ensures value { option_map entry_of result ≡ file_of (view entry.now) }
-    ensures listed { IfSome result (λ file. IsTrue (is_listed (entry_of file))) }
+#[tactic(auto, unfolding(crate::specs::Index::entry_of))]
+fn entry_of(entry: &Value) -> Option<EntryRef<'_>>
+    ensures value { option_map entry_in result ≡ entry_of (view entry.now) }
+    ensures listed { IfSome result (λ entry. IsTrue (is_listed (entry_in entry))) }
 {
-    let kind = text_at(entry, "type")?;
     let path = text_at(entry, "path")?;
-    let mode = mode_of(entry)?;
-    let blob = text_at(entry, "blob")?;
-    if is_flat_file(kind, path) {
-        Some(FileEntry {
-            path,
-            source: Source { mode, blob },
-        })
+    let kind = text_at(entry, "type")?;
+    let source = source_of(kind, entry)?;
+    Some(EntryRef { path, source })
+}
+
+fn source_of<'v>(kind: &str, entry: &'v Value) -> Option<SourceRef<'v>>
+    ensures value { option_map source_in result ≡ source_of kind.now (view entry.now) }
+    ensures mode { IfSome result (λ source. IsTrue (has_mode (source_in source))) }
+{
+    if kind == "file" {
+        file_of(entry)
+    } else if kind == "dir" {
+        dir_of(entry)
+    } else if kind == "link" {
+        link_of(entry)
     } else {
         None
     }
+}
+
+#[tactic(auto, unfolding(crate::specs::Index::file_of))]
+fn file_of(entry: &Value) -> Option<SourceRef<'_>>
+    ensures value { option_map source_in result ≡ file_of (view entry.now) }
+    ensures mode { IfSome result (λ source. IsTrue (has_mode (source_in source))) }
+{
+    let mode = mode_of(entry)?;
+    let blob = text_at(entry, "blob")?;
+    Some(SourceRef::File(mode, blob))
+}
+
+#[tactic(auto, unfolding(crate::specs::Index::dir_of))]
+fn dir_of(entry: &Value) -> Option<SourceRef<'_>>
+    ensures value { option_map source_in result ≡ dir_of (view entry.now) }
+    ensures mode { IfSome result (λ source. IsTrue (has_mode (source_in source))) }
+{
+    let mode = mode_of(entry)?;
+    Some(SourceRef::Dir(mode))
+}
+
+#[tactic(auto, unfolding(crate::specs::Index::link_of))]
+fn link_of(entry: &Value) -> Option<SourceRef<'_>>
+    ensures value { option_map source_in result ≡ link_of (view entry.now) }
+    ensures mode { IfSome result (λ source. IsTrue (has_mode (source_in source))) }
+{
+    let target = text_at(entry, "target")?;
+    Some(SourceRef::Link(target))
 }
 
 fn text_at<'v>(value: &'v Value, name: &str) -> Option<&'v str>
@@ -111,17 +152,27 @@ fn mode_of(entry: &Value) -> Option<u32>
     }
 }
 
-fn is_flat_file(kind: &str, path: &str) -> bool
-    ensures { result ≡ is_flat_file kind.now path.now }
+/// Whether an entry's path is good, and so is its blob's name or its target.
+pub fn is_good(entry: EntryRef<'_>) -> bool
+    ensures { result ≡ is_good (entry_in entry.entry) }
 {
-    kind == "file" && !is_nested(path.as_bytes())
+    is_path(entry.path.as_bytes()) && is_good_source(entry.source)
 }
 
-/// The path and the name of the blob are good.
-pub fn is_good(file: FileEntry<'_>) -> bool
-    ensures { result ≡ is_good_file (entry_of file.entry) }
+fn is_good_source(source: SourceRef<'_>) -> bool
+    ensures { result ≡ is_good_source (source_in source.entry) }
 {
-    is_path(file.path.as_bytes()) && is_blob_name(file.source.blob.as_bytes())
+    match source {
+        SourceRef::File(_, blob) => is_blob_name(blob.as_bytes()),
+        SourceRef::Dir(_) => true,
+        SourceRef::Link(target) => is_target(target.as_bytes()),
+    }
+}
+
+fn is_target(target: &[u8]) -> bool
+    ensures { result ≡ is_target target.now }
+{
+    1 <= target.len() && target.len() as u64 <= PATH_LIMIT && has_no_nul(target)
 }
 
 fn is_blob_name(name: &[u8]) -> bool

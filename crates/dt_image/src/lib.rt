@@ -5,11 +5,12 @@ mod blobs;
 mod folder;
 mod image;
 mod index;
+mod lines;
 mod order;
-mod path;
+mod parents;
+mod paths;
 mod report;
 
 pub use image::read_image;
-pub use report::{
-    write_event, write_events, write_file_line, write_header, write_tree_header, write_verdict,
-};
+pub use lines::tree_lines;
+pub use report::{event_text, events_text, header, verdict_text};

@@ -1,42 +1,42 @@
-// The files of an index in the order of an image.
+// The entries of an index in the order of an image.
 ghost use Rattle.std.specs.Prelude.{◌≡◌, IfOk, IfSome, map, is_some, not};
-ghost use Rattle.std.specs.Ordering.{nat_cmp};
-ghost use Rattle.std.specs.Cmp.Lexicographic.{slice_cmp};
 ghost use Rattle.std.specs.List.Sorted.{IsStrictlySortedBy};
 ghost use Rattle.dt_image.specs.ImageOf.{has_twice, sorted};
-ghost use Rattle.dt_image.specs.IndexView.{entry_of, keyed, file_at};
+ghost use Rattle.dt_image.specs.inner.IndexView.{entry_in, keyed, entry_at, path_cmp};
 
-use crate::index::{FileEntry, Source};
+use crate::index::{EntryRef, SourceRef};
 use dt_base::NoMemory;
 use std::alloc::Global;
 use std::collections::BTreeMap;
 
-/// The files in byte order of their paths; None where two have one path.
+/// The entries in byte order of their paths; None where two have one path.
 pub fn sorted<'v>(
     alloc: Global,
-    files: &[FileEntry<'v>],
-) -> Result<Option<Vec<FileEntry<'v>>>, NoMemory>
-    ensures once { IfOk result (λ found. is_some found ≡ not (has_twice (map entry_of files.now))) }
-    ensures sorted { IfOk result (λ found. IfSome found (λ order. map entry_of order.items ≡ sorted (map entry_of files.now))) }
-    ensures rising { IfOk result (λ found. IfSome found (λ order. IsStrictlySortedBy (λ a b. slice_cmp nat_cmp a.path.now b.path.now) order.items)) }
+    entries: &[EntryRef<'v>],
+) -> Result<Option<Vec<EntryRef<'v>>>, NoMemory>
+    ensures once { IfOk result (λ found. is_some found ≡ not (has_twice (map entry_in entries.now))) }
+    ensures sorted { IfOk result (λ found.
+        IfSome found (λ order. map entry_in order.items ≡ sorted (map entry_in entries.now))) }
+    ensures rising { IfOk result (λ found. IfSome found (λ order. IsStrictlySortedBy path_cmp order.items)) }
 {
-    match by_path(alloc, files)? {
+    match by_path(alloc, entries)? {
         Some(sources) => Ok(Some(in_order(alloc, sources)?)),
         None => Ok(None),
     }
 }
 
-// What each file is made from, by its path; None where two have one path.
+// What each entry is made from, by its path; None where two have one path.
 fn by_path<'v>(
     alloc: Global,
-    files: &[FileEntry<'v>],
-) -> Result<Option<BTreeMap<&'v str, Source<'v>>>, NoMemory>
-    ensures once { IfOk result (λ found. is_some found ≡ not (has_twice (map entry_of files.now))) }
-    ensures sorted { IfOk result (λ found. IfSome found (λ sources. map keyed sources.entries ≡ sorted (map entry_of files.now))) }
+    entries: &[EntryRef<'v>],
+) -> Result<Option<BTreeMap<&'v str, SourceRef<'v>>>, NoMemory>
+    ensures once { IfOk result (λ found. is_some found ≡ not (has_twice (map entry_in entries.now))) }
+    ensures sorted { IfOk result (λ found.
+        IfSome found (λ sources. map keyed sources.entries ≡ sorted (map entry_in entries.now))) }
 {
     let mut sources = BTreeMap::new(alloc);
-    for file in files {
-        match sources.insert(file.path, file.source)? {
+    for entry in entries {
+        match sources.insert(entry.path, entry.source)? {
             Some(_) => return Ok(None),
             None => {}
         }
@@ -46,14 +46,14 @@ fn by_path<'v>(
 
 fn in_order<'v>(
     alloc: Global,
-    sources: BTreeMap<&'v str, Source<'v>>,
-) -> Result<Vec<FileEntry<'v>>, NoMemory>
-    ensures files { IfOk result (λ order. order.items ≡ map file_at sources.entry.entries) }
-    ensures rising { IfOk result (λ order. IsStrictlySortedBy (λ a b. slice_cmp nat_cmp a.path.now b.path.now) order.items) }
+    sources: BTreeMap<&'v str, SourceRef<'v>>,
+) -> Result<Vec<EntryRef<'v>>, NoMemory>
+    ensures entries { IfOk result (λ order. order.items ≡ map entry_at sources.entry.entries) }
+    ensures rising { IfOk result (λ order. IsStrictlySortedBy path_cmp order.items) }
 {
-    let files = sources
+    let entries = sources
         .into_iter()
-        .map(|(path, source)| FileEntry { path, source })
+        .map(|(path, source)| EntryRef { path, source })
         .collect(alloc)?;
-    Ok(files)
+    Ok(entries)
 }

@@ -1,36 +1,39 @@
-// The texts of a report, each put at the end of what was written before it.
-ghost use Rattle.std.specs.Prelude.{◌≡◌, ◌<◌, ℕ, ◌++◌, length, OnOk, IfOk, string_bytes};
-ghost use Rattle.hex.specs.Hex.{encode_lower};
-ghost use Rattle.percent_encoding.specs.AsciiSet.{contains};
-ghost use Rattle.sha2.specs.Sha256.{sha256};
-ghost use Rattle.dt_image.specs.Report.{header, escaped_set, is_escaped, end_text, event_text, events_text, verdict_text, tree_header, file_line};
+// The texts of a report but for its tree.
+ghost use Rattle.std.specs.Prelude.{◌≡◌, ◌++◌, OnOk, IfOk};
+ghost use Rattle.dt_image.specs.Report.{header, event_text, events_text, verdict_text};
 
-use dt_base::{End, Errno, Event, NoMemory, Verdict};
-use percent_encoding::{AsciiSet, CONTROLS, ascii_set, percent_encode};
-use sha2::{Digest, Sha256};
-use std::alloc::{AllocError, Global};
+use dt_base::{Blob, End, Errno, Event, NoMemory, Verdict};
+use std::alloc::Global;
 use std::io::Write;
 
-// They are written as `%` and two digits, and so is each byte past ASCII.
-const ESCAPED: AsciiSet = ascii_set!(CONTROLS.add(b' ').add(b'%'));
-
-// The bytes of ASCII that a path is shown without: the controls, space and `%`.
-fn escaped_bytes() -> AsciiSet
-    ensures value { result ≡ escaped_set }
-    ensures bytes { (b : ℕ) → b < 128 → contains result b ≡ is_escaped b }
+/// The line that a report begins with.
+pub fn header() -> &'static [u8]
+    ensures { result.now ≡ header }
 {
-    ESCAPED
+    b"dettrace 1\n"
 }
 
-/// Writes the line that a report begins with.
-pub fn write_header(text: &mut Vec<u8>) -> Result<(), NoMemory>
-    ensures { OnOk result (text.new.items ≡ text.old.items ++ header) }
+/// The text of one event.
+pub fn event_text(alloc: Global, event: &Event) -> Result<Blob, NoMemory>
+    ensures { IfOk result (λ text. text ≡ event_text event.now) }
 {
-    put(text, b"dettrace 1\n")
+    let mut text = Vec::new(alloc);
+    write_event(&mut text, event)?;
+    Ok(Blob::new(text))
 }
 
-/// Writes one event.
-pub fn write_event(text: &mut Vec<u8>, event: &Event) -> Result<(), NoMemory>
+/// The texts of events in their order.
+pub fn events_text(alloc: Global, events: &[Event]) -> Result<Blob, NoMemory>
+    ensures { IfOk result (λ text. text ≡ events_text events.now) }
+{
+    let mut text = Vec::new(alloc);
+    for event in events {
+        write_event(&mut text, event)?;
+    }
+    Ok(Blob::new(text))
+}
+
+fn write_event(text: &mut Vec<u8>, event: &Event) -> Result<(), NoMemory>
     ensures { OnOk result (text.new.items ≡ text.old.items ++ event_text event.now) }
 {
     match event {
@@ -59,18 +62,16 @@ fn write_exit(text: &mut Vec<u8>, pid: u32, end: End) -> Result<(), NoMemory>
     .map_err(|_| NoMemory)
 }
 
-/// Writes events in their order.
-pub fn write_events(text: &mut Vec<u8>, events: &[Event]) -> Result<(), NoMemory>
-    ensures { OnOk result (text.new.items ≡ text.old.items ++ events_text events.now) }
+/// The line of the verdict.
+pub fn verdict_text(alloc: Global, verdict: &Verdict) -> Result<Blob, NoMemory>
+    ensures { IfOk result (λ text. text ≡ verdict_text verdict.now) }
 {
-    for event in events {
-        write_event(text, event)?;
-    }
-    Ok(())
+    let mut text = Vec::new(alloc);
+    write_verdict(&mut text, verdict)?;
+    Ok(Blob::new(text))
 }
 
-/// Writes the line of the verdict.
-pub fn write_verdict(text: &mut Vec<u8>, verdict: &Verdict) -> Result<(), NoMemory>
+fn write_verdict(text: &mut Vec<u8>, verdict: &Verdict) -> Result<(), NoMemory>
     ensures { OnOk result (text.new.items ≡ text.old.items ++ verdict_text verdict.now) }
 {
     match *verdict {
@@ -101,37 +102,3 @@ fn put(text: &mut Vec<u8>, bytes: &[u8]) -> Result<(), NoMemory>
     text.extend_from_slice(bytes)?;
     Ok(())
 }
-
-/// Writes the line before a tree's, with the count of those that follow.
-pub fn write_tree_header(text: &mut Vec<u8>, count: usize) -> Result<(), NoMemory>
-    ensures { OnOk result (text.new.items ≡ text.old.items ++ tree_header count) }
-{
-    write!(text, "tree {count}\n").map_err(|_| NoMemory)
-}
-
-/// Writes the line of a file: its inode, its mode, its bytes by their count and SHA-256, and its path.
-#[tactic(auto, using(crate::proofs::Modes::padded_mode), unfolding(crate::specs::Report::file_line))]
-pub fn write_file_line(
-    alloc: Global,
-    text: &mut Vec<u8>,
-    inode: u64,
-    mode: u32,
-    path: &[u8],
-    bytes: &[u8],
-) -> Result<(), NoMemory>
-    ensures { OnOk result (text.new.items ≡ text.old.items ++ file_line inode mode path.now bytes.now) }
-{
-    let size = bytes.len();
-    let digest = digest_text(alloc, bytes)?;
-    let path = percent_encode(path, escaped_bytes());
-    write!(text, "file {inode} {mode:04o} 0 {size} {digest} {path}\n").map_err(|_| NoMemory)
-}
-
-fn digest_text(alloc: Global, bytes: &[u8]) -> Result<String, AllocError>
-    ensures { IfOk result (λ text. string_bytes text ≡ encode_lower (sha256 bytes.now)) }
-{
-    hex::encode(alloc, Sha256::digest(bytes))
-}
-
-#[cfg(test)]
-mod tests;

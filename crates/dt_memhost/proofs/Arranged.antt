@@ -43,30 +43,30 @@ module _ {A : Type 0} where
   unfolding picked_order
   picked_order-nil left = refl
 
-  -- one entry more in its place
-  pub picked_order-more : (found front left moved : List A) (done at n : ℕ) (s : Script) → n ≡ length found → done < n → front ≡ take done found → left ≡ drop done found → at ≡ word_of s % length left → moved ≡ take 1 (drop at left) ++ remove left at → take done found ++ picked_order (words_of (n - done) s) (drop done found) ≡ take (done + 1) (front ++ moved) ++ picked_order (words_of (n - (done + 1)) (picked s)) (drop (done + 1) (front ++ moved))
-  picked_order-more found front left moved done at n s size here first last chosen goes =
+  -- one entry more where it belongs
+  pub picked_order-more : (found prefix left moved : List A) (done at n : ℕ) (s : Script) → n ≡ length found → done < n → prefix ≡ take done found → left ≡ drop done found → at ≡ word_of s % length left → moved ≡ take 1 (drop at left) ++ remove left at → take done found ++ picked_order (words_of (n - done) s) (drop done found) ≡ take (done + 1) (prefix ++ moved) ++ picked_order (words_of (n - (done + 1)) (picked s)) (drop (done + 1) (prefix ++ moved))
+  picked_order-more found prefix left moved done at n s size here first last chosen goes =
       let words = words_of (n - (done + 1)) (picked s) in
       let one = take 1 (drop at left) in
       let rest = remove left at in
       let many : length left ≡ n - done = ap length last ∙ omega (arith, length-drop done found) in
       let within : at < length left = omega arith in
       let single : length one ≡ 1 = length-take-le 1 (drop at left) (omega (arith, length-drop at left)) in
-      let front_size : length front ≡ done = ap length first ∙ length-take-le done found (omega arith) in
-      let head : length (front ++ one) ≡ done + 1 = omega (arith, length-append front one) in
-      let whole : front ++ moved ≡ (front ++ one) ++ rest = ap (λ xs. front ++ xs) goes ∙ sym (append_assoc front one rest) in
-      let begins : take (done + 1) (front ++ moved) ≡ front ++ one = ap (take (done + 1)) whole ∙ take_at (front ++ one) rest (done + 1) head in
-      let ends : drop (done + 1) (front ++ moved) ≡ rest = ap (drop (done + 1)) whole ∙ drop_at (front ++ one) rest (done + 1) head in
+      let front_size : length prefix ≡ done = ap length first ∙ length-take-le done found (omega arith) in
+      let head : length (prefix ++ one) ≡ done + 1 = omega (arith, length-append prefix one) in
+      let whole : prefix ++ moved ≡ (prefix ++ one) ++ rest = ap (λ xs. prefix ++ xs) goes ∙ sym (append_assoc prefix one rest) in
+      let begins : take (done + 1) (prefix ++ moved) ≡ prefix ++ one = ap (take (done + 1)) whole ∙ take_at (prefix ++ one) rest (done + 1) head in
+      let ends : drop (done + 1) (prefix ++ moved) ≡ rest = ap (drop (done + 1)) whole ∙ drop_at (prefix ++ one) rest (done + 1) head in
       let step : picked_order (words_of (n - done) s) left ≡ one ++ picked_order words rest =
       ap (λ ws. picked_order ws left) (ap (λ m. words_of m s) (one_left done n here) ∙ words_of-suc (n - (done + 1)) s)
       ∙ picked_order-cons (word_of s) words left
       ∙ ap (λ k. take 1 (drop k left) ++ picked_order words (remove left k)) (sym chosen) in
       ap (λ xs. xs ++ picked_order (words_of (n - done) s) (drop done found)) (sym first)
-      ∙ ap (λ xs. front ++ picked_order (words_of (n - done) s) xs) (sym last)
-      ∙ ap (λ xs. front ++ xs) step
-      ∙ sym (append_assoc front one (picked_order words rest))
+      ∙ ap (λ xs. prefix ++ picked_order (words_of (n - done) s) xs) (sym last)
+      ∙ ap (λ xs. prefix ++ xs) step
+      ∙ sym (append_assoc prefix one (picked_order words rest))
       ∙ ap (λ xs. xs ++ picked_order words rest) (sym begins)
-      ∙ ap (λ xs. take (done + 1) (front ++ moved) ++ picked_order words xs) (sym ends)
+      ∙ ap (λ xs. take (done + 1) (prefix ++ moved) ++ picked_order words xs) (sym ends)
 
   -- after the last they stand as they are
   pub picked_order-end : (found : List A) (done n : ℕ) (s : Script) → n ≤ done → take done found ++ picked_order (words_of (n - done) s) (drop done found) ≡ found
@@ -75,9 +75,9 @@ module _ {A : Type 0} where
       ∙ ap (λ xs. take done found ++ xs) (picked_order-nil (drop done found))
       ∙ take-append-drop done found
 
-  -- one moved to the front
-  to_front : (left : List A) (at : ℕ) → IsPermutation left (take 1 (drop at left) ++ remove left at)
-  to_front left at =
+  -- one moved to the first index
+  to_first : (left : List A) (at : ℕ) → IsPermutation left (take 1 (drop at left) ++ remove left at)
+  to_first left at =
       let before = take at left in
       let one = take 1 (drop at left) in
       let after = drop 1 (drop at left) in
@@ -97,7 +97,7 @@ module _ {A : Type 0} where
   IsPermutation-picked_order (word ∷ words) left =
       let at = word % length left in
       subst (λ xs. IsPermutation left xs) (sym (picked_order-cons word words left))
-      (IsPermutation-trans _ _ _ (to_front left at) (IsPermutation-append_right (take 1 (drop at left)) (remove left at) _ (IsPermutation-picked_order words (remove left at))))
+      (IsPermutation-trans _ _ _ (to_first left at) (IsPermutation-append_right (take 1 (drop at left)) (remove left at) _ (IsPermutation-picked_order words (remove left at))))
 
 -- a list that looks otherwise is arranged alike
 pub map-picked_order : {A B : Type 0} (f : A → B) (words : List ℕ) (left : List A) → map f (picked_order words left) ≡ picked_order words (map f left)

@@ -1,7 +1,7 @@
 -- The nodes of a tree by number, as a forest with its orders: what stands there, and what a change of one makes of all.
 use Rattle.std.proofs.Common.{◌≡◌, ◌≢◌, ℕ, List, [], ◌∷◌, ◌++◌, Option, Some, None, refl, sym, ap, subst, ◌∙◌, inl, inr}
 use Rattle.std.proofs.lemmas.Bool.{cases_eq}
-use Rattle.std.specs.Prelude.{IsSome, IfSome, option_map, option_and_then, unwrap_or}
+use Rattle.std.specs.Prelude.{IsSome, IfSome, OnOk, OnErr, Result, Ok, Err, option_map, option_and_then, unwrap_or}
 use Rattle.std.specs.Ordering.{nat_cmp}
 use Rattle.std.specs.Cmp.{nat_cmp_total}
 use Rattle.std.specs.BTreeMap as tree
@@ -9,13 +9,19 @@ use Rattle.std.specs.BTreeMap.{BTreeMap}
 use Rattle.std.specs.FinMap.{get, insert, empty, get-empty, same_map, nat_cmp-IsAntisymmetric}
 use Rattle.std.specs.Cmp.Lexicographic.{slice_cmp}
 use Rattle.dt_host.specs.Entries.{map_of}
-use Rattle.dt_host.specs.World.{Forest, Node, Names, file, dir, file_at, dir_at, file_bytes, dir_names, IsFile, IsDir, content, names_at, entry, with_node, with_bytes, with_entry, overwritten}
+use Rattle.dt_host.specs.World.{Forest, Node, Names, file, dir, file_at, dir_at, target_at, file_bytes, dir_names, link_target, IsFile, IsDir, content, names_at, entry, with_node, with_bytes, with_entry}
+use Rattle.dt_base.specs.Bytes.{overwritten}
 use Rattle.dt_host.proofs.Maps.{at_insert}
 use Rattle.dt_host.proofs.MapOf.{get-map_of}
 use Rattle.dt_memhost.specs.declared.node.MemNode.{MemNode}
-use Rattle.dt_memhost.specs.Node.{node_of, node_in, nodes_of, entries_of, order_in, orders_of}
+use Rattle.dt_memhost.specs.inner.Node.{node_of, node_in, nodes_of, entries_of, order_in, orders_of}
 use Rattle.dt_memhost.specs.Order.{Order, with_last}
 use Rattle.dt_memhost.proofs.Numbered.{get-nodes_of}
+
+-- what holds on both outcomes
+pub by_outcome : {A E : Type 0} {P : Type 0} (r : Result A E) → OnOk r P → OnErr r P → P
+by_outcome (Ok a) p q = p
+by_outcome (Err e) p q = q
 
 -- the forest of a tree of nodes, with that root
 abbrev pub forest_of : BTreeMap ℕ MemNode → ℕ → Forest
@@ -26,6 +32,9 @@ file_at-forest_of nodes root n = ap (option_and_then file_bytes) (get-nodes_of n
 
 pub dir_at-forest_of : (nodes : BTreeMap ℕ MemNode) (root n : ℕ) → dir_at (forest_of nodes root) n ≡ option_and_then dir_names (node_in nodes n)
 dir_at-forest_of nodes root n = ap (option_and_then dir_names) (get-nodes_of nodes n)
+
+pub target_at-forest_of : (nodes : BTreeMap ℕ MemNode) (root n : ℕ) → target_at (forest_of nodes root) n ≡ option_and_then link_target (node_in nodes n)
+target_at-forest_of nodes root n = ap (option_and_then link_target) (get-nodes_of nodes n)
 
 pub content-forest_of : (nodes : BTreeMap ℕ MemNode) (root n : ℕ) → content (forest_of nodes root) n ≡ unwrap_or (option_and_then file_bytes (node_in nodes n)) []
 unfolding content

@@ -3,4 +3,3 @@ pub mod Numbered
 pub mod Forests
 pub mod Arranged
 pub mod Worded
-pub mod Started

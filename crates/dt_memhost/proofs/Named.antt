@@ -17,7 +17,7 @@ use Rattle.dt_host.specs.Entries.{map_of}
 use Rattle.dt_host.proofs.Maps.{names_tie}
 use Rattle.dt_host.proofs.MapOf.{get-map_of}
 use Rattle.dt_memhost.specs.Order.{Order}
-use Rattle.dt_memhost.specs.Dir.{order_of, names_of}
+use Rattle.dt_memhost.specs.inner.Dir.{order_of, names_of}
 
 none_left : {A : Type 0} (xs : List A) → length xs ≡ 0 → xs ≡ []
 none_left [] e = refl
@@ -25,9 +25,9 @@ none_left (x ∷ xs) e = absurd (omega arith)
 
 -- two lists that look alike still do with alike elements at their ends
 pub alike_pushed : {A B C : Type 0} (f : A → C) (g : B → C) (xs : List A) (ys : List B) (x : A) (y : B) → map f xs ≡ map g ys → f x ≡ g y → map f (xs ++ x ∷ []) ≡ map g (ys ++ y ∷ [])
-alike_pushed f g xs ys x y front last =
+alike_pushed f g xs ys x y prefix last =
     map-append f xs (x ∷ [])
-    ∙ ap (λ zs. zs ++ f x ∷ []) front
+    ∙ ap (λ zs. zs ++ f x ∷ []) prefix
     ∙ ap (λ z. map g ys ++ z ∷ []) last
     ∙ sym (map-append g ys (y ∷ []))
 

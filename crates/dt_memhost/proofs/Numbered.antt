@@ -14,7 +14,7 @@ use Rattle.std.proofs.lemmas.Map.Steps.{le-length_from_below}
 use Rattle.dt_host.specs.World.{Node}
 use Rattle.dt_host.proofs.MapOf.{get-map_of}
 use Rattle.dt_memhost.specs.declared.node.MemNode.{MemNode}
-use Rattle.dt_memhost.specs.Node.{node_of, nodes_of, node_in}
+use Rattle.dt_memhost.specs.inner.Node.{node_of, nodes_of, node_in}
 use Rattle.dt_memhost.specs.declared.number.TheConstants.{NUMBERS}
 use Rattle.dt_memhost.specs.Number.{around, IsLeastAbove, Numbers}
 
@@ -39,19 +39,19 @@ pub free_in : (nodes : BTreeMap ℕ MemNode) (q : ℕ) → is_some (tree.get nat
 free_in nodes q e = none_if _ (contains_key-nodes_of nodes q ∙ e)
 
 -- a number that is live is passed
-pub around-live : (nodes : FinMap nat_cmp Node) (place left : ℕ) → contains_key nodes (1 + place % NUMBERS) ≡ true → around nodes place (suc left) ≡ around nodes (place + 1) left
+pub around-live : (nodes : FinMap nat_cmp Node) (from left : ℕ) → contains_key nodes (1 + from % NUMBERS) ≡ true → around nodes from (suc left) ≡ around nodes (from + 1) left
 unfolding around
-around-live nodes place left e = ap (λ b. cond b (around nodes (place + 1) left) (Some (1 + place % NUMBERS))) e
+around-live nodes from left e = ap (λ b. cond b (around nodes (from + 1) left) (Some (1 + from % NUMBERS))) e
 
 -- one that isn't is taken
-pub around-free : (nodes : FinMap nat_cmp Node) (place left : ℕ) → contains_key nodes (1 + place % NUMBERS) ≡ false → around nodes place (suc left) ≡ Some (1 + place % NUMBERS)
+pub around-free : (nodes : FinMap nat_cmp Node) (from left : ℕ) → contains_key nodes (1 + from % NUMBERS) ≡ false → around nodes from (suc left) ≡ Some (1 + from % NUMBERS)
 unfolding around
-around-free nodes place left e = ap (λ b. cond b (around nodes (place + 1) left) (Some (1 + place % NUMBERS))) e
+around-free nodes from left e = ap (λ b. cond b (around nodes (from + 1) left) (Some (1 + from % NUMBERS))) e
 
 -- after the last none is left
-pub around-none : (nodes : FinMap nat_cmp Node) (place left : ℕ) → left ≡ 0 → around nodes place left ≡ None
+pub around-none : (nodes : FinMap nat_cmp Node) (from left : ℕ) → left ≡ 0 → around nodes from left ≡ None
 unfolding around
-around-none nodes place left e = ap (around nodes place) e
+around-none nodes from left e = ap (around nodes from) e
 
 or_true : (a b : Bool) → b ≡ true → (a || b) ≡ true
 or_true true b e = refl
@@ -79,13 +79,13 @@ row_of_live nodes start count live =
     omega (arith, most, length-map nodes.entries (λ (e : ℕ × MemNode). e.0 - start))
 
 -- a number that is found on the way round is at least 1, and free
-pub found_around : (nodes : FinMap nat_cmp Node) (place left n : ℕ) → around nodes place left ≡ Some n → (1 ≤ n) × (get nodes n ≡ None)
+pub found_around : (nodes : FinMap nat_cmp Node) (from left n : ℕ) → around nodes from left ≡ Some n → (1 ≤ n) × (get nodes n ≡ None)
 unfolding around
-found_around nodes place zero n e = cc
-found_around nodes place (suc left) n e =
-    let at = 1 + place % NUMBERS in
-    elim (contains_key nodes at) as (λ b. contains_key nodes at ≡ b → cond b (around nodes (place + 1) left) (Some at) ≡ Some n → (1 ≤ n) × (get nodes n ≡ None)) [
-      | true ↦ λ live is. found_around nodes (place + 1) left n is
+found_around nodes from zero n e = cc
+found_around nodes from (suc left) n e =
+    let at = 1 + from % NUMBERS in
+    elim (contains_key nodes at) as (λ b. contains_key nodes at ≡ b → cond b (around nodes (from + 1) left) (Some at) ≡ Some n → (1 ≤ n) × (get nodes n ≡ None)) [
+      | true ↦ λ live is. found_around nodes (from + 1) left n is
       | false ↦ λ free is.
           let same : at ≡ n = cc in
           (omega arith, ap (get nodes) (sym same) ∙ none_if _ free)

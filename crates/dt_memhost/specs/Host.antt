@@ -1,13 +1,13 @@
 -- A host in memory, and how it answers: a call that is listed fails and is counted, and any other chooses by words.
-use Rattle.std.specs.Prelude.{◌≡◌, ℕ, ◌-◌, ◌%◌, min, ◌==◌, List, [], ◌++◌, length, take, drop, map, Option, Vec, Ok, Err, Result, MatchBool, MatchResult, if◌then◌else◌}
+use Rattle.std.specs.Prelude.{◌≡◌, ℕ, ◌-◌, ◌%◌, min, ◌==◌, List, [], ◌++◌, length, take, drop, map, Option, Some, Vec, Ok, Err, Result, MatchBool, MatchResult, if◌then◌else◌}
 use Rattle.dt_host.specs.declared.kind.NodeKind.{NodeKind}
 use Rattle.std.specs.FinMap.{empty, insert}
 use Rattle.dt_host.specs.declared.entry.HostEntry.{HostEntry}
 use Rattle.dt_host.specs.declared.raw.RawStat.{RawStat}
 use Rattle.dt_host.specs.declared.error.HostErr.{HostErr}
 use Rattle.dt_host.specs.declared.error.HostErr.TheVariants.{Failed, NoMemory}
-use Rattle.dt_host.specs.World.{World, empty_world, with_forest, with_node, with_entry, entry, content}
-use Rattle.dt_host.specs.Legal.{new_node, named, written}
+use Rattle.dt_host.specs.World.{World, empty_world, with_forest, with_node, with_entry, entry, content, target_at}
+use Rattle.dt_host.specs.Legal.{new_node, named, with_write}
 use Rattle.dt_memhost.specs.Picks.{Picks, length_by}
 use Rattle.dt_memhost.specs.Script.{Script, script_of, fails_next, counted, failed, picked, picked_all, restarted, word_of, words_of}
 use Rattle.dt_memhost.specs.Order.{Orders, order_at, with_last, picked_order}
@@ -34,8 +34,8 @@ pub record Starves (old : HostState) (script : Script) (new : HostState) (error 
   pub kept : new ≡ record old { script = script }
 
 -- an answer without a choice, which leaves what the host keeps
-pub record Tells {A : Type 0} (old : HostState) (answer : A) (result : Result A HostErr) (new : HostState) : Type 0 where
-  pub told : result ≡ Ok answer
+pub record Gives {A : Type 0} (old : HostState) (answer : A) (result : Result A HostErr) (new : HostState) : Type 0 where
+  pub ok : result ≡ Ok answer
   pub counts : new ≡ record old { script = counted old.script }
 
 -- a call fails where it is listed, and else answers as said
@@ -49,12 +49,12 @@ FillsUnlessListed old before after result new said =
 
 -- how a host in memory answers `root`
 abbrev pub RootsBy : HostState → Result ℕ HostErr → HostState → Type 0
-RootsBy old result new = UnlessListed old result new (Tells old old.view.forest.root result new)
+RootsBy old result new = UnlessListed old result new (Gives old old.view.forest.root result new)
 
 -- how it answers `find`
 abbrev pub FindsBy : HostState → ℕ → List ℕ → Result (Option ℕ) HostErr → HostState → Type 0
 FindsBy old d name result new =
-    UnlessListed old result new (Tells old (entry old.view.forest d name) result new)
+    UnlessListed old result new (Gives old (entry old.view.forest d name) result new)
 
 -- a word chooses the number of the new node
 pub record MakesNumber (old : HostState) (kind : NodeKind) (new : HostState) (n : ℕ) : Type 0 where
@@ -83,7 +83,7 @@ BindsBy old d name n result new =
 
 -- its choices begin anew
 pub record Restarts {A : Type 0} (old : HostState) (number : ℕ) (answer : A) (result : Result A HostErr) (new : HostState) : Type 0 where
-  pub told : result ≡ Ok answer
+  pub ok : result ≡ Ok answer
   pub script : new ≡ record old { script = restarted (counted old.script) number }
 
 -- how it answers `disturb`: the words that are left are dropped, and the stream of the number begins
@@ -123,7 +123,17 @@ RawBy old n result new =
     UnlessListed old result new
     (Chooses old (raw_by old.view n old.script) (picked (picked (picked (counted old.script)))) result new)
 
--- how it answers `next_stop`: a place below this length, by a word
+-- the target of a link, without a choice
+pub record GivesTarget (old : HostState) (n : ℕ) (new : HostState) (target : List ℕ) : Type 0 where
+  pub there : target_at old.view.forest n ≡ Some target
+  pub counts : new ≡ record old { script = counted old.script }
+
+-- how it answers `target`
+abbrev pub TargetBy : HostState → ℕ → Result (List ℕ) HostErr → HostState → Type 0
+TargetBy old n result new =
+    UnlessListed old result new (MatchResult result (GivesTarget old n new) (Starves old (counted old.script) new))
+
+-- how it answers `next_stop`: an index below this length, by a word
 abbrev pub StopsBy : HostState → ℕ → Result ℕ HostErr → HostState → Type 0
 StopsBy old count result new =
     UnlessListed old result new
@@ -136,7 +146,7 @@ WordBy old result new =
 
 -- each byte of a buffer is the lowest of a word
 pub record Fills {A : Type 0} (old : HostState) (before after : List ℕ) (answer : A) (result : Result A HostErr) (new : HostState) : Type 0 where
-  pub told : result ≡ Ok answer
+  pub ok : result ≡ Ok answer
   pub bytes : after ≡ map (λ word. word % 256) (words_of (length before) old.script)
   pub kept : new ≡ record old { script = picked_all (length before) (counted old.script) }
 
@@ -161,7 +171,7 @@ script_read s most = if most == 0 then counted s else picked (counted s)
 pub record ReadsCount (old : HostState) (n off : ℕ) (before after : List ℕ) (result : Result ℕ HostErr) (new : HostState) : Type 0 where
   pub chosen : let most = most_read (content old.view.forest n) off before in
       result ≡ Ok (count_read (word_of old.script) most)
-  pub front : let bytes = content old.view.forest n in
+  pub prefix : let bytes = content old.view.forest n in
       let count = count_read (word_of old.script) (most_read bytes off before) in
       after ≡ take count (drop off bytes) ++ drop count before
   pub kept : let most = most_read (content old.view.forest n) off before in
@@ -175,7 +185,7 @@ ReadsBy old n off before after result new =
 -- so much is written as a word chooses
 pub record WritesCount (old : HostState) (n off : ℕ) (bytes : List ℕ) (new : HostState) (count : ℕ) : Type 0 where
   pub chosen : count ≡ length_by (word_of old.script) (length bytes)
-  pub view : new.view ≡ written old.view n off (take count bytes)
+  pub view : new.view ≡ with_write old.view n off (take count bytes)
   pub orders : new.orders ≡ old.orders
   pub script : new.script ≡ picked (counted old.script)
 

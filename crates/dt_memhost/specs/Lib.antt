@@ -3,9 +3,6 @@ pub mod Script
 pub mod Sink
 pub mod Store
 pub mod Order
-pub mod Dir
-pub mod Node
-pub mod Forest
 pub mod Number
 pub mod Host
-pub mod Codes
+pub mod inner

@@ -5,11 +5,11 @@ use Rattle.std.specs.FinMap.{FinMap, get, contains_key}
 use Rattle.dt_host.specs.World.{Node}
 use Rattle.dt_memhost.specs.declared.number.TheConstants.{NUMBERS}
 
--- the first of so many numbers from a place on that isn't live, going round
+-- the first of so many numbers, from this one on, isn't live, going round
 unfoldable pub around : FinMap nat_cmp Node → ℕ → ℕ → Option ℕ
-around nodes place zero = None
-around nodes place (suc left) =
-    if contains_key nodes (1 + place % NUMBERS) then around nodes (place + 1) left else Some (1 + place % NUMBERS)
+around nodes from zero = None
+around nodes from (suc left) =
+    if contains_key nodes (1 + from % NUMBERS) then around nodes (from + 1) left else Some (1 + from % NUMBERS)
 
 -- the least number above those that words choose which isn't live
 pub record IsLeastAbove (nodes : FinMap nat_cmp Node) (number : ℕ) : Type 0 where

@@ -3,7 +3,7 @@ use Rattle.std.specs.Prelude.{ℕ, ◌%◌, List, [], ◌∷◌, ◌++◌, lengt
 use Rattle.std.specs.Ordering.{nat_cmp}
 use Rattle.std.specs.FinMap.{FinMap, get, insert}
 
--- names with the numbers that they stand for, the one bound first in front
+-- names with the numbers that they stand for, the one bound first comes first
 abbrev pub Order : Type 0
 Order = List (List ℕ × ℕ)
 

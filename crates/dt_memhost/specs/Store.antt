@@ -26,20 +26,20 @@ pub record FailsAtStore {A : Type 0} (old : StoreState) (result : Result A Store
   pub failed_only : result ≡ Err Failed
   pub counts : new ≡ record old { script = failed old.script }
 
--- the size is told without a word
-pub record TellsSize (old : StoreState) (name : List ℕ) (result : Result (Option ℕ) StoreErr) (new : StoreState) : Type 0 where
-  pub told : result ≡ Ok (size_of old.files name)
+-- the size of a file, without a word
+pub record GivesSize (old : StoreState) (name : List ℕ) (result : Result (Option ℕ) StoreErr) (new : StoreState) : Type 0 where
+  pub ok : result ≡ Ok (size_of old.files name)
   pub counts : new ≡ record old { script = counted old.script }
 
 -- how a store in memory answers a question for a size
 abbrev pub SizesBy : StoreState → List ℕ → Result (Option ℕ) StoreErr → StoreState → Type 0
 SizesBy old name result new =
-    MatchBool (fails_next old.script) (FailsAtStore old result new) (TellsSize old name result new)
+    MatchBool (fails_next old.script) (FailsAtStore old result new) (GivesSize old name result new)
 
 -- a word chooses how much of the buffer is filled
 pub record ReadsSome (old : StoreState) (name : List ℕ) (off : ℕ) (before after : List ℕ) (result : Result ℕ StoreErr) (new : StoreState) : Type 0 where
   pub chosen : result ≡ Ok (length_by (word_of old.script) (length before))
-  pub front : let count = length_by (word_of old.script) (length before) in
+  pub prefix : let count = length_by (word_of old.script) (length before) in
       after ≡ take count (drop off (bytes_of old.files name)) ++ drop count before
   pub counts : new ≡ record old { script = picked (counted old.script) }
 

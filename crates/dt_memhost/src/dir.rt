@@ -1,8 +1,9 @@
+// The entries of a directory in memory.
 ghost use Rattle.std.specs.Prelude.{◌≡◌, None, [], ◌∷◌, ◌++◌, map, IfOk, OnOk, OnErr};
 ghost use Rattle.std.specs.List.Sorted.{IsPermutation};
 ghost use Rattle.std.specs.FinMap.{entries, get, insert};
 ghost use Rattle.dt_host.specs.Legal.{named};
-ghost use Rattle.dt_memhost.specs.Dir.{names_of};
+ghost use Rattle.dt_memhost.specs.inner.Dir.{names_of};
 
 use dt_base::{Blob, NoMemory};
 use dt_host::HostEntry;
@@ -18,7 +19,7 @@ pub(crate) struct Entries {
 
 impl Model for Entries {
     ghost use Rattle.dt_memhost.specs.Order.{Order};
-    ghost use Rattle.dt_memhost.specs.Dir.{order_of};
+    ghost use Rattle.dt_memhost.specs.inner.Dir.{order_of};
 
     ghost Value = { Order };
 

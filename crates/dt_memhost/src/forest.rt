@@ -1,17 +1,19 @@
-ghost use Rattle.std.specs.Prelude.{◌≡◌, ◌≤◌, None, length, map, option_map, option_copied, vec_items, IfOk, IfSome, OnOk, OnErr};
+// The nodes of a host in memory, and the order of binding in each directory.
+ghost use Rattle.std.specs.Prelude.{◌≡◌, ◌+◌, ◌<◌, ◌≤◌, ◌^◌, None, length, map, option_map, option_copied, vec_items, IfOk, IfSome, OnOk, OnErr};
 ghost use Rattle.std.specs.List.Sorted.{IsPermutation};
 ghost use Rattle.std.specs.FinMap.{entries, get};
-ghost use Rattle.dt_host.specs.World.{IsFile, IsDir, file_at, names_at, content, entry, overwritten};
+ghost use Rattle.dt_host.specs.World.{IsFile, IsDir, IsSized, file_at, target_at, names_at, content, entry};
+ghost use Rattle.dt_base.specs.Bytes.{overwritten};
 ghost use Rattle.dt_host.specs.Legal.{named};
 ghost use Rattle.dt_memhost.specs.Number.{Numbers};
 ghost use Rattle.dt_memhost.specs.Order.{order_at};
-ghost use Rattle.dt_memhost.specs.Forest.{empty_ordered, made, bound, rewritten};
+ghost use Rattle.dt_memhost.specs.inner.Forest.{empty_ordered, made, bound, rewritten};
 
 use crate::dir::Entries;
 use crate::node::MemNode;
 use crate::nodes::Nodes;
 use crate::{nodes, number};
-use dt_base::NoMemory;
+use dt_base::{Blob, NoMemory};
 use dt_host::{HostEntry, NodeKind};
 use std::alloc::Global;
 use std::collections::BTreeMap;
@@ -29,15 +31,21 @@ pub(crate) struct MemForest {
 }
 
 impl Model for MemForest {
-    ghost use Rattle.dt_memhost.specs.Forest.{Ordered};
-    ghost use Rattle.dt_memhost.specs.Codes.{ordered_code};
-    ghost use Rattle.dt_memhost.specs.Node.{nodes_of, orders_of};
+    ghost use Rattle.dt_host.specs.World.{IsSized};
+    ghost use Rattle.dt_memhost.specs.inner.Forest.{Ordered};
+    ghost use Rattle.dt_memhost.specs.inner.Codes.{ordered_code};
+    ghost use Rattle.dt_memhost.specs.inner.Node.{nodes_of, orders_of};
 
     ghost Value = { Ordered };
 
     ghost coded = { ordered_code };
 
-    ghost view = { λ f. record { forest = record { nodes = nodes_of f.nodes.entries; root = f.root }; orders = orders_of f.nodes.entries } };
+    ghost invariant = { λ f. IsSized (record { nodes = nodes_of f.nodes.entries; root = f.root }) };
+
+    ghost view = { λ f. record {
+      forest = record { nodes = nodes_of f.nodes.entries; root = f.root };
+      orders = orders_of f.nodes.entries;
+    } };
 }
 
 impl MemForest {
@@ -54,9 +62,10 @@ impl MemForest {
         })
     }
 
-    /// The number of the root.
+    /// The number of the root. All numbers of the forest have 64 bits.
     pub(crate) fn root(&self) -> u64
-        ensures { result ≡ self.now.forest.root }
+        ensures root { result ≡ self.now.forest.root }
+        ensures sized { IsSized self.now.forest }
     {
         self.root
     }
@@ -67,6 +76,13 @@ impl MemForest {
         ensures bytes { IfSome result (λ bytes. content self.now.forest number ≡ bytes.now.items) }
     {
         nodes::bytes_at(&self.nodes, number)
+    }
+
+    /// The target of the link of that number.
+    pub(crate) fn target_at(&self, number: u64) -> Option<&Blob>
+        ensures { option_copied result ≡ target_at self.now.forest number }
+    {
+        nodes::target_at(&self.nodes, number)
     }
 
     /// The number that a directory has under a name.
@@ -128,10 +144,11 @@ impl MemForest {
         nodes::bind(&mut self.nodes, dir, name, number)
     }
 
-    /// Writes over a file from a place in it on.
+    /// Writes over a file from an offset on.
     pub(crate) fn write(&mut self, number: u64, off: usize, piece: &[u8]) -> Result<(), NoMemory>
         requires file { IsFile self.old.forest number }
         requires joined { off ≤ length (content self.old.forest number) }
+        requires fits { off + length piece.now < 2 ^ 64 }
         ensures ok { OnOk result (self.new
             ≡ rewritten self.old number
             (overwritten (content self.old.forest number) off piece.now)) }

@@ -1,17 +1,18 @@
-ghost use Rattle.std.specs.Prelude.{◌≡◌, ◌+◌, ◌<◌, ◌≤◌, None, length, map, IfOk, IfSome, IsErrOf};
+// A host in memory, whose choices are a function of words.
+ghost use Rattle.std.specs.Prelude.{◌≡◌, ◌+◌, ◌<◌, ◌≤◌, None, Some, length, map, IfOk, IfSome, IsErrOf};
 ghost use Rattle.std.specs.List.Sorted.{IsPermutation};
 ghost use Rattle.std.specs.FinMap.{entries};
 ghost use Rattle.dt_host.specs.Cause.{HasCause};
-ghost use Rattle.dt_host.specs.World.{IsLive, IsFile, IsDir, file_at, names_at, entry, content, IsEmptyStart};
+ghost use Rattle.dt_host.specs.World.{IsLive, IsFile, IsDir, IsLink, file_at, target_at, names_at, entry, content, IsEmptyStart};
 ghost use Rattle.dt_host.specs.Legal.{Makes, Binds, named, Reads, Writes};
-ghost use Rattle.dt_memhost.specs.Host.{empty_host, RootsBy, FindsBy, MakesBy, BindsBy, NamesBy, RawBy, ReadsBy, WritesBy, StopsBy, WordBy, FillsBy, DisturbsBy};
+ghost use Rattle.dt_memhost.specs.Host.{empty_host, RootsBy, FindsBy, MakesBy, BindsBy, NamesBy, RawBy, TargetBy, ReadsBy, WritesBy, StopsBy, WordBy, FillsBy, DisturbsBy};
 
 use crate::forest::MemForest;
 use crate::order::arrange;
 use crate::picker::Picker;
 use crate::script::Script;
-use crate::transfer::copy_front;
-use dt_base::{FILE_LIMIT, NoMemory};
+use crate::transfer::copy_into;
+use dt_base::{Blob, FILE_LIMIT, NoMemory};
 use dt_host::{Host, HostEntry, HostErr, NodeKind, RawStat};
 use std::alloc::Global;
 use std::marker::Model;
@@ -26,13 +27,17 @@ pub struct MemHost {
 
 impl Model for MemHost {
     ghost use Rattle.dt_memhost.specs.Host.{HostState};
-    ghost use Rattle.dt_memhost.specs.Codes.{host_code};
+    ghost use Rattle.dt_memhost.specs.inner.Codes.{host_code};
 
     ghost Value = { HostState };
 
     ghost coded = { host_code };
 
-    ghost view = { λ h. record { view = record { forest = h.forest.forest }; orders = h.forest.orders; script = h.script } };
+    ghost view = { λ h. record {
+      view = record { forest = h.forest.forest };
+      orders = h.forest.orders;
+      script = h.script;
+    } };
 }
 
 impl MemHost {
@@ -56,6 +61,8 @@ impl Host for MemHost {
     ghost count = { λ h. h.script.faults };
 
     fn faults(&self) -> u64 {
+        // A proof learns here that the forest's numbers have 64 bits.
+        let _root = self.forest.root();
         self.script.faults()
     }
 
@@ -66,10 +73,7 @@ impl Host for MemHost {
         ensures cause { HasCause self.old.script.faults self.new.script.faults
             (IsErrOf result HostErr.Failed) }
     {
-        let _before = self.faults();
-        if self.script.fails(false) {
-            return Err(HostErr::Failed);
-        }
+        self.script.begin(false)?;
         Ok(self.forest.root())
     }
 
@@ -79,10 +83,7 @@ impl Host for MemHost {
         ensures cause { HasCause self.old.script.faults self.new.script.faults
             (IsErrOf result HostErr.Failed) }
     {
-        let _before = self.faults();
-        if self.script.fails(false) {
-            return Err(HostErr::Failed);
-        }
+        self.script.begin(false)?;
         let number = self.forest.number_by(self.script.word());
         self.forest.make(number, kind)?;
         Ok(number)
@@ -97,10 +98,7 @@ impl Host for MemHost {
         ensures cause { HasCause self.old.script.faults self.new.script.faults
             (IsErrOf result HostErr.Failed) }
     {
-        let _before = self.faults();
-        if self.script.fails(false) {
-            return Err(HostErr::Failed);
-        }
+        self.script.begin(false)?;
         self.forest.bind(dir, name, ino)?;
         Ok(())
     }
@@ -113,10 +111,7 @@ impl Host for MemHost {
         ensures cause { HasCause self.old.script.faults self.new.script.faults
             (IsErrOf result HostErr.Failed) }
     {
-        let _before = self.faults();
-        if self.script.fails(false) {
-            return Err(HostErr::Failed);
-        }
+        self.script.begin(false)?;
         Ok(self.forest.find(dir, name))
     }
 
@@ -130,10 +125,7 @@ impl Host for MemHost {
         ensures cause { HasCause self.old.script.faults self.new.script.faults
             (IsErrOf result HostErr.Failed) }
     {
-        let _before = self.faults();
-        if self.script.fails(false) {
-            return Err(HostErr::Failed);
-        }
+        self.script.begin(false)?;
         let mut found = self.forest.list(dir)?;
         arrange(&mut found, &mut self.script);
         Ok(found)
@@ -148,16 +140,28 @@ impl Host for MemHost {
         ensures cause { HasCause self.old.script.faults self.new.script.faults
             (IsErrOf result HostErr.Failed) }
     {
-        let _before = self.faults();
-        if self.script.fails(false) {
-            return Err(HostErr::Failed);
-        }
+        self.script.begin(false)?;
         Ok(RawStat {
             size: self.forest.size(ino),
             device: u64::from(self.script.word()),
             mtime: u64::from(self.script.word()),
             blocks: u64::from(self.script.word()),
         })
+    }
+
+    fn target(&mut self, ino: u64) -> Result<Blob, HostErr>
+        requires { IsLink self.old.view.forest ino }
+        ensures exact { TargetBy self.old ino result self.new }
+        ensures ok { IfOk result (λ target. target_at self.old.view.forest ino ≡ Some target) }
+        ensures stays { self.new.view ≡ self.old.view }
+        ensures cause { HasCause self.old.script.faults self.new.script.faults
+            (IsErrOf result HostErr.Failed) }
+    {
+        self.script.begin(false)?;
+        let Some(target) = self.forest.target_at(ino) else {
+            unreachable!()
+        };
+        Ok(target.copy()?)
     }
 
     fn read_at(&mut self, ino: u64, off: u64, buf: &mut [u8]) -> Result<usize, HostErr>
@@ -168,10 +172,7 @@ impl Host for MemHost {
         ensures cause { HasCause self.old.script.faults self.new.script.faults
             (IsErrOf result HostErr.Failed) }
     {
-        let _before = self.faults();
-        if self.script.fails(false) {
-            return Err(HostErr::Failed);
-        }
+        self.script.begin(false)?;
         let Some(bytes) = self.forest.bytes_at(ino) else {
             unreachable!()
         };
@@ -181,7 +182,7 @@ impl Host for MemHost {
             return Ok(0);
         }
         let count = self.script.length(most);
-        copy_front(bytes, off, count, buf);
+        copy_into(bytes, off, count, buf);
         Ok(count)
     }
 
@@ -195,29 +196,23 @@ impl Host for MemHost {
         ensures cause { HasCause self.old.script.faults self.new.script.faults
             (IsErrOf result HostErr.Failed) }
     {
-        let _before = self.faults();
-        if self.script.fails(false) {
-            return Err(HostErr::Failed);
-        }
+        self.script.begin(false)?;
         let count = self.script.length(bytes.len());
-        let (front, _) = bytes.split_at(count);
-        self.forest.write(ino, off as usize, front)?;
+        let (prefix, _) = bytes.split_at(count);
+        self.forest.write(ino, off as usize, prefix)?;
         Ok(count)
     }
 
     fn next_stop(&mut self, waiting: &[u32]) -> Result<usize, HostErr>
         requires { 0 < length waiting.now }
         ensures exact { StopsBy self.old (length waiting.now) result self.new }
-        ensures ok { IfOk result (λ place. place < length waiting.now) }
+        ensures ok { IfOk result (λ index. index < length waiting.now) }
         ensures stays { self.new.view ≡ self.old.view }
         ensures cause { HasCause self.old.script.faults self.new.script.faults
             (IsErrOf result HostErr.Failed) }
     {
-        let _before = self.faults();
-        if self.script.fails(false) {
-            return Err(HostErr::Failed);
-        }
-        Ok(self.script.place(waiting.len()))
+        self.script.begin(false)?;
+        Ok(self.script.index(waiting.len()))
     }
 
     fn clock(&mut self) -> Result<u64, HostErr>
@@ -226,10 +221,7 @@ impl Host for MemHost {
         ensures cause { HasCause self.old.script.faults self.new.script.faults
             (IsErrOf result HostErr.Failed) }
     {
-        let _before = self.faults();
-        if self.script.fails(false) {
-            return Err(HostErr::Failed);
-        }
+        self.script.begin(false)?;
         Ok(u64::from(self.script.word()))
     }
 
@@ -239,10 +231,7 @@ impl Host for MemHost {
         ensures cause { HasCause self.old.script.faults self.new.script.faults
             (IsErrOf result HostErr.Failed) }
     {
-        let _before = self.faults();
-        if self.script.fails(false) {
-            return Err(HostErr::Failed);
-        }
+        self.script.begin(false)?;
         Ok(u64::from(self.script.word()))
     }
 
@@ -252,10 +241,7 @@ impl Host for MemHost {
         ensures cause { HasCause self.old.script.faults self.new.script.faults
             (IsErrOf result HostErr.Failed) }
     {
-        let _before = self.faults();
-        if self.script.fails(false) {
-            return Err(HostErr::Failed);
-        }
+        self.script.begin(false)?;
         self.script.fill(buf);
         Ok(())
     }
@@ -266,10 +252,7 @@ impl Host for MemHost {
         ensures cause { HasCause self.old.script.faults self.new.script.faults
             (IsErrOf result HostErr.Failed) }
     {
-        let _before = self.faults();
-        if self.script.fails(false) {
-            return Err(HostErr::Failed);
-        }
+        self.script.begin(false)?;
         self.script.restart(self.alloc, n);
         Ok(())
     }

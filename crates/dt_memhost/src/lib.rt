@@ -12,8 +12,6 @@ mod picker;
 mod script;
 mod sink;
 mod store;
-#[cfg(test)]
-mod tests;
 mod transfer;
 
 pub use host::MemHost;

@@ -1,13 +1,15 @@
+// A node in memory, and what each kind of node answers.
 ghost use Rattle.std.specs.Prelude.{◌≡◌, ◌+◌, ◌≤◌, None, [], ◌∷◌, ◌++◌, length, map, unwrap_or, option_map, option_copied, option_and_then, vec_items, IfOk, OnOk, OnErr, IfSome};
 ghost use Rattle.std.specs.List.Sorted.{IsPermutation};
 ghost use Rattle.std.specs.FinMap.{entries, get, insert};
-ghost use Rattle.dt_host.specs.World.{file, dir, file_bytes, dir_names, overwritten};
+ghost use Rattle.dt_host.specs.World.{file, dir, file_bytes, dir_names, link_target};
+ghost use Rattle.dt_base.specs.Bytes.{overwritten};
 ghost use Rattle.dt_host.specs.Legal.{new_node, named};
-ghost use Rattle.dt_memhost.specs.Node.{node_of, entries_of};
+ghost use Rattle.dt_memhost.specs.inner.Node.{node_of, entries_of};
 
 use crate::dir::Entries;
 use crate::transfer::overwrite;
-use dt_base::NoMemory;
+use dt_base::{Blob, NoMemory};
 use dt_host::{HostEntry, NodeKind};
 use std::alloc::Global;
 
@@ -18,6 +20,8 @@ pub(crate) enum MemNode {
     File(Vec<u8>),
     /// The entries of a directory.
     Dir(Entries),
+    /// The target of a symbolic link.
+    Link(Blob),
 }
 
 impl MemNode {
@@ -28,6 +32,8 @@ impl MemNode {
     {
         match kind {
             NodeKind::File => MemNode::File(Vec::new(alloc)),
+            NodeKind::Dir => MemNode::Dir(Entries::new(alloc)),
+            NodeKind::Link(target) => MemNode::Link(target),
         }
     }
 
@@ -37,7 +43,17 @@ impl MemNode {
     {
         match self {
             MemNode::File(bytes) => Some(bytes),
-            MemNode::Dir(_) => None,
+            MemNode::Dir(_) | MemNode::Link(_) => None,
+        }
+    }
+
+    /// The target of a link.
+    pub(crate) fn target(&self) -> Option<&Blob>
+        ensures { option_copied result ≡ link_target (node_of self.now) }
+    {
+        match self {
+            MemNode::File(_) | MemNode::Dir(_) => None,
+            MemNode::Link(target) => Some(target),
         }
     }
 
@@ -47,12 +63,12 @@ impl MemNode {
             ≡ option_and_then (λ names. get names name.now) (dir_names (node_of self.now)) }
     {
         match self {
-            MemNode::File(_) => None,
             MemNode::Dir(entries) => entries.find(name),
+            MemNode::File(_) | MemNode::Link(_) => None,
         }
     }
 
-    /// A copy of the entries, in the order of their binding; a file has none.
+    /// A copy of the entries, in the order of their binding; a file and a link have none.
     pub(crate) fn list(&self, alloc: Global) -> Result<Vec<HostEntry>, NoMemory>
         ensures order { IfOk result (λ found. map named found.items ≡ entries_of self.now) }
         ensures each { IfSome (dir_names (node_of self.now))
@@ -60,12 +76,12 @@ impl MemNode {
             (λ found. IsPermutation (entries names) (map named found.items))) }
     {
         match self {
-            MemNode::File(_) => Ok(Vec::new(alloc)),
             MemNode::Dir(entries) => entries.list(alloc),
+            MemNode::File(_) | MemNode::Link(_) => Ok(Vec::new(alloc)),
         }
     }
 
-    /// Writes over a file from a place in it on; a directory stays.
+    /// Writes over a file from an offset on; any other node stays.
     pub(crate) fn write(&mut self, off: usize, piece: &[u8]) -> Result<(), NoMemory>
         requires { off ≤ length (unwrap_or (file_bytes (node_of self.old)) []) }
         ensures ok { OnOk result
@@ -76,11 +92,11 @@ impl MemNode {
     {
         match self {
             MemNode::File(bytes) => overwrite(bytes, off, piece),
-            MemNode::Dir(_) => Ok(()),
+            MemNode::Dir(_) | MemNode::Link(_) => Ok(()),
         }
     }
 
-    /// Adds an entry to a directory, whose name isn't there; a file stays.
+    /// Adds an entry to a directory, whose name isn't there; any other node stays.
     pub(crate) fn bind(&mut self, name: Vec<u8>, number: u64) -> Result<(), NoMemory>
         requires { option_and_then (λ names. get names name.items) (dir_names (node_of self.old))
             ≡ None }
@@ -94,8 +110,8 @@ impl MemNode {
         ensures order { OnErr result (entries_of self.new ≡ entries_of self.old) }
     {
         match self {
-            MemNode::File(_) => Ok(()),
             MemNode::Dir(entries) => entries.bind(name, number),
+            MemNode::File(_) | MemNode::Link(_) => Ok(()),
         }
     }
 }

@@ -2,12 +2,13 @@
 ghost use Rattle.std.specs.Prelude.{◌≡◌, ◌≢◌, ℕ, ◌+◌, ◌≤◌, None, Some, [], ◌∷◌, ◌++◌, length, map, unwrap_or, option_map, option_copied, option_and_then, vec_items, IfOk, OnOk, OnErr, IfSome};
 ghost use Rattle.std.specs.List.Sorted.{IsPermutation};
 ghost use Rattle.std.specs.FinMap.{entries, get, insert};
-ghost use Rattle.dt_host.specs.World.{file, dir, file_bytes, dir_names, overwritten};
+ghost use Rattle.dt_host.specs.World.{file, dir, file_bytes, dir_names, link_target};
+ghost use Rattle.dt_base.specs.Bytes.{overwritten};
 ghost use Rattle.dt_host.specs.Legal.{named};
-ghost use Rattle.dt_memhost.specs.Node.{node_of, node_in, order_in};
+ghost use Rattle.dt_memhost.specs.inner.Node.{node_of, node_in, order_in};
 
 use crate::node::MemNode;
-use dt_base::NoMemory;
+use dt_base::{Blob, NoMemory};
 use dt_host::HostEntry;
 use std::alloc::Global;
 use std::collections::BTreeMap;
@@ -21,6 +22,16 @@ pub(crate) fn bytes_at(nodes: &Nodes, number: u64) -> Option<&Vec<u8>>
 {
     match nodes.get(&number) {
         Some(node) => node.bytes(),
+        None => None,
+    }
+}
+
+/// The target of the link of that number.
+pub(crate) fn target_at(nodes: &Nodes, number: u64) -> Option<&Blob>
+    ensures { option_copied result ≡ option_and_then link_target (node_in nodes.now number) }
+{
+    match nodes.get(&number) {
+        Some(node) => node.target(),
         None => None,
     }
 }

@@ -1,7 +1,7 @@
 // The number of a new node, by a word.
 ghost use Rattle.std.specs.Prelude.{◌≡◌, ◌≤◌};
 ghost use Rattle.std.specs.FinMap.{get};
-ghost use Rattle.dt_memhost.specs.Node.{nodes_of};
+ghost use Rattle.dt_memhost.specs.inner.Node.{nodes_of};
 ghost use Rattle.dt_memhost.specs.Number.{around, Numbers, IsLeastAbove};
 
 use crate::nodes::Nodes;

@@ -13,16 +13,16 @@ pub(crate) fn arrange(found: &mut [HostEntry], script: &mut Script)
 {
     for done in 0..found.len() {
         let (_, left) = found.split_at_mut(done);
-        let at = script.place(left.len());
-        to_front(left, at);
+        let at = script.index(left.len());
+        to_first(left, at);
     }
 }
 
-// Moves one entry to the front; those before it move up by one.
-fn to_front(left: &mut [HostEntry], at: usize)
+// Moves the entry at an index to the first; those before it move up by one.
+fn to_first(left: &mut [HostEntry], at: usize)
     requires { at < length left.old }
     ensures { left.new ≡ take 1 (drop at left.old) ++ remove left.old at }
 {
-    let (front, _) = left.split_at_mut(at + 1);
-    front.rotate_right(1);
+    let (prefix, _) = left.split_at_mut(at + 1);
+    prefix.rotate_right(1);
 }

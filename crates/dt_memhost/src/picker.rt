@@ -1,3 +1,4 @@
+// The words of all choices: a list, then a ChaCha8 stream.
 ghost use Rattle.std.specs.Prelude.{◌≡◌};
 ghost use Rattle.dt_memhost.specs.Picks.{picks_of, next_of};
 

@@ -1,10 +1,43 @@
-ghost use Rattle.std.specs.Prelude.{◌≡◌, ◌%◌, ◌<◌, ◌^◌, ◌||◌, length, map, if◌then◌else◌};
+// What a host, a store or a sink in memory goes by: the words of its choices and the calls that fail.
+ghost use Rattle.std.specs.Prelude.{◌≡◌, ◌%◌, ◌<◌, ◌^◌, ◌||◌, true, false, length, map, OnOk, OnErr};
+ghost use Rattle.dt_host.specs.declared.error.HostErr.TheVariants.{Failed as host_failed};
+ghost use Rattle.dt_host.specs.declared.error.StoreErr.TheVariants.{Failed as store_failed};
+ghost use Rattle.dt_host.specs.declared.error.SinkErr.TheVariants.{Failed as sink_failed};
 ghost use Rattle.dt_memhost.specs.Picks.{length_by};
 ghost use Rattle.dt_memhost.specs.Script.{script_of, fails_next, counted, failed, picked, picked_all, restarted, word_of, words_of};
 
 use crate::picker::Picker;
+use dt_host::{HostErr, SinkErr, StoreErr};
 use std::alloc::Global;
 use std::marker::Model;
+
+/// The call fails, and was counted so.
+#[derive(Clone, Copy, Debug)]
+pub(crate) struct Fault;
+
+impl From<Fault> for HostErr {
+    ghost from_gives = { λ _ e. e ≡ host_failed };
+
+    fn from(_: Fault) -> Self {
+        HostErr::Failed
+    }
+}
+
+impl From<Fault> for StoreErr {
+    ghost from_gives = { λ _ e. e ≡ store_failed };
+
+    fn from(_: Fault) -> Self {
+        StoreErr::Failed
+    }
+}
+
+impl From<Fault> for SinkErr {
+    ghost from_gives = { λ _ e. e ≡ sink_failed };
+
+    fn from(_: Fault) -> Self {
+        SinkErr::Failed
+    }
+}
 
 /// The words of the choices and the calls that fail.
 #[derive(Drop)]
@@ -46,17 +79,20 @@ impl Script {
         self.faults
     }
 
-    /// Counts a call, and says whether it fails: because it is listed, or for another reason that is known.
-    pub(crate) fn fails(&mut self, refused: bool) -> bool
-        ensures answer { result ≡ (refused || fails_next self.old) }
-        ensures after { self.new ≡ (if result then failed self.old else counted self.old) }
+    /// Counts a call. It fails because it is listed, or for another reason that is known.
+    pub(crate) fn begin(&mut self, refused: bool) -> Result<(), Fault>
+        ensures unlisted { OnOk result ((refused || fails_next self.old) ≡ false) }
+        ensures listed { OnErr result ((refused || fails_next self.old) ≡ true) }
+        ensures ok { OnOk result (self.new ≡ counted self.old) }
+        ensures err { OnErr result (self.new ≡ failed self.old) }
+        ensures later { self.old.faults ≤ self.new.faults }
     {
         self.calls = self.calls.saturating_add(1);
-        let fails = refused || self.fails.contains(&self.calls);
-        if fails {
+        if refused || self.fails.contains(&self.calls) {
             self.faults = self.faults.saturating_add(1);
+            return Err(Fault);
         }
-        fails
+        Ok(())
     }
 
     /// Begins the stream of a number, and drops the words that are left.
@@ -80,11 +116,11 @@ impl Script {
         ensures word { result ≡ length_by (word_of self.old) most }
         ensures after { self.new ≡ picked self.old }
     {
-        1 + self.place(most)
+        1 + self.index(most)
     }
 
-    /// A place below `count`, by a word.
-    pub(crate) fn place(&mut self, count: usize) -> usize
+    /// An index below `count`, by a word.
+    pub(crate) fn index(&mut self, count: usize) -> usize
         requires { 0 < count }
         ensures word { result ≡ word_of self.old % count }
         ensures after { self.new ≡ picked self.old }

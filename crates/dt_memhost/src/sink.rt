@@ -1,3 +1,4 @@
+// A sink in memory.
 ghost use Rattle.std.specs.Prelude.{◌≡◌, ◌<◌, length, take, Ok, Some, IfOk, OnErr, IsErrOf};
 ghost use Rattle.dt_host.specs.Cause.{HasCause};
 ghost use Rattle.dt_host.specs.Sink.{added, MovesSome};
@@ -93,15 +94,12 @@ impl Sink for MemSink {
         ensures cause { HasCause self.old.script.faults self.new.script.faults
             (IsErrOf result SinkErr.Failed) }
     {
-        let _before = self.faults();
         let full = self.is_full();
         let most = self.fitting(piece.len());
-        if self.script.fails(full) {
-            return Err(SinkErr::Failed);
-        }
+        self.script.begin(full)?;
         let count = self.script.length(most);
-        let (front, _) = piece.split_at(count);
-        self.bytes.extend_from_slice(front)?;
+        let (prefix, _) = piece.split_at(count);
+        self.bytes.extend_from_slice(prefix)?;
         Ok(count)
     }
 }

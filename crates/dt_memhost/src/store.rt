@@ -1,3 +1,4 @@
+// A store in memory.
 ghost use Rattle.std.specs.Prelude.{◌≡◌, ◌+◌, ◌<◌, ◌++◌, length, take, drop, Ok, OnOk, OnErr, IfOk, IsErrOf, option_map, option_copied, vec_items};
 ghost use Rattle.std.specs.FinMap.{get, insert};
 ghost use Rattle.dt_host.specs.Cause.{HasCause};
@@ -7,7 +8,7 @@ ghost use Rattle.dt_memhost.specs.Store.{files_of, empty_store, SizesBy, ReadsBy
 
 use crate::picker::Picker;
 use crate::script::Script;
-use crate::transfer::copy_front;
+use crate::transfer::copy_into;
 use dt_base::NoMemory;
 use dt_host::{Store, StoreErr};
 use std::alloc::Global;
@@ -23,7 +24,7 @@ pub struct MemStore {
 }
 
 impl Model for MemStore {
-    ghost use Rattle.dt_memhost.specs.Codes.{store_code};
+    ghost use Rattle.dt_memhost.specs.inner.Codes.{store_code};
     ghost use Rattle.dt_memhost.specs.Store.{StoreState, files_of};
 
     ghost Value = { StoreState };
@@ -45,7 +46,7 @@ impl MemStore {
         })
     }
 
-    /// Puts a file there, in the place of one of that name. This is no call that is counted.
+    /// Puts a file there, in place of one of that name. This is no call that is counted.
     pub fn put(&mut self, name: &str, bytes: &[u8]) -> Result<(), NoMemory>
         ensures ok { OnOk result (self.new
             ≡ record self.old { files = insert self.old.files name.now bytes.now }) }
@@ -76,10 +77,7 @@ impl Store for MemStore {
         ensures cause { HasCause self.old.script.faults self.new.script.faults
             (IsErrOf result StoreErr.Failed) }
     {
-        let _before = self.faults();
-        if self.script.fails(false) {
-            return Err(StoreErr::Failed);
-        }
+        self.script.begin(false)?;
         Ok(file_named(&self.files, name).map(|bytes| bytes.len() as u64))
     }
 
@@ -95,15 +93,12 @@ impl Store for MemStore {
         ensures cause { HasCause self.old.script.faults self.new.script.faults
             (IsErrOf result StoreErr.Failed) }
     {
-        let _before = self.faults();
-        if self.script.fails(false) {
-            return Err(StoreErr::Failed);
-        }
+        self.script.begin(false)?;
         let count = self.script.length(buf.len());
         let Some(bytes) = file_named(&self.files, name) else {
             unreachable!()
         };
-        copy_front(bytes, off as usize, count, buf);
+        copy_into(bytes, off as usize, count, buf);
         Ok(count)
     }
 }

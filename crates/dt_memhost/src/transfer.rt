@@ -1,20 +1,21 @@
+// Copies of bytes into a buffer and over a file.
 ghost use Rattle.std.specs.Prelude.{◌≡◌, ◌+◌, ◌≤◌, ◌++◌, length, take, drop, vec_len, OnOk, OnErr};
-ghost use Rattle.dt_host.specs.World.{overwritten};
+ghost use Rattle.dt_base.specs.Bytes.{overwritten};
 
 use dt_base::NoMemory;
 
-/// Copies `count` bytes from `off` on into the front of the buffer.
-pub(crate) fn copy_front(bytes: &[u8], off: usize, count: usize, buf: &mut [u8])
+/// Copies `count` bytes from `off` on into the start of the buffer.
+pub(crate) fn copy_into(bytes: &[u8], off: usize, count: usize, buf: &mut [u8])
     requires there { off + count ≤ length bytes.now }
     requires room { count ≤ length buf.old }
     ensures { buf.new ≡ take count (drop off bytes.now) ++ drop count buf.old }
 {
     let (_, rest) = bytes.split_at(off);
-    let (front, _) = rest.split_at(count);
-    buf[..count].copy_from_slice(front);
+    let (prefix, _) = rest.split_at(count);
+    buf[..count].copy_from_slice(prefix);
 }
 
-/// Writes over bytes from a place in them on.
+/// Writes over bytes from an offset on.
 pub(crate) fn overwrite(bytes: &mut Vec<u8>, off: usize, piece: &[u8]) -> Result<(), NoMemory>
     requires { off ≤ vec_len bytes.old }
     ensures ok { OnOk result (bytes.new.items ≡ overwritten bytes.old.items off piece.now) }

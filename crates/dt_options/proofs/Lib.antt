@@ -1,2 +1,4 @@
-pub mod Fronts
+pub mod Passed
+pub mod Budgets
+pub mod Matches
 pub mod Requests

@@ -1,14 +1,15 @@
 -- What the parts of the words make together.
-use Rattle.std.proofs.Common.{◌≡◌, ◌<◌, ◌+◌, ◌-◌, ◌&&◌, ℕ, Bool, true, false, not, cond, List, [], ◌∷◌, map, length, take, drop, codes, Option, Some, None, refl, sym, ap, ◌∙◌, arith}
+use Rattle.std.proofs.Common.{◌≡◌, ◌<◌, ◌+◌, ◌-◌, ℕ, Bool, true, false, not, cond, List, [], ◌∷◌, map, length, take, drop, codes, Option, Some, None, refl, sym, ap, ◌∙◌, arith}
 use Rattle.std.specs.Prelude.{nat_lt, unwrap_or, option_map, option_and_then}
 use Rattle.std.specs.List.{list_all, position, prefix_len}
 use Rattle.std.specs.Str.{bytes_eq}
 use Rattle.std.proofs.lemmas.List.{drop-map, take-map, length-map, length-drop, take-append-drop}
 use Rattle.std.proofs.lemmas.List.Folds.{list_all-map, list_all-append}
+use Rattle.clap.proofs.WalkLemmas.{both}
 use Rattle.clap.specs.Words.{Row}
 use Rattle.dt_base.specs.Command.{Words, IsCommand}
 use Rattle.dt_base.specs.Path.{has_no_nul}
-use Rattle.dt_options.specs.Options.{Request, request, request_of, request_round, matched, command_in, command_at, is_assignment, image_in, number_in, budget_in, default_seed}
+use Rattle.dt_options.specs.Options.{Request, request, request_of, request_in, matched, command_in, command_at, is_assignment, image_in, number_in, default_budget, default_seed}
 
 prefix_len-map : {A B : Type 0} (p : B → Bool) (f : A → B) (xs : List A) → prefix_len p (map f xs) ≡ prefix_len (λ x. p (f x)) xs
 prefix_len-map p f [] = refl
@@ -18,10 +19,6 @@ position-map : {A B : Type 0} (p : B → Bool) (f : A → B) (xs : List A) → p
 position-map p f xs =
     let same = prefix_len-map (λ x. not (p x)) f xs in
     (λ i. cond (nat_lt (same i) (length-map xs f i)) (Some (same i)) None)
-
-and_parts : (a b : Bool) → (a && b) ≡ true → (a ≡ true) × (b ≡ true)
-and_parts true b is = (refl, is)
-and_parts false b is = cc
 
 -- ---- after `--`, where the words are seen by f
 
@@ -34,7 +31,7 @@ module _ {A : Type 0} (f : A → List ℕ) (words : List A) where
   -- no word but settings of variables
   pub command-none : position (λ word. not (is_assignment (f word))) words ≡ None → command_in (map f words) ≡ None
   unfolding command_in
-  command-none is = ap (λ place. cond (list_all has_no_nul (map f words)) (command_at (map f words) place) None) (position-map (λ word. not (is_assignment word)) f words ∙ is) ∙ go (list_all has_no_nul (map f words)) None
+  command-none is = ap (λ index. cond (list_all has_no_nul (map f words)) (command_at (map f words) index) None) (position-map (λ word. not (is_assignment word)) f words ∙ is) ∙ go (list_all has_no_nul (map f words)) None
     where
       go : (b : Bool) (o : Option Words) → cond b o o ≡ o
       go true o = refl
@@ -51,8 +48,8 @@ module _ {A : Type 0} (f : A → List ℕ) (words : List A) where
   parts_good : (n : ℕ) → list_all (λ word. has_no_nul (f word)) words ≡ true → (list_all has_no_nul (map f (take n words)) ≡ true) × (list_all has_no_nul (map f (drop n words)) ≡ true)
   parts_good n good =
       let whole = ap (list_all (λ word. has_no_nul (f word))) (take-append-drop n words) ∙ good in
-      let both = and_parts _ _ (sym (list_all-append (λ word. has_no_nul (f word)) (take n words) (drop n words)) ∙ whole) in
-      (list_all-map has_no_nul f (take n words) ∙ both.0, list_all-map has_no_nul f (drop n words) ∙ both.1)
+      let parts = both _ _ (sym (list_all-append (λ word. has_no_nul (f word)) (take n words) (drop n words)) ∙ whole) in
+      (list_all-map has_no_nul f (take n words) ∙ parts.0, list_all-map has_no_nul f (drop n words) ∙ parts.1)
 
   -- such words are a command
   pub command-good : (n : ℕ) (args env : List (List ℕ)) → list_all (λ word. has_no_nul (f word)) words ≡ true → n < length words → args ≡ map f (drop n words) → env ≡ map f (take n words) → IsCommand (record { args = args; env = env })
@@ -65,23 +62,25 @@ module _ {A : Type 0} (f : A → List ℕ) (words : List A) where
         env = ap (list_all has_no_nul) is_env ∙ parts.0;
       }
 
--- ---- both sides of `--`
+-- ---- the words before and after `--`
 
-pub round-front : (front rest : List (List ℕ)) → matched front ≡ None → request_round front rest ≡ None
-round-front front rest none = ap (option_and_then (λ rows. option_map (request rows) (command_in rest))) none
+pub request_in-none : (before after : List (List ℕ)) → matched before ≡ None → request_in before after ≡ None
+request_in-none before after none = ap (λ found. option_and_then (λ rows. option_map (request rows) (command_in after)) found) none
 
-pub round-some : (front rest : List (List ℕ)) (rows : List Row) (asked : Request) → matched front ≡ Some rows → command_in rest ≡ Some asked.command → asked.image ≡ image_in rows → asked.seed ≡ unwrap_or (number_in (codes "seed") rows) default_seed → asked.budget ≡ budget_in rows → asked.host ≡ number_in (codes "host") rows → request_round front rest ≡ Some asked
-round-some front rest rows asked m c image seed budget host =
-    ap (option_and_then (λ found. option_map (request found) (command_in rest))) m
-    ∙ ap (option_map (request rows)) c
-    ∙ (λ i. Some (record { image = sym image i; command = asked.command; seed = sym seed i; budget = sym budget i; host = sym host i }))
+pub request_in-some : (before after : List (List ℕ)) (rows : List Row) (r : Request) → matched before ≡ Some rows → command_in after ≡ Some r.command → r.image ≡ image_in rows
+    → r.seed ≡ unwrap_or (number_in (codes "seed") rows) default_seed → r.budget ≡ unwrap_or (number_in (codes "budget") rows) default_budget → r.host ≡ number_in (codes "host") rows → request_in before after ≡ Some r
+request_in-some before after rows r found command image seed budget host =
+    ap (option_and_then (λ rows. option_map (request rows) (command_in after))) found
+    ∙ ap (option_map (request rows)) command
+    ∙ (λ i. Some (record { image = sym image i; command = r.command; seed = sym seed i; budget = sym budget i; host = sym host i }))
 
-pub request-at : {A : Type 0} (f : A → List ℕ) (words front rest : List A) (place : ℕ) → position (λ word. bytes_eq (f word) (codes "--")) words ≡ Some place → front ≡ take place words → rest ≡ drop (place + 1) words → request_of (map f words) ≡ request_round (map f front) (map f rest)
+pub request_of-some : {A : Type 0} (f : A → List ℕ) (words before after : List A) (index : ℕ) → position (λ word. bytes_eq (f word) (codes "--")) words ≡ Some index
+    → before ≡ take index words → after ≡ drop (index + 1) words → request_of (map f words) ≡ request_in (map f before) (map f after)
 unfolding request_of
-request-at f words front rest place is is_front is_rest =
-    ap (option_and_then (λ at. request_round (take at (map f words)) (drop (at + 1) (map f words)))) (position-map (λ word. bytes_eq word (codes "--")) f words ∙ is)
-    ∙ (λ i. request_round ((take-map f place words ∙ ap (map f) (sym is_front)) i) ((drop-map f (place + 1) words ∙ ap (map f) (sym is_rest)) i))
+request_of-some f words before after index is is_before is_after =
+    ap (option_and_then (λ n. request_in (take n (map f words)) (drop (n + 1) (map f words)))) (position-map (λ word. bytes_eq word (codes "--")) f words ∙ is)
+    ∙ (λ i. request_in ((take-map f index words ∙ ap (map f) (sym is_before)) i) ((drop-map f (index + 1) words ∙ ap (map f) (sym is_after)) i))
 
-pub request-none : {A : Type 0} (f : A → List ℕ) (words : List A) → position (λ word. bytes_eq (f word) (codes "--")) words ≡ None → request_of (map f words) ≡ None
+pub request_of-none : {A : Type 0} (f : A → List ℕ) (words : List A) → position (λ word. bytes_eq (f word) (codes "--")) words ≡ None → request_of (map f words) ≡ None
 unfolding request_of
-request-none f words is = ap (option_and_then (λ at. request_round (take at (map f words)) (drop (at + 1) (map f words)))) (position-map (λ word. bytes_eq word (codes "--")) f words ∙ is)
+request_of-none f words is = ap (option_and_then (λ n. request_in (take n (map f words)) (drop (n + 1) (map f words)))) (position-map (λ word. bytes_eq word (codes "--")) f words ∙ is)

@@ -1,5 +1,6 @@
--- The command line: what the words ask for. The words before the first `--` are read as clap reads them.
-use Rattle.std.specs.Prelude.{ℕ, ◌+◌, Bool, true, false, not, ◌&&◌, ◌||◌, ◌==◌, List, [], ◌∷◌, take, drop, Option, Some, None, codes, if◌then◌else◌, unwrap_or, option_map, option_and_then, nat_le}
+-- The command line: what the words of argv after the program's name ask for. The first `--` ends the options (POSIX,
+-- Base Definitions, 12.2, guideline 10); the words before it are read as clap reads them.
+use Rattle.std.specs.Prelude.{ℕ, ◌+◌, Bool, true, false, not, ◌&&◌, ◌||◌, ◌==◌, List, [], ◌∷◌, take, drop, Option, Some, None, codes, if◌then◌else◌, unwrap_or, option_map, option_and_then}
 use Rattle.std.specs.List.{list_all, position}
 use Rattle.std.specs.Str.{bytes_eq}
 use Rattle.std.specs.Str.Parse.{digits_value, without_leading_plus}
@@ -11,6 +12,7 @@ use Rattle.clap.specs.ValueTests.{is_unsigned_in}
 use Rattle.clap.specs.declared.builder.value_parser.ValueParser.TheVariants as parser
 use Rattle.dt_base.specs.Command.{Words}
 use Rattle.dt_base.specs.Path.{has_no_nul}
+use Rattle.dt_options.specs.declared.options.Options.{Options}
 
 -- what a run is asked to be: a folder with an image, the command that runs in it, and numbers
 pub record Request : Type 0 where
@@ -44,11 +46,17 @@ budget_rule = record (number_rule (codes "budget")) { parser = Some (parser.Unsi
 
 -- `run IMAGE [--seed N] [--budget N] [--host N]`
 abbrev pub run_shape : Shape
-run_shape = record (new_shape (codes "run")) { rules = image_rule ∷ number_rule (codes "seed") ∷ budget_rule ∷ number_rule (codes "host") ∷ [] }
+run_shape = record (new_shape (codes "run")) {
+  rules = image_rule ∷ number_rule (codes "seed") ∷ budget_rule ∷ number_rule (codes "host") ∷ [];
+}
 
 -- the program, whose words do not begin with its name, and which must be given its one subcommand
 abbrev pub program_shape : Shape
-program_shape = record (new_shape (codes "dettrace")) { is_leaf = false; no_binary_name = true; subcommand_required = true }
+program_shape = record (new_shape (codes "dettrace")) {
+  is_leaf = false;
+  no_binary_name = true;
+  subcommand_required = true;
+}
 
 -- the program and its subcommand
 abbrev pub program_app : App
@@ -56,7 +64,8 @@ program_app = record { top = program_shape; subs = run_shape ∷ [] }
 
 -- the values that clap matches to the arguments of `run`, where it takes the words
 unfoldable pub matched : List (List ℕ) → Option (List Row)
-matched words = if is_empty (fault_of program_app words) then option_map (λ run. run.1) (subcommand_of program_app words) else None
+matched words =
+    if is_empty (fault_of program_app words) then option_map (λ run. run.1) (subcommand_of program_app words) else None
 
 -- IMAGE
 unfoldable pub image_in : List Row → List ℕ
@@ -64,24 +73,12 @@ image_in rows = unwrap_or (first_of (codes "image") rows) []
 
 -- the number that a text writes, if it is one from 0 to 2^64 - 1
 abbrev pub number_of : List ℕ → Option ℕ
-number_of text = if is_unsigned_in 0 18446744073709551615 text then Some (digits_value 10 (without_leading_plus text)) else None
+number_of text =
+    if is_unsigned_in 0 18446744073709551615 text then Some (digits_value 10 (without_leading_plus text)) else None
 
 -- the number of an option, if it was given
 unfoldable pub number_in : List ℕ → List Row → Option ℕ
 number_in name rows = option_and_then number_of (one_of name rows)
-
--- a number that may be a budget
-abbrev pub is_budget : ℕ → Bool
-is_budget number = nat_le 1 number && nat_le number 1000000000
-
--- the budget that was given, where it may be one, or the default
-abbrev pub budget_or_default : Option ℕ → ℕ
-budget_or_default None = default_budget
-budget_or_default (Some number) = if is_budget number then number else default_budget
-
--- the budget
-unfoldable pub budget_in : List Row → ℕ
-budget_in rows = budget_or_default (number_in (codes "budget") rows)
 
 -- ---- the words after `--`
 
@@ -93,15 +90,15 @@ is_variable_byte b = is_ascii_alphanumeric b || (b == 95)
 abbrev pub is_variable_start : ℕ → Bool
 is_variable_start b = is_ascii_alphabetic b || (b == 95)
 
--- a variable's name: a letter or `_`, and then letters, digits and `_`
+-- a variable's name: a letter or `_`, and then letters, digits and `_` (POSIX, Base Definitions, Name)
 abbrev pub is_variable : List ℕ → Bool
 is_variable [] = false
 is_variable (b ∷ bs) = is_variable_start b && list_all is_variable_byte bs
 
--- the bytes before this place are a variable's name
+-- the bytes before this index are a variable's name
 abbrev pub is_variable_before : List ℕ → Option ℕ → Bool
 is_variable_before word None = false
-is_variable_before word (Some place) = is_variable (take place word)
+is_variable_before word (Some index) = is_variable (take index word)
 
 -- the word has the form NAME=VALUE
 abbrev pub is_assignment : List ℕ → Bool
@@ -114,7 +111,8 @@ command_at words (Some program) = Some (record { args = drop program words; env 
 
 -- the environment, the program and its arguments, where no word holds a NUL and a program is there
 unfoldable pub command_in : List (List ℕ) → Option Words
-command_in words = if list_all has_no_nul words then command_at words (position (λ word. not (is_assignment word)) words) else None
+command_in words =
+    if list_all has_no_nul words then command_at words (position (λ word. not (is_assignment word)) words) else None
 
 -- ---- all words
 
@@ -124,14 +122,26 @@ request rows command = record {
   image = image_in rows;
   command = command;
   seed = unwrap_or (number_in (codes "seed") rows) default_seed;
-  budget = budget_in rows;
+  budget = unwrap_or (number_in (codes "budget") rows) default_budget;
   host = number_in (codes "host") rows;
 }
 
--- what the words on both sides of `--` ask for
-abbrev pub request_round : List (List ℕ) → List (List ℕ) → Option Request
-request_round front rest = option_and_then (λ rows. option_map (request rows) (command_in rest)) (matched front)
+-- what the words before and after `--` ask for
+abbrev pub request_in : List (List ℕ) → List (List ℕ) → Option Request
+request_in before after = option_and_then (λ rows. option_map (request rows) (command_in after)) (matched before)
 
--- what the words ask for, which have a `--`; the first of them parts them
+-- what all words ask for, which have a `--`; the first of them parts them
 unfoldable pub request_of : List (List ℕ) → Option Request
-request_of words = option_and_then (λ place. request_round (take place words) (drop (place + 1) words)) (position (λ word. bytes_eq word (codes "--")) words)
+request_of argv =
+    option_and_then (λ index. request_in (take index argv) (drop (index + 1) argv))
+    (position (λ word. bytes_eq word (codes "--")) argv)
+
+-- the request that options hold
+abbrev pub as_request : Options → Request
+as_request options = record {
+  image = options.image;
+  command = options.command;
+  seed = options.seed;
+  budget = options.budget;
+  host = options.host;
+}

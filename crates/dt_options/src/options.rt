@@ -1,16 +1,16 @@
 // The command line.
-ghost use Rattle.std.specs.Prelude.{◌≡◌, ◌≤◌, ℕ, List, [], ◌∷◌, length, map, string_bytes, codes, not, Some, None, IfSome, IfOk, Err, IsTrue, ◌<◌, ◌==◌};
+ghost use Rattle.std.specs.Prelude.{◌≡◌, ◌≤◌, ◌+◌, drop, length, map, string_bytes, codes, not, Some, None, IfSome, IfOk, Err, ◌<◌, ◌==◌};
 ghost use Rattle.std.specs.List.{list_all, position};
 ghost use Rattle.std.specs.Str.{bytes_eq};
 ghost use Rattle.dt_base.specs.Path.{has_no_nul};
-ghost use Rattle.dt_options.specs.Options.{request_of, request_round, command_in, is_assignment, is_variable, is_variable_start, is_variable_byte};
+ghost use Rattle.dt_options.specs.Options.{request_of, request_in, as_request, command_in, is_assignment, is_variable, is_variable_start, is_variable_byte};
 ghost use Rattle.dt_options.specs.declared.options.UsageErr.TheVariants.{NoMemory as OutOfMemory};
 
-mod front;
+mod arguments;
 
+use arguments::{budget, image, number, read_arguments, seed};
 use clap::error::ErrorKind;
-use dt_base::{Blob, Command, NoMemory, Text};
-use front::{SEED, budget, image, number, read_front};
+use dt_base::{Blob, Command, NoMemory, Text, has_no_nul};
 use std::alloc::{AllocError, AllocFailed, Global};
 use thiserror::Error;
 
@@ -68,42 +68,53 @@ impl From<clap::Error> for UsageErr {
     }
 }
 
-/// Reads the words after the program's name, which are to be
+/// Reads the words of argv after the program's name, which are to be
 /// `run IMAGE [--seed N] [--budget N] [--host N] -- [NAME=VALUE ..] PROGRAM [ARG ..]`.
-pub fn read_options(alloc: Global, words: &[String]) -> Result<Options, UsageErr>
-    ensures ok { IfOk result (λ o. request_of (map string_bytes words.now) ≡ Some (record { image = o.image; command = o.command; seed = o.seed; budget = o.budget; host = o.host })) }
-    ensures refused { result ≡ Err UsageErr.Refused → request_of (map string_bytes words.now) ≡ None }
+pub fn read_options(alloc: Global, argv: &[String]) -> Result<Options, UsageErr>
+    ensures ok { IfOk result (λ o. request_of (map string_bytes argv.now) ≡ Some (as_request o)) }
+    ensures refused { result ≡ Err UsageErr.Refused → request_of (map string_bytes argv.now) ≡ None }
     ensures ranges { IfOk result (λ o. (1 ≤ o.budget) × (o.budget ≤ 1000000000)) }
 {
-    match dashes(words) {
-        Some(place) => read_parts(alloc, &words[..place], &words[place + 1..]),
+    match dashes(argv) {
+        Some(index) => read_parts(alloc, &argv[..index], after(argv, index)),
         None => Err(UsageErr::Refused),
     }
 }
 
-// The place of the first `--`.
-fn dashes(words: &[String]) -> Option<usize>
-    ensures value { result ≡ position (λ word. bytes_eq (string_bytes word) (codes "--")) words.now }
-    ensures within { IfSome result (λ place. place < length words.now) }
+// The index of the first `--`.
+fn dashes(argv: &[String]) -> Option<usize>
+    ensures value { result ≡ position (λ word. bytes_eq (string_bytes word) (codes "--")) argv.now }
+    ensures within { IfSome result (λ index. index < length argv.now) }
 {
-    words.iter().position(|word| word.as_str() == "--")
+    argv.iter().position(|word| word.as_str() == "--")
 }
 
-// Reads the words on both sides of `--`.
-fn read_parts(alloc: Global, front: &[String], rest: &[String]) -> Result<Options, UsageErr>
-    ensures ok { IfOk result (λ o. request_round (map string_bytes front.now) (map string_bytes rest.now) ≡ Some (record { image = o.image; command = o.command; seed = o.seed; budget = o.budget; host = o.host })) }
-    ensures refused { result ≡ Err UsageErr.Refused → request_round (map string_bytes front.now) (map string_bytes rest.now) ≡ None }
+// The words after an index.
+fn after(argv: &[String], index: usize) -> &[String]
+    requires { index < length argv.now }
+    ensures { result.now ≡ drop (index + 1) argv.entry.now }
+{
+    let (_, rest) = argv.split_at(index + 1);
+    rest
+}
+
+// Reads the words before and after `--`.
+fn read_parts(alloc: Global, before: &[String], after: &[String]) -> Result<Options, UsageErr>
+    ensures ok { IfOk result (λ o.
+        request_in (map string_bytes before.now) (map string_bytes after.now) ≡ Some (as_request o)) }
+    ensures refused { result ≡ Err UsageErr.Refused →
+        request_in (map string_bytes before.now) (map string_bytes after.now) ≡ None }
     ensures ranges { IfOk result (λ o. (1 ≤ o.budget) × (o.budget ≤ 1000000000)) }
 {
-    let matches = read_front(alloc, front)?;
+    let matches = read_arguments(alloc, before)?;
     let Some((_, run)) = matches.subcommand() else {
         return Err(UsageErr::Refused);
     };
-    let command = read_command(alloc, rest)?;
+    let command = read_command(alloc, after)?;
     Ok(Options {
         image: Text::new(String::from_str(alloc, image(run))?),
         command,
-        seed: number(run, "seed").unwrap_or(SEED),
+        seed: seed(run),
         budget: budget(run),
         host: number(run, "host"),
     })
@@ -120,8 +131,8 @@ fn read_command(alloc: Global, words: &[String]) -> Result<Command, UsageErr>
     let Some(program) = program(words) else {
         return Err(UsageErr::Refused);
     };
-    let (env, args) = words.split_at(program);
-    Ok(Command::new(blobs(alloc, args)?, blobs(alloc, env)?))
+    let (env, argv) = words.split_at(program);
+    Ok(Command::new(blobs(alloc, argv)?, blobs(alloc, env)?))
 }
 
 fn have_no_nul(words: &[String]) -> bool
@@ -130,10 +141,10 @@ fn have_no_nul(words: &[String]) -> bool
     words.iter().all(|word| has_no_nul(word.as_bytes()))
 }
 
-// The place of the first word that sets no variable.
+// The index of the first word that sets no variable.
 fn program(words: &[String]) -> Option<usize>
     ensures value { result ≡ position (λ word. not (is_assignment (string_bytes word))) words.now }
-    ensures within { IfSome result (λ place. place < length words.now) }
+    ensures within { IfSome result (λ index. index < length words.now) }
 {
     words
         .iter()
@@ -151,24 +162,18 @@ fn blobs(alloc: Global, words: &[String]) -> Result<Vec<Blob>, NoMemory>
     Ok(blobs)
 }
 
-fn has_no_nul(word: &[u8]) -> bool
-    ensures { result ≡ has_no_nul word.now }
-{
-    word.iter().all(|b| *b != 0)
-}
-
 fn is_assignment(word: &[u8]) -> bool
     ensures { result ≡ is_assignment word.now }
 {
     match first_equals(word) {
-        Some(place) => is_variable(&word[..place]),
+        Some(index) => is_variable(&word[..index]),
         None => false,
     }
 }
 
 fn first_equals(word: &[u8]) -> Option<usize>
     ensures value { result ≡ position (λ b. b == 61) word.now }
-    ensures within { IfSome result (λ place. place < length word.now) }
+    ensures within { IfSome result (λ index. index < length word.now) }
 {
     word.iter().position(|b| *b == b'=')
 }
@@ -199,6 +204,3 @@ fn is_variable_byte(byte: u8) -> bool
 {
     byte.is_ascii_alphanumeric() || byte == b'_'
 }
-
-#[cfg(test)]
-mod tests;

@@ -1,25 +1,9 @@
-//! Tests of whole calls of the program, over a store, a host and sinks in memory.
+//! Tests of whole calls of the program: words, images, and runs of `hello` whose bytes are known.
 #![tactic(auto)]
 
 #[cfg(test)]
-mod bench;
-#[cfg(test)]
-mod calls;
-#[cfg(test)]
-mod copies;
-#[cfg(test)]
-mod faults;
-#[cfg(test)]
-mod files;
-#[cfg(test)]
-mod guests;
+mod came;
 #[cfg(test)]
 mod images;
-#[cfg(test)]
-mod loading;
-#[cfg(test)]
-mod memory;
-#[cfg(test)]
-mod programs;
 #[cfg(test)]
 mod words;

@@ -1,6 +1,6 @@
 // The command line, and runs of `hello` whose bytes are known.
-use crate::bench::{Call, RUN_HELLO, USAGE, Words};
-use crate::guests::{HELLO_DIGEST, HELLO_INDEX, HELLO_SHOWN, hello, report};
+use crate::came::expect;
+use dt_testing::{Call, HELLO_INDEX, HELLO_SHOWN, RUN_HELLO, USAGE, Words, hello, hello_report};
 use std::test::Fail;
 
 #[test]
@@ -12,7 +12,7 @@ fn hello_gives_the_same_bytes_whatever_the_host_chooses(rt: HostRuntime) -> Resu
         ("img/image.json", HELLO_INDEX),
         ("img/hello", hello.as_slice()),
     ];
-    let want = report(alloc, HELLO_SHOWN, 162, HELLO_DIGEST)?;
+    let want = hello_report(alloc, HELLO_SHOWN)?;
     for choices in [
         Words::Zeros(8_000),
         Words::Stream(1),
@@ -22,7 +22,7 @@ fn hello_gives_the_same_bytes_whatever_the_host_chooses(rt: HostRuntime) -> Resu
         let mut call = Call::new(RUN_HELLO, &files);
         call.choices = choices;
         let came = call.make(alloc)?;
-        came.expect(&rt, "choices", 0, want.as_bytes(), b"");
+        expect(&rt, &came, "choices", 0, want.as_bytes(), b"");
     }
     Ok(())
 }
@@ -37,7 +37,7 @@ fn words_that_are_taken(rt: HostRuntime) -> Result<(), Fail> {
         ("-/image.json", HELLO_INDEX),
         ("-/hello", hello.as_slice()),
     ];
-    let whole = report(alloc, HELLO_SHOWN, 162, HELLO_DIGEST)?;
+    let whole = hello_report(alloc, HELLO_SHOWN)?;
     for words in [
         "run\nimg\n--\n/hello",
         "run\n-\n--\n/hello",
@@ -56,9 +56,12 @@ fn words_that_are_taken(rt: HostRuntime) -> Result<(), Fail> {
         "run\nimg\n--\n/hello\nx\n--\ny",
         "run\nimg\n--\n/hello\n--budget\n0",
         "run\nimg\n--\n/hello\n",
+        "run\nimg\n--\nhello",
+        "run\nimg\n--\n//hello",
+        "run\nimg\n--\n./../hello",
     ] {
         let came = Call::new(words, &files).make(alloc)?;
-        came.expect(&rt, words, 0, whole.as_bytes(), b"");
+        expect(&rt, &came, words, 0, whole.as_bytes(), b"");
     }
     Ok(())
 }
@@ -102,7 +105,7 @@ fn words_that_are_refused(rt: HostRuntime) -> Result<(), Fail> {
         "--version",
     ] {
         let came = Call::new(words, &files).make(alloc)?;
-        came.expect(&rt, words, 2, b"", USAGE.as_bytes());
+        expect(&rt, &came, words, 2, b"", USAGE.as_bytes());
     }
     Ok(())
 }
@@ -125,8 +128,8 @@ fn budgets_of_a_run(rt: HostRuntime) -> Result<(), Fail> {
     for (budget, status, shown) in runs {
         let words = format!(in alloc; "run\nimg\n--budget\n{budget}\n--\n/hello")?;
         let came = Call::new(words.as_str(), &files).make(alloc)?;
-        let want = report(alloc, shown, 162, HELLO_DIGEST)?;
-        came.expect(&rt, budget, status, want.as_bytes(), b"");
+        let want = hello_report(alloc, shown)?;
+        expect(&rt, &came, budget, status, want.as_bytes(), b"");
     }
     Ok(())
 }
@@ -143,15 +146,17 @@ fn a_program_that_cannot_start_has_its_errno_in_the_verdict(rt: HostRuntime) -> 
     let long_path = "p".repeat(alloc, 4096)?;
     let programs = [
         ("/nothere", 2),
+        ("/nothere/", 2),
+        ("/nothere/x", 2),
         ("", 2),
-        ("/", 2),
-        ("hello", 2),
-        ("/hello/", 2),
-        ("//hello", 2),
-        ("/hello/x", 2),
-        ("1A=/hello", 2),
+        ("/", 13),
         ("/.", 13),
         ("/..", 13),
+        (".", 13),
+        ("/hello/", 20),
+        ("/hello/.", 20),
+        ("/hello/x", 20),
+        ("1A=/hello", 2),
         (long_name.as_str(), 36),
         (long_path.as_str(), 36),
     ];
@@ -159,8 +164,8 @@ fn a_program_that_cannot_start_has_its_errno_in_the_verdict(rt: HostRuntime) -> 
         let words = format!(in alloc; "run\nimg\n--\n{program}\n")?;
         let came = Call::new(words.as_str(), &files).make(alloc)?;
         let shown = format!(in alloc; "verdict nostart {errno}")?;
-        let want = report(alloc, shown.as_str(), 162, HELLO_DIGEST)?;
-        came.expect(&rt, program, 10, want.as_bytes(), b"");
+        let want = hello_report(alloc, shown.as_str())?;
+        expect(&rt, &came, program, 10, want.as_bytes(), b"");
     }
     Ok(())
 }
@@ -177,10 +182,10 @@ fn a_number_for_the_host_is_one_call_more(rt: HostRuntime) -> Result<(), Fail> {
     let mut call = Call::new("run\nimg\n--\n/x", &files);
     call.host_fails = Some(4);
     let came = call.make(alloc)?;
-    came.expect(&rt, "three calls", 10, want, b"");
+    expect(&rt, &came, "three calls", 10, want, b"");
     let mut call = Call::new("run\nimg\n--host\n7\n--\n/x", &files);
     call.host_fails = Some(4);
     let came = call.make(alloc)?;
-    came.expect(&rt, "four calls", 5, b"", b"dettrace: host fault\n");
+    expect(&rt, &came, "four calls", 5, b"", b"dettrace: host fault\n");
     Ok(())
 }

@@ -1,23 +1,21 @@
 -- The run of an image, by what its parts gave.
-use Rattle.std.proofs.Common.{◌≡◌, ℕ, List, Result, Ok, Err, refl, sym, ap, ◌∙◌}
+use Rattle.std.proofs.Common.{◌≡◌, ℕ, List, sym, ap, subst, ◌∙◌}
 use Rattle.dt_base.specs.declared.image.Entry.{Entry}
-use Rattle.dt_base.specs.declared.errno.Errno.{Errno}
 use Rattle.dt_base.specs.Command.{Words}
-use Rattle.dt_rv64.specs.declared.machine.Machine.{Machine}
-use Rattle.dt_run.specs.Launch.{launch}
-use Rattle.dt_run.specs.Run.{Run, run_from, run_of}
+use Rattle.dt_host.specs.World.{World}
+use Rattle.dt_tree.specs.FileTree.{FileTree}
+use Rattle.dt_tree.specs.ImageTree.{image_tree}
+use Rattle.dt_tree.specs.Table.{Table, Stands, tree_of}
+use Rattle.dt_run.specs.HoldsTree.{HoldsTree}
+use Rattle.dt_run.specs.Run.{Run, run_on_tree, run_of}
+use Rattle.dt_run.proofs.Holding.{holds_tree}
 
--- the run of an image is what came of its entries
-pub run_of-came : (image entries : List Entry) (words : Words) (seed budget : ℕ) (outcome : Run) → entries ≡ image → run_from entries budget (launch entries words) ≡ outcome → run_of image words seed budget ≡ outcome
+-- the run of an image is the run on its tree
+pub run_of-came : (t : FileTree) (image : List Entry) (words : Words) (seed budget : ℕ) (run : Run) → t ≡ image_tree image → run_on_tree t words budget ≡ run → run_of image words seed budget ≡ run
 unfolding run_of
-run_of-came image entries words seed budget outcome listed came =
-    ap (λ found. run_from found budget (launch found words)) (sym listed) ∙ came
+run_of-came t image words seed budget run installed came = ap (λ t. run_on_tree t words budget) (sym installed) ∙ came
 
-run_from-tree : (entries : List Entry) (budget : ℕ) (started : Result Machine Errno) → (run_from entries budget started).tree ≡ entries
-run_from-tree entries budget (Ok m) = refl
-run_from-tree entries budget (Err errno) = refl
-
--- the tree of a run is its image's
-pub run_of-tree : (entries : List Entry) (words : Words) (seed budget : ℕ) → (run_of entries words seed budget).tree ≡ entries
-unfolding run_of
-run_of-tree entries words seed budget = run_from-tree entries budget (launch entries words)
+-- the host holds the last tree of a run, as its nodes stand for it
+pub holds_last : (t : Table) (w now : World) (last : FileTree) → now ≡ w → last ≡ tree_of t w.forest → Stands t w.forest → HoldsTree now last
+holds_last t w now last same is stands =
+    subst (λ u. HoldsTree u last) (sym same) (subst (HoldsTree w) (sym is) (holds_tree t w stands))

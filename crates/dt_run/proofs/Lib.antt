@@ -1,8 +1,9 @@
-pub mod Flats
-pub mod Installing
-pub mod Launching
-pub mod Courses
+pub mod TurnsRuns
+pub mod Walked
+pub mod Opened
+pub mod Holding
 pub mod Completed
-pub mod Askings
-pub mod Completing
+pub mod Wanting
+pub mod Failing
+pub mod Lines
 pub mod Parts

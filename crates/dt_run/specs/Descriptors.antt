@@ -1,16 +1,16 @@
 -- The open files of a process (open(2), close(2)).
-use Rattle.std.specs.Prelude.{ℕ, ◌≤◌, ◌==◌, List, [], ◌∷◌, ◌++◌, length, Bool, nat_lt, slice_get, slice_set, unwrap_or, Option, Some, None, if◌then◌else◌}
+use Rattle.std.specs.Prelude.{ℕ, ◌≤◌, ◌==◌, List, [], ◌∷◌, ◌++◌, length, Bool, nat_lt, slice_get, slice_set, unwrap_or, Option, Some, if◌then◌else◌}
 use Rattle.std.specs.List.{position}
-use Rattle.std.specs.Option.{is_none}
-use Rattle.dt_run.specs.declared.descriptors.TheConstants.{DESCRIPTOR_LIMIT}
+use Rattle.std.specs.Option.{is_none, option_flatten}
+use Rattle.dt_run.specs.declared.numbers.TheConstants.{DESCRIPTOR_LIMIT}
 use Rattle.dt_run.specs.declared.descriptors.Description.{Description}
 use Rattle.dt_run.specs.declared.descriptors.Description.TheVariants.{Input, Stream}
 
--- a table of descriptors: at each number what it stands for, or nothing where it is free; those past the end are free
+-- a table of descriptors: at the index of each what it stands for, or nothing where it is free; those past the end are free
 abbrev pub Table : Type 0
 Table = List (Option Description)
 
--- each table has at most so many places
+-- each table is within the limit
 abbrev pub IsTable : Table → Type 0
 IsTable table = length table ≤ DESCRIPTOR_LIMIT
 
@@ -22,30 +22,25 @@ first_table = Some Input ∷ Some (Stream 1) ∷ Some (Stream 2) ∷ []
 abbrev pub last_table : Table
 last_table = []
 
--- what stands at a place, where the place is there
-abbrev pub placed_there : Option (Option Description) → Option Description
-placed_there None = None
-placed_there (Some found) = found
-
 -- what a descriptor stands for, where it is open
 abbrev pub description_at : Table → ℕ → Option Description
-description_at table descriptor = placed_there (slice_get table descriptor)
+description_at table descriptor = option_flatten (slice_get table descriptor)
 
--- the lowest free descriptor: the first free place of the table, or the one past its end
-abbrev pub free_place : Table → ℕ
-free_place table = unwrap_or (position is_none table) (length table)
+-- the lowest free descriptor: the first free index of the table, or the one past its end
+abbrev pub lowest_free : Table → ℕ
+lowest_free table = unwrap_or (position is_none table) (length table)
 
 -- none is free
 abbrev pub is_full : Table → Bool
-is_full table = free_place table == DESCRIPTOR_LIMIT
+is_full table = lowest_free table == DESCRIPTOR_LIMIT
 
--- the table with this at that place of it
-abbrev pub placed : Table → ℕ → Option Description → Table
-placed table descriptor found = slice_set table descriptor found
+-- the table with this for that descriptor
+abbrev pub with_description : Table → ℕ → Option Description → Table
+with_description table descriptor found = slice_set table descriptor found
 
 -- the table with a description under the lowest free descriptor
 abbrev pub opened : Table → Description → Table
 opened table description =
-    if nat_lt (free_place table) (length table)
-    then placed table (free_place table) (Some description)
+    if nat_lt (lowest_free table) (length table)
+    then with_description table (lowest_free table) (Some description)
     else table ++ Some description ∷ []

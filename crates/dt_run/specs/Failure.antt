@@ -4,6 +4,7 @@ use Rattle.dt_base.specs.declared.refusal.Refusal.{Refusal}
 use Rattle.dt_base.specs.Refusal.{refusal_number, refusal_name}
 use Rattle.dt_run.specs.declared.failure.Failure.{Failure}
 use Rattle.dt_run.specs.declared.failure.Failure.TheVariants.{Usage, Image, Store, Host, Output, NoMemory}
+use Rattle.dt_run.specs.declared.status.TheConstants.{WORDS_REFUSED, IMAGE_REFUSED, STORE_FAULT, HOST_FAULT, OUTPUT_FAULT, OUT_OF_MEMORY}
 
 -- the digit of a refusal's number, which is one from 1 to 8
 abbrev pub refusal_digit : Refusal → ℕ
@@ -20,9 +21,9 @@ failure_line NoMemory = codes "dettrace: out of memory\n"
 
 -- the status
 abbrev pub failure_status : Failure → ℕ
-failure_status Usage = 2
-failure_status (Image refusal) = 3
-failure_status Store = 4
-failure_status Host = 5
-failure_status Output = 6
-failure_status NoMemory = 7
+failure_status Usage = WORDS_REFUSED
+failure_status (Image refusal) = IMAGE_REFUSED
+failure_status Store = STORE_FAULT
+failure_status Host = HOST_FAULT
+failure_status Output = OUTPUT_FAULT
+failure_status NoMemory = OUT_OF_MEMORY

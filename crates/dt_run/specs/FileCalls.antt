@@ -1,13 +1,16 @@
 -- The system calls on files: openat(2), close(2), read(2), write(2).
-use Rattle.std.specs.Prelude.{ℕ, ◌+◌, ◌%◌, ◌^◌, min, ◌==◌, suc, List, [], ◌∷◌, length, take, drop, Option, Some, None, Result, Ok, Err, if◌then◌else◌}
-use Rattle.dt_base.specs.declared.limits.TheConstants.{TRANSFER_LIMIT, PATH_LIMIT}
+use Rattle.std.specs.Prelude.{ℕ, ◌+◌, ◌==◌, ◌||◌, suc, List, [], ◌∷◌, length, take, drop, Option, Some, None, Result, Ok, Err, if◌then◌else◌}
+use Rattle.std.specs.Ordering.{int_eq}
+use Rattle.dt_base.specs.declared.abi.TheConstants.{A0, A1, A2, OPENAT, AT_FDCWD}
+use Rattle.dt_base.specs.declared.limits.TheConstants.{PATH_LIMIT}
+use Rattle.dt_base.specs.Abi.{low_word, signed_word, byte_count}
 use Rattle.dt_base.specs.declared.errno.Errno.{Errno}
 use Rattle.dt_base.specs.declared.errno.Errno.TheVariants.{NoEnt, BadF, MFile, IsDir, NameTooLong, Loop, Fault as BadAddress}
 use Rattle.dt_base.specs.declared.event.Event.{Event}
 use Rattle.dt_base.specs.declared.event.Event.TheVariants.{Out}
-use Rattle.dt_base.specs.declared.image.Entry.{Entry}
-use Rattle.dt_base.specs.declared.image.What.{What}
-use Rattle.dt_base.specs.declared.image.What.TheVariants.{File as FileOf, Dir, Link}
+use Rattle.dt_host.specs.World.{Forest, Node, file, dir, link, node_at, content}
+use Rattle.dt_tree.specs.declared.limits.TheConstants.{ROOT}
+use Rattle.dt_walk.specs.Walk.{begins_with_slash}
 use Rattle.dt_rv64.specs.declared.machine.Machine.{Machine}
 use Rattle.dt_rv64.specs.Effects.{register, answered}
 use Rattle.dt_space.specs.declared.access.Miss.{Miss}
@@ -17,21 +20,17 @@ use Rattle.dt_space.specs.Write.{stored}
 use Rattle.dt_space.specs.declared.access.TextErr.{TextErr}
 use Rattle.dt_space.specs.declared.access.TextErr.TheVariants as text_err
 use Rattle.dt_space.specs.Text.{text_at}
-use Rattle.dt_run.specs.declared.call.answer.Outcome.TheVariants.{Done, Unsupported}
-use Rattle.dt_run.specs.declared.container.Container.{Container}
+use Rattle.dt_run.specs.declared.call.served.Outcome.TheVariants.{Done, Unsupported}
+use Rattle.dt_run.specs.Container.{Container}
 use Rattle.dt_run.specs.declared.descriptors.Description.{Description}
 use Rattle.dt_run.specs.declared.descriptors.Description.TheVariants.{Input, Stream, File, Directory}
-use Rattle.dt_run.specs.Descriptors.{Table, description_at, free_place, is_full, placed, opened}
-use Rattle.dt_run.specs.Lookup.{root_name, is_dots, entry_named, file_named}
+use Rattle.dt_run.specs.Descriptors.{description_at, lowest_free, is_full, with_description, opened}
+use Rattle.dt_run.specs.Lookup.{lookup}
 use Rattle.dt_run.specs.Served.{Served, quiet, done, refused}
 
--- the descriptor that a call is about: the low 32 bits of its first argument
+-- the descriptor that a call is about
 abbrev pub descriptor : Machine → ℕ
-descriptor m = register m 10 % 2 ^ 32
-
--- how many bytes a transfer may move
-abbrev pub count_asked : Machine → ℕ
-count_asked m = min (register m 12) TRANSFER_LIMIT
+descriptor m = low_word (register m A0)
 
 -- a path that was read from memory, or why there is none: it may not be empty. Without a miss the only error of a text is its length
 abbrev pub path_of : Result (List ℕ) TextErr → Result (List ℕ) Errno
@@ -44,69 +43,75 @@ path_of (Err error) = Err NameTooLong
 abbrev pub path_at : List PageView → ℕ → Result (List ℕ) Errno
 path_at pages address = path_of (text_at pages address (suc PATH_LIMIT))
 
--- what stands under a name is opened as a file, which is read from its start, or as a directory; links come with other images
-abbrev pub opened_what : List ℕ → What → Result Description Errno
-opened_what name (FileOf bytes) = Ok (File name 0)
-opened_what name Dir = Ok Directory
-opened_what name (Link target) = Err Loop
+-- where a path is looked up that doesn't begin with `/`: in the working directory, which is the root. No other directory is one yet
+abbrev pub start_dir : ℕ → List ℕ → Result ℕ Errno
+start_dir dirfd path = if begins_with_slash path || int_eq (signed_word dirfd) AT_FDCWD then Ok ROOT else Err BadF
 
--- what an entry of the root is opened as
-abbrev pub opened_entry : List ℕ → Option Entry → Result Description Errno
-opened_entry name None = Err NoEnt
-opened_entry name (Some entry) = opened_what name entry.what
+-- what a node is opened as: a file, which is read from its start, or a directory; a link that was not followed is refused
+abbrev pub opened_node : ℕ → Option Node → Result Description Errno
+opened_node n None = Err NoEnt
+opened_node n (Some (file bytes)) = Ok (File n 0)
+opened_node n (Some (dir names)) = Ok (Directory n)
+opened_node n (Some (link target)) = Err Loop
 
--- what a name in the root is opened as
-abbrev pub opened_name : List Entry → Result (List ℕ) Errno → Result Description Errno
-opened_name entries (Err errno) = Err errno
-opened_name entries (Ok name) = if is_dots name then Ok Directory else opened_entry name (entry_named name entries)
+-- what a path led to is opened
+abbrev pub opened_at : Forest → Result (Option ℕ) Errno → Result Description Errno
+opened_at v (Err errno) = Err errno
+opened_at v (Ok None) = Err NoEnt
+opened_at v (Ok (Some n)) = opened_node n (node_at v n)
+
+-- what a path is opened as from the directory where it begins
+abbrev pub opened_from : Forest → List ℕ → Result ℕ Errno → Result Description Errno
+opened_from v path (Err errno) = Err errno
+opened_from v path (Ok start) = opened_at v (lookup v start path)
 
 -- what a path is opened as, where a descriptor is free
-abbrev pub opened_path : List Entry → Table → Result (List ℕ) Errno → Result Description Errno
-opened_path entries table (Err errno) = Err errno
-opened_path entries table (Ok path) = if is_full table then Err MFile else opened_name entries (root_name path)
+abbrev pub opened_path : Container → ℕ → Result (List ℕ) Errno → Result Description Errno
+opened_path c dirfd (Err errno) = Err errno
+opened_path c dirfd (Ok path) = if is_full c.files then Err MFile else opened_from c.tree.shape path (start_dir dirfd path)
 
 -- a description comes under the lowest free descriptor, whose number is the answer
 abbrev pub opens : Container → Machine → Result Description Errno → Served
 opens c m (Err errno) = refused c m errno
-opens c m (Ok description) = done (record c { files = opened c.files description }) m (free_place c.files)
+opens c m (Ok description) = done (record c { files = opened c.files description }) m (lowest_free c.files)
 
 -- openat(2) without flags, of what is there
-unfoldable pub open_call : List Entry → Container → Machine → Served
-open_call entries c m =
-    if register m 12 % 2 ^ 32 == 0
-    then opens c m (opened_path entries c.files (path_at m.space (register m 11)))
-    else quiet c m (Unsupported 56)
+unfoldable pub open_call : Container → Machine → Served
+open_call c m =
+    if low_word (register m A2) == 0
+    then opens c m (opened_path c (register m A0) (path_at m.space (register m A1)))
+    else quiet c m (Unsupported OPENAT)
 
 -- a descriptor that is open is closed
 abbrev pub closes : Container → Machine → Option Description → Served
 closes c m None = refused c m BadF
-closes c m (Some description) = done (record c { files = placed c.files (descriptor m) None }) m 0
+closes c m (Some description) = done (record c { files = with_description c.files (descriptor m) None }) m 0
 
 -- close(2)
 unfoldable pub close_call : Container → Machine → Served
 close_call c m = closes c m (description_at c.files (descriptor m))
 
--- the bytes that were read are in the buffer, and the file's place is past them
-abbrev pub received : Container → Machine → List ℕ → ℕ → ℕ → Result (List PageView) Miss → Served
-received c m name place count (Err miss) = refused c m BadAddress
-received c m name place count (Ok pages) =
-    done (record c { files = placed c.files (descriptor m) (Some (File name (place + count))) }) (record m { space = pages }) count
+-- the bytes that were read are in the buffer, and the file's offset is past them
+abbrev pub received : Container → Machine → ℕ → ℕ → ℕ → Result (List PageView) Miss → Served
+received c m n offset count (Err miss) = refused c m BadAddress
+received c m n offset count (Ok pages) =
+    done (record c { files = with_description c.files (descriptor m) (Some (File n (offset + count))) }) (record m { space = pages }) count
 
 -- a read of these bytes of a file
-abbrev pub reads_bytes : Container → Machine → List ℕ → ℕ → List ℕ → Served
-reads_bytes c m name place bytes = received c m name place (length bytes) (stored m.space (register m 11) bytes)
+abbrev pub reads_bytes : Container → Machine → ℕ → ℕ → List ℕ → Served
+reads_bytes c m n offset bytes = received c m n offset (length bytes) (stored m.space (register m A1) bytes)
 
 -- a read by what the descriptor stands for
-abbrev pub reads : List Entry → Container → Machine → Option Description → Served
-reads entries c m None = refused c m BadF
-reads entries c m (Some (Stream stream)) = refused c m BadF
-reads entries c m (Some Directory) = refused c m IsDir
-reads entries c m (Some Input) = done c m 0
-reads entries c m (Some (File name place)) = reads_bytes c m name place (take (count_asked m) (drop place (file_named entries name)))
+abbrev pub reads : Container → Machine → Option Description → Served
+reads c m None = refused c m BadF
+reads c m (Some (Stream stream)) = refused c m BadF
+reads c m (Some (Directory n)) = refused c m IsDir
+reads c m (Some Input) = done c m 0
+reads c m (Some (File n offset)) = reads_bytes c m n offset (take (byte_count (register m A2)) (drop offset (content c.tree.shape n)))
 
--- read(2): as much of a file as was asked for and is left, from its place on
-unfoldable pub read_call : List Entry → Container → Machine → Served
-read_call entries c m = reads entries c m (description_at c.files (descriptor m))
+-- read(2): as much of a file as was asked for and is left, from its offset on
+unfoldable pub read_call : Container → Machine → Served
+read_call c m = reads c m (description_at c.files (descriptor m))
 
 -- some bytes on a stream are one event, and none are no event
 abbrev pub output : ℕ → List ℕ → List Event
@@ -114,17 +119,17 @@ output stream [] = []
 output stream (b ∷ bytes) = Out stream (b ∷ bytes) ∷ []
 
 -- a write of the bytes of a buffer, where all of it can be read
-abbrev pub written : Container → Machine → ℕ → Result (List ℕ) Miss → Served
-written c m stream (Err miss) = refused c m BadAddress
-written c m stream (Ok bytes) = record { container = c; machine = answered m (length bytes); events = output stream bytes; outcome = Done }
+abbrev pub stream_written : Container → Machine → ℕ → Result (List ℕ) Miss → Served
+stream_written c m stream (Err miss) = refused c m BadAddress
+stream_written c m stream (Ok bytes) = record { container = c; machine = answered m (length bytes); events = output stream bytes; outcome = Done }
 
 -- a write by what the descriptor stands for: only streams are written
 abbrev pub writes : Container → Machine → Option Description → Served
 writes c m None = refused c m BadF
 writes c m (Some Input) = refused c m BadF
-writes c m (Some Directory) = refused c m BadF
-writes c m (Some (File name place)) = refused c m BadF
-writes c m (Some (Stream stream)) = written c m stream (load m.space READ (register m 11) (count_asked m))
+writes c m (Some (Directory n)) = refused c m BadF
+writes c m (Some (File n offset)) = refused c m BadF
+writes c m (Some (Stream stream)) = stream_written c m stream (load m.space READ (register m A1) (byte_count (register m A2)))
 
 -- write(2): a stream is written whole
 unfoldable pub write_call : Container → Machine → Served

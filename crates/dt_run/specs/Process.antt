@@ -5,6 +5,7 @@ use Rattle.dt_base.specs.declared.event.End.TheVariants.{Code, Signal}
 use Rattle.dt_run.specs.declared.process.Process.{Process}
 use Rattle.dt_run.specs.declared.process.Phase.{Phase}
 use Rattle.dt_run.specs.declared.process.Phase.TheVariants.{Owes, Ran, Zombie}
+use Rattle.dt_run.specs.declared.status.TheConstants.{ENDED_ZERO, ENDED_OTHERWISE, NOT_ENDED}
 use Rattle.dt_rv64.specs.Segment.{SegmentRun, segment_of}
 
 -- a process whose machine has just run a segment
@@ -27,13 +28,13 @@ cost_of Owes = 0
 cost_of (Ran seg) = seg.count
 cost_of (Zombie end) = 0
 
--- 0 where the process ended with code 0, and else 1
+-- the status of a run whose first process ended so
 abbrev pub ended_status : End → ℕ
-ended_status (Code code) = if code == 0 then 0 else 1
-ended_status (Signal signal) = 1
+ended_status (Code code) = if code == 0 then ENDED_ZERO else ENDED_OTHERWISE
+ended_status (Signal signal) = ENDED_OTHERWISE
 
--- the status of a run whose process is in this phase at the end: 10 where it has not ended
+-- the status of a run whose first process is in this phase at the end
 abbrev pub status_of : Phase → ℕ
-status_of Owes = 10
-status_of (Ran seg) = 10
+status_of Owes = NOT_ENDED
+status_of (Ran seg) = NOT_ENDED
 status_of (Zombie end) = ended_status end

@@ -4,12 +4,12 @@ use Rattle.dt_base.specs.declared.errno.Errno.{Errno}
 use Rattle.dt_base.specs.declared.event.Event.{Event}
 use Rattle.dt_base.specs.Errno.{errno_number}
 use Rattle.dt_rv64.specs.declared.machine.Machine.{Machine}
-use Rattle.dt_rv64.specs.Effects.{answered, counted}
+use Rattle.dt_rv64.specs.Effects.{answered, counter_read}
 use Rattle.dt_virt.specs.declared.clock.TheConstants.{READING_TICKS}
 use Rattle.dt_virt.specs.Clock.{later}
-use Rattle.dt_run.specs.declared.call.answer.Outcome.{Outcome}
-use Rattle.dt_run.specs.declared.call.answer.Outcome.TheVariants.{Done}
-use Rattle.dt_run.specs.declared.container.Container.{Container}
+use Rattle.dt_run.specs.declared.call.served.Outcome.{Outcome}
+use Rattle.dt_run.specs.declared.call.served.Outcome.TheVariants.{Done}
+use Rattle.dt_run.specs.Container.{Container}
 
 -- the container and the process's machine after its stop was served, what the process did that shows, and what becomes of the process
 pub record Served : Type 0 where
@@ -34,4 +34,4 @@ refused c m errno = done c m (2 ^ 64 - errno_number errno)
 abbrev pub reads_counter : Container → Machine → ℕ → Served
 reads_counter c m rd =
     let ticks = later c.clock READING_TICKS in
-    record { container = record c { clock = ticks }; machine = counted m rd ticks; events = []; outcome = Done }
+    record { container = record c { clock = ticks }; machine = counter_read m rd ticks; events = []; outcome = Done }

@@ -2,29 +2,27 @@
 ghost use Rattle.std.specs.Prelude.{◌≡◌, ◌<◌, ◌≤◌, length, Some, None, IfOk, IfSome, OnOk, IsSome, false};
 ghost use Rattle.std.specs.Option.{option_copied, is_none};
 ghost use Rattle.std.specs.List.{position};
-ghost use Rattle.dt_run.specs.Descriptors.{first_table, last_table, free_place, is_full, description_at, opened, placed};
+ghost use Rattle.dt_run.specs.Descriptors.{first_table, last_table, lowest_free, is_full, description_at, opened, with_description};
 
-use dt_base::{Blob, NoMemory};
+use crate::numbers::DESCRIPTOR_LIMIT;
+use dt_base::NoMemory;
 use std::alloc::Global;
 use std::marker::Model;
 
-/// Descriptors of a process.
-pub const DESCRIPTOR_LIMIT: usize = 64;
-
 /// What an open descriptor stands for (open(2): an open file description).
-#[derive(Debug, Drop)]
+#[derive(Clone, Copy, Debug)]
 pub enum Description {
     /// An input that is empty.
     Input,
     /// An output stream, by its number.
     Stream(u8),
-    /// A file that is read: its name in the root, and the place of the next byte.
-    File { name: Blob, place: u64 },
-    /// The root, which no read goes through.
-    Directory,
+    /// A file, with the offset of the next byte.
+    File { inode: u64, offset: u64 },
+    /// A directory, which no read goes through.
+    Directory { inode: u64 },
 }
 
-/// A process's table of descriptors: at each number a description, or none where it is free.
+/// A process's table of descriptors: at the index of each a description, or none where it is free.
 #[derive(Debug, Drop)]
 pub struct Descriptors {
     table: Vec<Option<Description>>,
@@ -68,16 +66,16 @@ impl Descriptors {
     pub fn is_full(&self) -> bool
         ensures { result ≡ is_full self.now }
     {
-        self.free_place() == DESCRIPTOR_LIMIT
+        self.lowest_free() == DESCRIPTOR_LIMIT
     }
 
-    /// Opens a description under the lowest free number, and answers that number.
+    /// Opens a description under the lowest free descriptor, and answers that.
     pub fn open(&mut self, description: Description) -> Result<u64, NoMemory>
         requires { is_full self.old ≡ false }
-        ensures number { IfOk result (λ n. n ≡ free_place self.old) }
+        ensures number { IfOk result (λ n. n ≡ lowest_free self.old) }
         ensures opened { OnOk result (self.new ≡ opened self.old description) }
     {
-        let free = self.free_place();
+        let free = self.lowest_free();
         if free < self.table.len() {
             self.table[free] = Some(description);
         } else {
@@ -86,10 +84,10 @@ impl Descriptors {
         Ok(free as u64)
     }
 
-    /// Puts a description in the place of an open one.
+    /// Puts a description for that of an open descriptor.
     pub fn put(&mut self, descriptor: u64, description: Description)
         requires { IsSome (description_at self.old descriptor) }
-        ensures { self.new ≡ placed self.old descriptor (Some description) }
+        ensures { self.new ≡ with_description self.old descriptor (Some description) }
     {
         self.table[descriptor as usize] = Some(description);
     }
@@ -97,7 +95,7 @@ impl Descriptors {
     /// Closes an open descriptor.
     pub fn close(&mut self, descriptor: u64)
         requires { IsSome (description_at self.old descriptor) }
-        ensures { self.new ≡ placed self.old descriptor None }
+        ensures { self.new ≡ with_description self.old descriptor None }
     {
         self.table[descriptor as usize] = None;
     }
@@ -109,19 +107,19 @@ impl Descriptors {
         self.table.clear();
     }
 
-    // The lowest free number.
-    fn free_place(&self) -> usize
-        ensures value { result ≡ free_place self.now }
+    // The lowest free descriptor.
+    fn lowest_free(&self) -> usize
+        ensures value { result ≡ lowest_free self.now }
         ensures within { result ≤ length self.now }
     {
         self.first_free().unwrap_or(self.table.len())
     }
 
-    // The first free place of the table.
+    // The first free index of the table.
     fn first_free(&self) -> Option<usize>
         ensures value { result ≡ position is_none self.now }
-        ensures within { IfSome result (λ place. place < length self.now) }
+        ensures within { IfSome result (λ index. index < length self.now) }
     {
-        self.table.iter().position(|place| place.is_none())
+        self.table.iter().position(|found| found.is_none())
     }
 }

@@ -1,11 +1,8 @@
 // Why a run was not completed.
 ghost use Rattle.std.specs.Prelude.{◌≡◌};
-ghost use Rattle.dt_run.specs.Errors.{of_host, of_sink};
-ghost use Rattle.dt_run.specs.declared.error.RunErr.TheVariants.{NoMemory as OutOfMemory};
+ghost use Rattle.dt_run.specs.inner.Errors.{of_host, of_sink};
 
-use dt_base::NoMemory;
 use dt_host::{HostErr, SinkErr};
-use std::alloc::{AllocError, AllocFailed};
 use thiserror::Error;
 
 /// Why a run was not completed: the host failed, the sink of the report failed, or memory ran out.
@@ -38,29 +35,5 @@ impl From<SinkErr> for RunErr {
             SinkErr::Failed => RunErr::Sink,
             SinkErr::NoMemory => RunErr::NoMemory,
         }
-    }
-}
-
-impl From<NoMemory> for RunErr {
-    ghost from_gives = { λ _ r. r ≡ OutOfMemory };
-
-    fn from(_: NoMemory) -> Self {
-        RunErr::NoMemory
-    }
-}
-
-impl From<AllocError> for RunErr {
-    ghost from_gives = { λ _ r. r ≡ OutOfMemory };
-
-    fn from(_: AllocError) -> Self {
-        RunErr::NoMemory
-    }
-}
-
-impl<T: Drop> From<AllocFailed<T>> for RunErr {
-    ghost from_gives = { λ _ r. r ≡ OutOfMemory };
-
-    fn from(_: AllocFailed<T>) -> Self {
-        RunErr::NoMemory
     }
 }

@@ -1,9 +1,12 @@
-// How a call that ran nothing to its end is told.
+// Why there is no whole report: its line on the error stream, and its exit status.
 ghost use Rattle.std.specs.Prelude.{◌≡◌};
 ghost use Rattle.dt_run.specs.Failure.{failure_status, failure_line};
 ghost use Rattle.dt_run.specs.declared.failure.Failure.TheVariants.{NoMemory as OutOfMemory};
 
 use crate::error::RunErr;
+use crate::status::{
+    HOST_FAULT, IMAGE_REFUSED, OUT_OF_MEMORY, OUTPUT_FAULT, STORE_FAULT, WORDS_REFUSED,
+};
 use dt_base::{ImageErr, NoMemory, Refusal};
 use dt_options::UsageErr;
 
@@ -30,12 +33,12 @@ impl Failure {
         ensures { result ≡ failure_status self }
     {
         match self {
-            Failure::Usage => 2,
-            Failure::Image(_) => 3,
-            Failure::Store => 4,
-            Failure::Host => 5,
-            Failure::Output => 6,
-            Failure::NoMemory => 7,
+            Failure::Usage => WORDS_REFUSED,
+            Failure::Image(_) => IMAGE_REFUSED,
+            Failure::Store => STORE_FAULT,
+            Failure::Host => HOST_FAULT,
+            Failure::Output => OUTPUT_FAULT,
+            Failure::NoMemory => OUT_OF_MEMORY,
         }
     }
 
@@ -45,7 +48,8 @@ impl Failure {
     {
         match self {
             Failure::Usage =>
-                "dettrace: usage: dettrace run IMAGE [--seed N] [--budget N] [--host N] -- [NAME=VALUE ..] PROGRAM [ARG ..]\n",
+                "dettrace: usage: dettrace run IMAGE [--seed N] [--budget N] [--host N] \
+                -- [NAME=VALUE ..] PROGRAM [ARG ..]\n",
             Failure::Image(refusal) => image_line(refusal),
             Failure::Store => "dettrace: store fault\n",
             Failure::Host => "dettrace: host fault\n",
@@ -71,7 +75,7 @@ fn image_line(refusal: Refusal) -> &'static str
 }
 
 impl From<UsageErr> for Failure {
-    ghost use Rattle.dt_run.specs.Failures.{of_usage};
+    ghost use Rattle.dt_run.specs.inner.Failures.{of_usage};
 
     ghost from_gives = { λ e f. f ≡ of_usage e };
 
@@ -84,7 +88,7 @@ impl From<UsageErr> for Failure {
 }
 
 impl From<ImageErr> for Failure {
-    ghost use Rattle.dt_run.specs.Failures.{of_image};
+    ghost use Rattle.dt_run.specs.inner.Failures.{of_image};
 
     ghost from_gives = { λ e f. f ≡ of_image e };
 
@@ -98,7 +102,7 @@ impl From<ImageErr> for Failure {
 }
 
 impl From<RunErr> for Failure {
-    ghost use Rattle.dt_run.specs.Failures.{of_run};
+    ghost use Rattle.dt_run.specs.inner.Failures.{of_run};
 
     ghost from_gives = { λ e f. f ≡ of_run e };
 

@@ -1,53 +1,70 @@
 // The start of a run's program.
-ghost use Rattle.std.specs.Prelude.{◌≡◌, List, IfOk, IsErrOf};
-ghost use Rattle.dt_base.specs.declared.image.Entry.{Entry};
-ghost use Rattle.dt_host.specs.Cause.{HasCause};
-ghost use Rattle.dt_run.specs.Installed.{HoldsImage};
-ghost use Rattle.dt_run.specs.Launch.{launched, loaded};
-ghost use Rattle.dt_run.specs.Lookup.{root_name};
+ghost use Rattle.std.specs.Prelude.{◌≡◌, IfOk};
+ghost use Rattle.dt_host.specs.World.{IsLive, file_at};
+ghost use Rattle.dt_tree.specs.Table.{Stands, shape_of};
+ghost use Rattle.dt_run.specs.Launch.{executed, launched, machine_of};
+ghost use Rattle.dt_run.specs.inner.Asks.{Asks};
 
-use crate::error::RunErr;
-use crate::install::read_file;
-use crate::lookup::{is_dots, root_name};
-use dt_base::{Errno, NoMemory};
+use crate::lookup::lookup;
+use crate::reading::read_file;
+use dt_base::{Errno, NoMemory, PATH_LIMIT};
 use dt_elf::{StartErr, read_elf, start};
-use dt_host::Host;
+use dt_host::{Host, HostErr};
 use dt_rv64::Machine;
+use dt_tree::{ROOT, Tree};
 use std::alloc::Global;
 
-/// The first machine of the program at `path`, read from the host, or why it can't be started.
+/// The first machine of the program at `path`, or why it can't be started.
+#[tactic(auto, unfolding(crate::specs::Launch::launched))]
 pub fn launch<H: Host>(
     alloc: Global,
     host: &mut H,
+    tree: &Tree,
     path: &[u8],
-) -> Result<Result<Machine, Errno>, RunErr>
-    requires { (entries : List Entry) × HoldsImage (H.view host.old) entries }
-    ensures ok { (entries : List Entry) → HoldsImage (H.view host.old) entries → IfOk result (λ started. started ≡ launched entries (root_name path.now)) }
-    ensures stays { H.view host.new ≡ H.view host.old }
-    ensures cause { HasCause (H.count host.old) (H.count host.new) (IsErrOf result RunErr.Host) }
-    ensures kinds { IsErrOf result RunErr.Sink → ⊥ }
+) -> Result<Result<Machine, Errno>, HostErr>
+    requires { Stands tree.now (H.view host.old).forest }
+    ensures ok { IfOk result
+        (λ started. started ≡ launched (shape_of tree.now (H.view host.old).forest) path.now) }
+    ensures asks { Asks H.view H.count host.old host.new result }
 {
-    let name = match root_name(path) {
-        Ok(name) => name,
-        Err(errno) => return Ok(Err(errno)),
-    };
-    if is_dots(name) {
-        return Ok(Err(Errno::Acces));
+    let _before = host.faults();
+    if path.len() == 0 {
+        return Ok(Err(Errno::NoEnt));
     }
-    let root = host.root()?;
-    match host.find(root, name)? {
-        Some(file) => {
-            let bytes = read_file(alloc, host, file)?;
-            Ok(load(alloc, &bytes)?)
-        }
-        None => Ok(Err(Errno::NoEnt)),
+    if path.len() as u64 > PATH_LIMIT {
+        return Ok(Err(Errno::NameTooLong));
+    }
+    match lookup(alloc, host, tree, ROOT, path)? {
+        Ok(Some(inode)) => execute(alloc, host, tree, inode),
+        Ok(None) => Ok(Err(Errno::NoEnt)),
+        Err(errno) => Ok(Err(errno)),
     }
 }
 
+// The first machine of a node's file.
+fn execute<H: Host>(
+    alloc: Global,
+    host: &mut H,
+    tree: &Tree,
+    inode: u64,
+) -> Result<Result<Machine, Errno>, HostErr>
+    requires stands { Stands tree.now (H.view host.old).forest }
+    requires live { IsLive (shape_of tree.now (H.view host.old).forest) inode }
+    ensures ok { IfOk result (λ started. started
+        ≡ executed (file_at (shape_of tree.now (H.view host.old).forest) inode)) }
+    ensures asks { Asks H.view H.count host.old host.new result }
+{
+    if tree.is_dir(inode) || tree.is_link(inode) {
+        return Ok(Err(Errno::Acces));
+    }
+    let bytes = read_file(alloc, host, tree, inode)?;
+    Ok(machine_of(alloc, &bytes)?)
+}
+
 // The first machine of a file's bytes.
-#[tactic(auto, unfolding(crate::specs::Launch::loaded))]
-fn load(alloc: Global, bytes: &[u8]) -> Result<Result<Machine, Errno>, NoMemory>
-    ensures { IfOk result (λ started. started ≡ loaded bytes.now) }
+#[tactic(auto, unfolding(crate::specs::Launch::machine_of))]
+fn machine_of(alloc: Global, bytes: &[u8]) -> Result<Result<Machine, Errno>, NoMemory>
+    ensures { IfOk result (λ started. started ≡ machine_of bytes.now) }
 {
     let Ok(elf) = read_elf(bytes) else {
         return Ok(Err(Errno::NoExec));

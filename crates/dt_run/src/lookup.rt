@@ -1,38 +1,34 @@
-// Looking a path up in the root (path_resolution(7)), for paths of one name.
-ghost use Rattle.std.specs.Prelude.{◌≡◌, Ok, Err, IfOk, IfErr};
-ghost use Rattle.dt_run.specs.Lookup.{root_name, name_within, is_dots};
+// Looking a path up in the tree (path_resolution(7)).
+ghost use Rattle.std.specs.Prelude.{◌≡◌, IfOk};
+ghost use Rattle.dt_host.specs.World.{IsDir};
+ghost use Rattle.dt_tree.specs.Table.{Stands, shape_of};
+ghost use Rattle.dt_run.specs.Lookup.{lookup};
+ghost use Rattle.dt_run.specs.inner.Asks.{Asks};
 
-use dt_base::{Errno, NAME_LIMIT, PATH_LIMIT};
+use dt_base::Errno;
+use dt_host::{CallErr, Host, HostErr};
+use dt_tree::Tree;
+use dt_walk::{Last, walk};
+use std::alloc::Global;
 
-/// The name that a path leads to in the root, or why there can be none.
-#[tactic(auto, unfolding(crate::specs::Lookup::root_name))]
-pub fn root_name(path: &[u8]) -> Result<&[u8], Errno>
-    ensures ok { IfOk result (λ name. root_name path.now ≡ Ok name.now) }
-    ensures err { IfErr result (λ errno. root_name path.now ≡ Err errno) }
+/// The node that a path leads to from a directory, each link followed. It is None where the last name alone is missing.
+#[tactic(auto, unfolding(crate::specs::Lookup::lookup))]
+pub fn lookup<H: Host>(
+    alloc: Global,
+    host: &mut H,
+    tree: &Tree,
+    start: u64,
+    path: &[u8],
+) -> Result<Result<Option<u64>, Errno>, HostErr>
+    requires stands { Stands tree.now (H.view host.old).forest }
+    requires directory { IsDir (shape_of tree.now (H.view host.old).forest) start }
+    ensures ok { IfOk result
+        (λ found. found ≡ lookup (shape_of tree.now (H.view host.old).forest) start path.now) }
+    ensures asks { Asks H.view H.count host.old host.new result }
 {
-    if path.len() as u64 > PATH_LIMIT {
-        return Err(Errno::NameTooLong);
+    match walk(alloc, host, tree, start, path, Last::Follow) {
+        Ok(place) => Ok(Ok(place.node)),
+        Err(CallErr::Errno(errno)) => Ok(Err(errno)),
+        Err(CallErr::Host(e)) => Err(e),
     }
-    match path {
-        [b'/', name @ ..] if !name.is_empty() && !name.contains(&b'/') => within(name),
-        _ => Err(Errno::NoEnt),
-    }
-}
-
-// A name, unless it is too long.
-fn within(name: &[u8]) -> Result<&[u8], Errno>
-    ensures ok { IfOk result (λ found. name_within name.now ≡ Ok found.now) }
-    ensures err { IfErr result (λ errno. name_within name.now ≡ Err errno) }
-{
-    if name.len() as u64 > NAME_LIMIT {
-        return Err(Errno::NameTooLong);
-    }
-    Ok(name)
-}
-
-/// Whether a name is `.` or `..`, which in the root lead to the root.
-pub fn is_dots(name: &[u8]) -> bool
-    ensures { result ≡ is_dots name.now }
-{
-    name == b".".as_slice() || name == b"..".as_slice()
 }

@@ -1,6 +1,7 @@
 // A process: its machine, and where it stands between its turns.
 ghost use Rattle.std.specs.Prelude.{◌≡◌, OnOk};
 
+use crate::status::{ENDED_OTHERWISE, ENDED_ZERO, NOT_ENDED};
 use dt_base::{End, NoMemory};
 use dt_rv64::{Machine, Seg, segment};
 
@@ -33,9 +34,9 @@ impl Phase {
         ensures { result ≡ status_of self }
     {
         match self {
-            Phase::Zombie(End::Code(0)) => 0,
-            Phase::Zombie(_) => 1,
-            Phase::Owes | Phase::Ran(_) => 10,
+            Phase::Zombie(End::Code(0)) => ENDED_ZERO,
+            Phase::Zombie(_) => ENDED_OTHERWISE,
+            Phase::Owes | Phase::Ran(_) => NOT_ENDED,
         }
     }
 }

@@ -10,13 +10,13 @@ use Rattle.dt_rv64.specs.declared.instruction.Instr.{Instr}
 use Rattle.dt_rv64.specs.declared.instruction.Instr.TheVariants.{Lui, Auipc, Jal, Jalr, Beq, Bne, Blt, Bge, Bltu, Bgeu, Lb, Lh, Lw, Ld, Lbu, Lhu, Lwu, Sb, Sh, Sw, Sd, Addi, Slti, Sltiu, Xori, Ori, Andi, Slli, Srli, Srai, Add, Sub, Sll, Slt, Sltu, Xor, Srl, Sra, Or, And, Mul, Mulh, Mulhsu, Mulhu, Div, Divu, Rem, Remu, Addiw, Slliw, Srliw, Sraiw, Addw, Subw, Sllw, Srlw, Sraw, Mulw, Divw, Divuw, Remw, Remuw, Fence, Ecall, Ebreak, ReadCounter, Unknown}
 use Rattle.dt_rv64.specs.declared.machine.Step.{Step}
 use Rattle.dt_rv64.specs.declared.machine.Step.TheVariants.{Ran, Call, Counter, Fault}
-use Rattle.dt_rv64.specs.declared.signal.TheConstants.{SIGBUS}
+use Rattle.dt_base.specs.declared.abi.TheConstants.{A0, SIGBUS}
 use Rattle.dt_base.specs.Fields.{low_bytes}
-use Rattle.dt_space.specs.Space.{load, loaded}
+use Rattle.dt_space.specs.Space.{load, loaded_number}
 use Rattle.dt_space.specs.Write.{write, where_allowed}
-use Rattle.dt_rv64.proofs.Stores.{write-keeps}
+use Rattle.dt_space.proofs.Spaces.{IsSpace-write, IsBytes-low_bytes}
 use Rattle.dt_rv64.specs.Instruction.{instr}
-use Rattle.dt_rv64.specs.Effects.{Stepped, relative, even, address, with_register, next_pc, advanced, wrote, jumped, branched, filled, saved, put_at, answered, counted}
+use Rattle.dt_rv64.specs.Effects.{Stepped, relative, even, address, with_register, next_pc, advanced, wrote, jumped, branched, load_result, store_result, store_at, answered, counter_read}
 use Rattle.dt_rv64.specs.Machine.{executed, fetched, exec}
 use Rattle.dt_base.specs.declared.limits.TheConstants.{SEGMENT_LIMIT}
 use Rattle.dt_rv64.specs.Segment.{SegmentRun, go_on, run_steps, segment_of}
@@ -71,17 +71,17 @@ unfolding Keeps
 branched-keeps m true target fits is = jumped-keeps m 0 target fits is
 branched-keeps m false target fits is = advanced-keeps m is
 
-filled-keeps : (m : Machine) (rd : ℕ) (read : Result ℕ Miss) → IsMachine m → Keeps (filled m rd read)
+load_result-keeps : (m : Machine) (rd : ℕ) (read : Result ℕ Miss) → IsMachine m → Keeps (load_result m rd read)
 unfolding Keeps
-filled-keeps m rd (Ok value) is = wrote-keeps m rd value is
-filled-keeps m rd (Err miss) is = is
+load_result-keeps m rd (Ok value) is = wrote-keeps m rd value is
+load_result-keeps m rd (Err miss) is = is
 
-put_at-keeps : (m : Machine) (address width value : ℕ) → IsMachine m → Keeps (put_at m address width value)
+store_at-keeps : (m : Machine) (address width value : ℕ) → IsMachine m → Keeps (store_at m address width value)
 unfolding Keeps
-put_at-keeps m address width value is = by-access (load m.space WRITE address (length (low_bytes width value)))
+store_at-keeps m address width value is = by-access (load m.space WRITE address (length (low_bytes width value)))
   where
-    by-access : (r : Result (List ℕ) Miss) → IsMachine (let next = saved m (where_allowed r (write m.space address (low_bytes width value))) in next.machine)
-    by-access (Ok bytes) = record { registers = is.registers; words = is.words; zero = is.zero; counter = omega arith; space = write-keeps (low_bytes width value) m.space address is.space }
+    by-access : (r : Result (List ℕ) Miss) → IsMachine (let next = store_result m (where_allowed r (write m.space address (low_bytes width value))) in next.machine)
+    by-access (Ok bytes) = record { registers = is.registers; words = is.words; zero = is.zero; counter = omega arith; space = IsSpace-write (low_bytes width value) m.space address (IsBytes-low_bytes width value) is.space }
     by-access (Err miss) = is
 
 -- an instruction leaves a machine
@@ -97,17 +97,17 @@ executed-keeps m (Blt rs1 rs2 immediate) is = branched-keeps m _ (relative m imm
 executed-keeps m (Bge rs1 rs2 immediate) is = branched-keeps m _ (relative m immediate) (omega arith) is
 executed-keeps m (Bltu rs1 rs2 immediate) is = branched-keeps m _ (relative m immediate) (omega arith) is
 executed-keeps m (Bgeu rs1 rs2 immediate) is = branched-keeps m _ (relative m immediate) (omega arith) is
-executed-keeps m (Lb rd rs1 immediate) is = filled-keeps m rd _ is
-executed-keeps m (Lh rd rs1 immediate) is = filled-keeps m rd _ is
-executed-keeps m (Lw rd rs1 immediate) is = filled-keeps m rd _ is
-executed-keeps m (Ld rd rs1 immediate) is = filled-keeps m rd _ is
-executed-keeps m (Lbu rd rs1 immediate) is = filled-keeps m rd _ is
-executed-keeps m (Lhu rd rs1 immediate) is = filled-keeps m rd _ is
-executed-keeps m (Lwu rd rs1 immediate) is = filled-keeps m rd _ is
-executed-keeps m (Sb rs1 rs2 immediate) is = put_at-keeps m _ 1 _ is
-executed-keeps m (Sh rs1 rs2 immediate) is = put_at-keeps m _ 2 _ is
-executed-keeps m (Sw rs1 rs2 immediate) is = put_at-keeps m _ 4 _ is
-executed-keeps m (Sd rs1 rs2 immediate) is = put_at-keeps m _ 8 _ is
+executed-keeps m (Lb rd rs1 immediate) is = load_result-keeps m rd _ is
+executed-keeps m (Lh rd rs1 immediate) is = load_result-keeps m rd _ is
+executed-keeps m (Lw rd rs1 immediate) is = load_result-keeps m rd _ is
+executed-keeps m (Ld rd rs1 immediate) is = load_result-keeps m rd _ is
+executed-keeps m (Lbu rd rs1 immediate) is = load_result-keeps m rd _ is
+executed-keeps m (Lhu rd rs1 immediate) is = load_result-keeps m rd _ is
+executed-keeps m (Lwu rd rs1 immediate) is = load_result-keeps m rd _ is
+executed-keeps m (Sb rs1 rs2 immediate) is = store_at-keeps m _ 1 _ is
+executed-keeps m (Sh rs1 rs2 immediate) is = store_at-keeps m _ 2 _ is
+executed-keeps m (Sw rs1 rs2 immediate) is = store_at-keeps m _ 4 _ is
+executed-keeps m (Sd rs1 rs2 immediate) is = store_at-keeps m _ 8 _ is
 executed-keeps m (Addi rd rs1 immediate) is = wrote-keeps m rd _ is
 executed-keeps m (Slti rd rs1 immediate) is = wrote-keeps m rd _ is
 executed-keeps m (Sltiu rd rs1 immediate) is = wrote-keeps m rd _ is
@@ -155,6 +155,10 @@ executed-keeps m Ebreak is = is
 executed-keeps m (ReadCounter rd counter) is = is
 executed-keeps m Unknown is = is
 
+pub instruction-keeps : (m m' : Machine) (i : Instr) (step : Step) → executed m i ≡ record { step = step; machine = m' } → IsMachine m → IsMachine m'
+unfolding Keeps
+instruction-keeps m m' i step gives is = subst (λ (next : Stepped). IsMachine next.machine) gives (executed-keeps m i is)
+
 fetched-keeps : (m : Machine) (r : Result ℕ Miss) → IsMachine m → let next = fetched m r in IsMachine next.machine
 unfolding Keeps
 fetched-keeps m (Ok word) is = executed-keeps m (instr word) is
@@ -162,7 +166,7 @@ fetched-keeps m (Err miss) is = is
 
 pub exec-keeps : (m : Machine) → IsMachine m → let next = exec m in IsMachine next.machine
 unfolding exec
-exec-keeps m is = elim (eqb (m.pc % 4) 0) as (λ b. let next = cond b (fetched m (loaded (load m.space EXECUTE m.pc 4))) (record { step = Fault 7; machine = m }) in IsMachine next.machine) [
+exec-keeps m is = elim (eqb (m.pc % 4) 0) as (λ b. let next = cond b (fetched m (loaded_number (load m.space EXECUTE m.pc 4))) (record { step = Fault SIGBUS; machine = m }) in IsMachine next.machine) [
   | true ↦ fetched-keeps m _ is
   | false ↦ is
 ]
@@ -184,7 +188,7 @@ unfolding segment_of
 segment-keeps m is = run_steps-keeps SEGMENT_LIMIT 0 m is
 
 pub answered-keeps : (m : Machine) (value : ℕ) → IsMachine m → IsMachine (answered m value)
-answered-keeps m value is = advanced-keeps _ (with_register-keeps m 10 value is)
+answered-keeps m value is = advanced-keeps _ (with_register-keeps m A0 value is)
 
-pub counted-keeps : (m : Machine) (rd value : ℕ) → IsMachine m → IsMachine (counted m rd value)
-counted-keeps m rd value is = advanced-keeps _ (with_register-keeps m rd value is)
+pub counter_read-keeps : (m : Machine) (rd value : ℕ) → IsMachine m → IsMachine (counter_read m rd value)
+counter_read-keeps m rd value is = advanced-keeps _ (with_register-keeps m rd value is)

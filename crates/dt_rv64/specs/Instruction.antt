@@ -1,4 +1,5 @@
--- The instruction that a word is, by opcode (RISC-V unprivileged specification, "RV32/64G Instruction Set Listings": RV32I, RV64I, RV32M and RV64M, and Zicntr's counter reads). A word that stands in none of these lists is Unknown.
+-- The instruction that a word is, by opcode (RISC-V unprivileged specification, "RV32/64G Instruction Set Listings":
+-- RV32I, RV64I, RV32M and RV64M, and Zicntr's counter reads). A word that stands in none of these lists is Unknown.
 use Rattle.std.specs.Prelude.{ℕ, ◌==◌, ◌&&◌, nat_le, if◌then◌else◌}
 use Rattle.dt_rv64.specs.declared.instruction.Instr.{Instr}
 use Rattle.dt_rv64.specs.declared.instruction.Instr.TheVariants.{Lui, Auipc, Jal, Jalr, Beq, Bne, Blt, Bge, Bltu, Bgeu, Lb, Lh, Lw, Ld, Lbu, Lhu, Lwu, Sb, Sh, Sw, Sd, Fence, Ecall, Ebreak, ReadCounter, Unknown}
@@ -48,7 +49,8 @@ misc_mem_of word = if funct3 word == 0 then Fence else Unknown
 -- CSRRS with x0, of cycle, time or instret
 abbrev pub read_counter_of : ℕ → Instr
 read_counter_of word =
-    if (funct3 word == 2) && (rs1 word == 0) && nat_le 0xC00 (csr word) && nat_le (csr word) 0xC02 then ReadCounter (rd word) (csr word)
+    if (funct3 word == 2) && (rs1 word == 0) && nat_le 0xC00 (csr word) && nat_le (csr word) 0xC02
+    then ReadCounter (rd word) (csr word)
     else Unknown
 
 -- SYSTEM

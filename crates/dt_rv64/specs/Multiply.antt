@@ -1,7 +1,8 @@
--- Multiplication and division of words of 64 bits (RISC-V unprivileged specification, "M" extension). Division truncates. By zero the quotient is all ones and the remainder the dividend.
-use Rattle.std.specs.Prelude.{ℕ, ◌+◌, ◌-◌, ◌*◌, ◌/◌, ◌%◌, ◌^◌, pos, ◌*ℤ◌, ◌==◌, int_div, int_rem, nat_lt, if◌then◌else◌}
+-- Multiplication and division of words of 64 bits (RISC-V unprivileged specification, "M" extension). Division
+-- truncates. By zero the quotient is all ones and the remainder the dividend.
+use Rattle.std.specs.Prelude.{ℕ, ◌+◌, ◌-◌, ◌*◌, ◌/◌, ◌%◌, ◌^◌, pos, ◌*ℤ◌, ◌==◌, int_div, int_rem, if◌then◌else◌}
 use Rattle.std.specs.Int.{cast_unsigned, int_shr, w32}
-use Rattle.dt_rv64.specs.Words.{word_of, signed_of, low_32, signed_32, extended}
+use Rattle.dt_rv64.specs.Words.{word_of, signed_of, low_32, signed_32, sign_extended}
 
 -- the lower half of the product of 128 bits
 abbrev pub mul : ℕ → ℕ → ℕ
@@ -37,24 +38,22 @@ remu a b = if b == 0 then a else a % b
 
 -- the product of 32 bits, sign-extended
 abbrev pub mulw : ℕ → ℕ → ℕ
-mulw a b = extended 32 (a * b)
+mulw a b = sign_extended 32 (a * b)
 
 -- the signed quotient of 32 bits
 abbrev pub divw : ℕ → ℕ → ℕ
-divw a b = if low_32 b == 0 then 2 ^ 64 - 1 else extended 32 (cast_unsigned w32 (int_div (signed_32 a) (signed_32 b)))
+divw a b =
+    if low_32 b == 0 then 2 ^ 64 - 1
+    else sign_extended 32 (cast_unsigned w32 (int_div (signed_32 a) (signed_32 b)))
 
 -- the quotient of 32 bits
 abbrev pub divuw : ℕ → ℕ → ℕ
-divuw a b = if low_32 b == 0 then 2 ^ 64 - 1 else extended 32 (low_32 a / low_32 b)
+divuw a b = if low_32 b == 0 then 2 ^ 64 - 1 else sign_extended 32 (low_32 a / low_32 b)
 
 -- the signed remainder of 32 bits
 abbrev pub remw : ℕ → ℕ → ℕ
-remw a b = if low_32 b == 0 then extended 32 a else word_of (int_rem (signed_32 a) (signed_32 b))
+remw a b = if low_32 b == 0 then sign_extended 32 a else word_of (int_rem (signed_32 a) (signed_32 b))
 
 -- the remainder of 32 bits
 abbrev pub remuw : ℕ → ℕ → ℕ
-remuw a b = if low_32 b == 0 then extended 32 a else extended 32 (low_32 a % low_32 b)
-
--- a word sign-extended to 128 bits, from whose products the code takes the upper half
-abbrev pub wide : ℕ → ℕ
-wide a = if nat_lt a (2 ^ 63) then a else a + (2 ^ 128 - 2 ^ 64)
+remuw a b = if low_32 b == 0 then sign_extended 32 a else sign_extended 32 (low_32 a % low_32 b)

@@ -1,4 +1,5 @@
--- The instructions that compute a register from registers and immediates, by funct3 and funct7 (RISC-V unprivileged specification, "RV32/64G Instruction Set Listings": RV32I, RV64I, RV32M and RV64M).
+-- The instructions that compute a register from registers and immediates, by funct3 and funct7 (RISC-V unprivileged
+-- specification, "RV32/64G Instruction Set Listings": RV32I, RV64I, RV32M and RV64M).
 use Rattle.std.specs.Prelude.{ℕ, ◌==◌, if◌then◌else◌}
 use Rattle.dt_rv64.specs.declared.instruction.Instr.{Instr}
 use Rattle.dt_rv64.specs.declared.instruction.Instr.TheVariants.{Addi, Slti, Sltiu, Xori, Ori, Andi, Slli, Srli, Srai, Add, Sub, Sll, Slt, Sltu, Xor, Srl, Sra, Or, And, Mul, Mulh, Mulhsu, Mulhu, Div, Divu, Rem, Remu, Addiw, Slliw, Srliw, Sraiw, Addw, Subw, Sllw, Srlw, Sraw, Mulw, Divw, Divuw, Remw, Remuw, Unknown}
@@ -38,7 +39,7 @@ shift_right_32_of word =
     else if funct7 word == 0x20 then Sraiw (rd word) (rs1 word) (rs2 word)
     else Unknown
 
--- OP-IMM-32; a shift stands at the place of rs2
+-- OP-IMM-32; a shift stands where rs2 stands elsewhere
 abbrev pub op_imm_32_of : ℕ → Instr
 op_imm_32_of word =
     if funct3 word == 0 then Addiw (rd word) (rs1 word) (i_immediate word)

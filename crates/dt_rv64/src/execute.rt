@@ -1,31 +1,24 @@
 // One instruction carried out, by class.
 ghost use Rattle.std.specs.Prelude.{◌≡◌};
-ghost use Rattle.dt_rv64.specs.Classes.{IsFrom, Branch, Load, Store, Immediate, Register, Word, Multiply, MultiplyWord};
+ghost use Rattle.dt_rv64.specs.inner.Classes.{IsFrom, Branch, Load, Store, Immediate, Register, Word, Multiply, MultiplyWord};
 ghost use Rattle.dt_rv64.specs.Machine.{executed};
 
 use crate::instruction::Instr;
 use crate::machine::{Machine, Step};
-use crate::memory::{signed_8, signed_16, signed_32};
-use crate::multiply::{
-    divide, divide_32, divide_unsigned, divide_unsigned_32, multiply_32, multiply_high,
-    multiply_high_mixed, multiply_high_unsigned, remainder, remainder_32, remainder_unsigned,
-    remainder_unsigned_32,
-};
-use crate::signal::{SIGILL, SIGTRAP};
-use crate::words::{
-    add_32, left, left_32, less, less_unsigned, right, right_32, right_signed, right_signed_32,
-    subtract_32,
-};
-use dt_space::Near;
+use crate::memory::{sign_extended_read_8, sign_extended_read_16, sign_extended_read_32};
+use crate::multiply::{div, divu, divuw, divw, mulh, mulhsu, mulhu, mulw, rem, remu, remuw, remw};
+use crate::words::{addw, sll, sllw, slt, sltu, sra, sraw, srl, srlw, subw, word_of};
+use dt_base::abi::{SIGILL, SIGTRAP};
+use dt_space::PageHint;
 
 impl Machine {
     /// Carries out an instruction: here jumps and stops, and each class below hands on what is not its own.
     #[tactic(auto, unfolding(crate::specs::Machine::executed))]
-    pub(crate) fn execute(&mut self, instruction: Instr, data: &mut Near) -> Step
+    pub(crate) fn execute(&mut self, instruction: Instr, data: &mut PageHint) -> Step
         ensures { executed self.old instruction ≡ record { step = result; machine = self.new } }
     {
         match instruction {
-            Instr::Jal { rd, imm } => self.jump(rd, self.pc.wrapping_add_signed(imm)),
+            Instr::Jal { rd, imm } => self.jump(rd, self.relative(imm)),
             Instr::Jalr { rd, rs1, imm } => self.jump_register(rd, rs1, imm),
             Instr::Fence => self.advance(),
             Instr::Ecall => Step::Call,
@@ -38,7 +31,7 @@ impl Machine {
 
     // Branches.
     #[tactic(auto, unfolding(crate::specs::Machine::executed))]
-    fn branch_where(&mut self, instruction: Instr, data: &mut Near) -> Step
+    fn branch_where(&mut self, instruction: Instr, data: &mut PageHint) -> Step
         requires { IsFrom Branch instruction }
         ensures { executed self.old instruction ≡ record { step = result; machine = self.new } }
     {
@@ -61,38 +54,38 @@ impl Machine {
 
     // Loads.
     #[tactic(auto, unfolding(crate::specs::Machine::executed))]
-    fn load(&mut self, instruction: Instr, data: &mut Near) -> Step
+    fn load(&mut self, instruction: Instr, data: &mut PageHint) -> Step
         requires { IsFrom Load instruction }
         ensures { executed self.old instruction ≡ record { step = result; machine = self.new } }
     {
         match instruction {
             Instr::Lb { rd, rs1, imm } => {
-                let read = self.space.load1_near(data, self.address(rs1, imm));
-                self.fill(rd, signed_8(read))
+                let read = self.space.load1_hinted(data, self.address(rs1, imm));
+                self.finish_load(rd, sign_extended_read_8(read))
             }
             Instr::Lh { rd, rs1, imm } => {
-                let read = self.space.load2_near(data, self.address(rs1, imm));
-                self.fill(rd, signed_16(read))
+                let read = self.space.load2_hinted(data, self.address(rs1, imm));
+                self.finish_load(rd, sign_extended_read_16(read))
             }
             Instr::Lw { rd, rs1, imm } => {
-                let read = self.space.load4_near(data, self.address(rs1, imm));
-                self.fill(rd, signed_32(read))
+                let read = self.space.load4_hinted(data, self.address(rs1, imm));
+                self.finish_load(rd, sign_extended_read_32(read))
             }
             Instr::Ld { rd, rs1, imm } => {
-                let read = self.space.load8_near(data, self.address(rs1, imm));
-                self.fill(rd, read)
+                let read = self.space.load8_hinted(data, self.address(rs1, imm));
+                self.finish_load(rd, read)
             }
             Instr::Lbu { rd, rs1, imm } => {
-                let read = self.space.load1_near(data, self.address(rs1, imm));
-                self.fill(rd, read)
+                let read = self.space.load1_hinted(data, self.address(rs1, imm));
+                self.finish_load(rd, read)
             }
             Instr::Lhu { rd, rs1, imm } => {
-                let read = self.space.load2_near(data, self.address(rs1, imm));
-                self.fill(rd, read)
+                let read = self.space.load2_hinted(data, self.address(rs1, imm));
+                self.finish_load(rd, read)
             }
             Instr::Lwu { rd, rs1, imm } => {
-                let read = self.space.load4_near(data, self.address(rs1, imm));
-                self.fill(rd, read)
+                let read = self.space.load4_hinted(data, self.address(rs1, imm));
+                self.finish_load(rd, read)
             }
             _ => self.store(instruction, data),
         }
@@ -100,7 +93,7 @@ impl Machine {
 
     // Stores.
     #[tactic(auto, unfolding(crate::specs::Machine::executed))]
-    fn store(&mut self, instruction: Instr, data: &mut Near) -> Step
+    fn store(&mut self, instruction: Instr, data: &mut PageHint) -> Step
         requires { IsFrom Store instruction }
         ensures { executed self.old instruction ≡ record { step = result; machine = self.new } }
     {
@@ -136,26 +129,17 @@ impl Machine {
         ensures { executed self.old instruction ≡ record { step = result; machine = self.new } }
     {
         match instruction {
-            Instr::Lui { rd, imm } => self.put(rd, imm.cast_unsigned()),
-            Instr::Auipc { rd, imm } => self.put(rd, self.pc.wrapping_add_signed(imm)),
-            Instr::Addi { rd, rs1, imm } => self.put(
-                rd,
-                self.reg(rs1).wrapping_add(imm.cast_unsigned()),
-            ),
-            Instr::Slti { rd, rs1, imm } => self.put(rd, less(self.reg(rs1), imm.cast_unsigned())),
-            Instr::Sltiu { rd, rs1, imm } => self.put(
-                rd,
-                less_unsigned(self.reg(rs1), imm.cast_unsigned()),
-            ),
-            Instr::Xori { rd, rs1, imm } => self.put(rd, self.reg(rs1) ^ imm.cast_unsigned()),
-            Instr::Ori { rd, rs1, imm } => self.put(rd, self.reg(rs1) | imm.cast_unsigned()),
-            Instr::Andi { rd, rs1, imm } => self.put(rd, self.reg(rs1) & imm.cast_unsigned()),
-            Instr::Slli { rd, rs1, shift } => self.put(rd, left(self.reg(rs1), u64::from(shift))),
-            Instr::Srli { rd, rs1, shift } => self.put(rd, right(self.reg(rs1), u64::from(shift))),
-            Instr::Srai { rd, rs1, shift } => self.put(
-                rd,
-                right_signed(self.reg(rs1), u64::from(shift)),
-            ),
+            Instr::Lui { rd, imm } => self.put(rd, word_of(imm)),
+            Instr::Auipc { rd, imm } => self.put(rd, self.relative(imm)),
+            Instr::Addi { rd, rs1, imm } => self.put(rd, self.reg(rs1).wrapping_add(word_of(imm))),
+            Instr::Slti { rd, rs1, imm } => self.put(rd, slt(self.reg(rs1), word_of(imm))),
+            Instr::Sltiu { rd, rs1, imm } => self.put(rd, sltu(self.reg(rs1), word_of(imm))),
+            Instr::Xori { rd, rs1, imm } => self.put(rd, self.reg(rs1) ^ word_of(imm)),
+            Instr::Ori { rd, rs1, imm } => self.put(rd, self.reg(rs1) | word_of(imm)),
+            Instr::Andi { rd, rs1, imm } => self.put(rd, self.reg(rs1) & word_of(imm)),
+            Instr::Slli { rd, rs1, shift } => self.put(rd, sll(self.reg(rs1), u64::from(shift))),
+            Instr::Srli { rd, rs1, shift } => self.put(rd, srl(self.reg(rs1), u64::from(shift))),
+            Instr::Srai { rd, rs1, shift } => self.put(rd, sra(self.reg(rs1), u64::from(shift))),
             _ => self.compute(instruction),
         }
     }
@@ -169,15 +153,12 @@ impl Machine {
         match instruction {
             Instr::Add { rd, rs1, rs2 } => self.put(rd, self.reg(rs1).wrapping_add(self.reg(rs2))),
             Instr::Sub { rd, rs1, rs2 } => self.put(rd, self.reg(rs1).wrapping_sub(self.reg(rs2))),
-            Instr::Sll { rd, rs1, rs2 } => self.put(rd, left(self.reg(rs1), self.reg(rs2))),
-            Instr::Slt { rd, rs1, rs2 } => self.put(rd, less(self.reg(rs1), self.reg(rs2))),
-            Instr::Sltu { rd, rs1, rs2 } => self.put(
-                rd,
-                less_unsigned(self.reg(rs1), self.reg(rs2)),
-            ),
+            Instr::Sll { rd, rs1, rs2 } => self.put(rd, sll(self.reg(rs1), self.reg(rs2))),
+            Instr::Slt { rd, rs1, rs2 } => self.put(rd, slt(self.reg(rs1), self.reg(rs2))),
+            Instr::Sltu { rd, rs1, rs2 } => self.put(rd, sltu(self.reg(rs1), self.reg(rs2))),
             Instr::Xor { rd, rs1, rs2 } => self.put(rd, self.reg(rs1) ^ self.reg(rs2)),
-            Instr::Srl { rd, rs1, rs2 } => self.put(rd, right(self.reg(rs1), self.reg(rs2))),
-            Instr::Sra { rd, rs1, rs2 } => self.put(rd, right_signed(self.reg(rs1), self.reg(rs2))),
+            Instr::Srl { rd, rs1, rs2 } => self.put(rd, srl(self.reg(rs1), self.reg(rs2))),
+            Instr::Sra { rd, rs1, rs2 } => self.put(rd, sra(self.reg(rs1), self.reg(rs2))),
             Instr::Or { rd, rs1, rs2 } => self.put(rd, self.reg(rs1) | self.reg(rs2)),
             Instr::And { rd, rs1, rs2 } => self.put(rd, self.reg(rs1) & self.reg(rs2)),
             _ => self.compute_32(instruction),
@@ -191,30 +172,15 @@ impl Machine {
         ensures { executed self.old instruction ≡ record { step = result; machine = self.new } }
     {
         match instruction {
-            Instr::Addiw { rd, rs1, imm } => self.put(
-                rd,
-                add_32(self.reg(rs1), imm.cast_unsigned()),
-            ),
-            Instr::Slliw { rd, rs1, shift } => self.put(
-                rd,
-                left_32(self.reg(rs1), u64::from(shift)),
-            ),
-            Instr::Srliw { rd, rs1, shift } => self.put(
-                rd,
-                right_32(self.reg(rs1), u64::from(shift)),
-            ),
-            Instr::Sraiw { rd, rs1, shift } => self.put(
-                rd,
-                right_signed_32(self.reg(rs1), u64::from(shift)),
-            ),
-            Instr::Addw { rd, rs1, rs2 } => self.put(rd, add_32(self.reg(rs1), self.reg(rs2))),
-            Instr::Subw { rd, rs1, rs2 } => self.put(rd, subtract_32(self.reg(rs1), self.reg(rs2))),
-            Instr::Sllw { rd, rs1, rs2 } => self.put(rd, left_32(self.reg(rs1), self.reg(rs2))),
-            Instr::Srlw { rd, rs1, rs2 } => self.put(rd, right_32(self.reg(rs1), self.reg(rs2))),
-            Instr::Sraw { rd, rs1, rs2 } => self.put(
-                rd,
-                right_signed_32(self.reg(rs1), self.reg(rs2)),
-            ),
+            Instr::Addiw { rd, rs1, imm } => self.put(rd, addw(self.reg(rs1), word_of(imm))),
+            Instr::Slliw { rd, rs1, shift } => self.put(rd, sllw(self.reg(rs1), u64::from(shift))),
+            Instr::Srliw { rd, rs1, shift } => self.put(rd, srlw(self.reg(rs1), u64::from(shift))),
+            Instr::Sraiw { rd, rs1, shift } => self.put(rd, sraw(self.reg(rs1), u64::from(shift))),
+            Instr::Addw { rd, rs1, rs2 } => self.put(rd, addw(self.reg(rs1), self.reg(rs2))),
+            Instr::Subw { rd, rs1, rs2 } => self.put(rd, subw(self.reg(rs1), self.reg(rs2))),
+            Instr::Sllw { rd, rs1, rs2 } => self.put(rd, sllw(self.reg(rs1), self.reg(rs2))),
+            Instr::Srlw { rd, rs1, rs2 } => self.put(rd, srlw(self.reg(rs1), self.reg(rs2))),
+            Instr::Sraw { rd, rs1, rs2 } => self.put(rd, sraw(self.reg(rs1), self.reg(rs2))),
             _ => self.multiply(instruction),
         }
     }
@@ -227,28 +193,13 @@ impl Machine {
     {
         match instruction {
             Instr::Mul { rd, rs1, rs2 } => self.put(rd, self.reg(rs1).wrapping_mul(self.reg(rs2))),
-            Instr::Mulh { rd, rs1, rs2 } => self.put(
-                rd,
-                multiply_high(self.reg(rs1), self.reg(rs2)),
-            ),
-            Instr::Mulhsu { rd, rs1, rs2 } => self.put(
-                rd,
-                multiply_high_mixed(self.reg(rs1), self.reg(rs2)),
-            ),
-            Instr::Mulhu { rd, rs1, rs2 } => self.put(
-                rd,
-                multiply_high_unsigned(self.reg(rs1), self.reg(rs2)),
-            ),
-            Instr::Div { rd, rs1, rs2 } => self.put(rd, divide(self.reg(rs1), self.reg(rs2))),
-            Instr::Divu { rd, rs1, rs2 } => self.put(
-                rd,
-                divide_unsigned(self.reg(rs1), self.reg(rs2)),
-            ),
-            Instr::Rem { rd, rs1, rs2 } => self.put(rd, remainder(self.reg(rs1), self.reg(rs2))),
-            Instr::Remu { rd, rs1, rs2 } => self.put(
-                rd,
-                remainder_unsigned(self.reg(rs1), self.reg(rs2)),
-            ),
+            Instr::Mulh { rd, rs1, rs2 } => self.put(rd, mulh(self.reg(rs1), self.reg(rs2))),
+            Instr::Mulhsu { rd, rs1, rs2 } => self.put(rd, mulhsu(self.reg(rs1), self.reg(rs2))),
+            Instr::Mulhu { rd, rs1, rs2 } => self.put(rd, mulhu(self.reg(rs1), self.reg(rs2))),
+            Instr::Div { rd, rs1, rs2 } => self.put(rd, div(self.reg(rs1), self.reg(rs2))),
+            Instr::Divu { rd, rs1, rs2 } => self.put(rd, divu(self.reg(rs1), self.reg(rs2))),
+            Instr::Rem { rd, rs1, rs2 } => self.put(rd, rem(self.reg(rs1), self.reg(rs2))),
+            Instr::Remu { rd, rs1, rs2 } => self.put(rd, remu(self.reg(rs1), self.reg(rs2))),
             _ => self.multiply_word(instruction),
         }
     }
@@ -260,20 +211,11 @@ impl Machine {
         ensures { executed self.old instruction ≡ record { step = result; machine = self.new } }
     {
         match instruction {
-            Instr::Mulw { rd, rs1, rs2 } => self.put(rd, multiply_32(self.reg(rs1), self.reg(rs2))),
-            Instr::Divw { rd, rs1, rs2 } => self.put(rd, divide_32(self.reg(rs1), self.reg(rs2))),
-            Instr::Divuw { rd, rs1, rs2 } => self.put(
-                rd,
-                divide_unsigned_32(self.reg(rs1), self.reg(rs2)),
-            ),
-            Instr::Remw { rd, rs1, rs2 } => self.put(
-                rd,
-                remainder_32(self.reg(rs1), self.reg(rs2)),
-            ),
-            Instr::Remuw { rd, rs1, rs2 } => self.put(
-                rd,
-                remainder_unsigned_32(self.reg(rs1), self.reg(rs2)),
-            ),
+            Instr::Mulw { rd, rs1, rs2 } => self.put(rd, mulw(self.reg(rs1), self.reg(rs2))),
+            Instr::Divw { rd, rs1, rs2 } => self.put(rd, divw(self.reg(rs1), self.reg(rs2))),
+            Instr::Divuw { rd, rs1, rs2 } => self.put(rd, divuw(self.reg(rs1), self.reg(rs2))),
+            Instr::Remw { rd, rs1, rs2 } => self.put(rd, remw(self.reg(rs1), self.reg(rs2))),
+            Instr::Remuw { rd, rs1, rs2 } => self.put(rd, remuw(self.reg(rs1), self.reg(rs2))),
             _ => unreachable!(),
         }
     }

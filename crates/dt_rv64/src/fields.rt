@@ -3,77 +3,77 @@ ghost use Rattle.std.specs.Prelude.{◌≡◌, ◌<◌, ◌^◌};
 ghost use Rattle.dt_rv64.specs.Formats.{opcode, rd, rs1, rs2, funct3, funct6, funct7, shift, csr, signed, i_immediate, s_immediate, b_immediate, u_immediate, j_immediate};
 
 /// The bits that choose the list in which a word stands.
-pub fn operation(word: u32) -> u32
+pub fn opcode(word: u32) -> u32
     ensures { result ≡ opcode word }
 {
     word & 0x7f
 }
 
 /// The number of the register that is written, rd.
-pub fn destination(word: u32) -> u8
+pub fn rd(word: u32) -> u8
     ensures { result ≡ rd word }
 {
     (word >> 7 & 0x1f) as u8
 }
 
 /// The number of the first register that is read, rs1.
-pub fn first_source(word: u32) -> u8
+pub fn rs1(word: u32) -> u8
     ensures { result ≡ rs1 word }
 {
     (word >> 15 & 0x1f) as u8
 }
 
 /// The number of the second register that is read, rs2, and the shift of a 32-bit shift by an immediate.
-pub fn second_source(word: u32) -> u8
+pub fn rs2(word: u32) -> u8
     ensures { result ≡ rs2 word }
 {
     (word >> 20 & 0x1f) as u8
 }
 
 /// The shift of a 64-bit shift by an immediate.
-pub fn shift_amount(word: u32) -> u8
+pub fn shift(word: u32) -> u8
     ensures { result ≡ shift word }
 {
     (word >> 20 & 0x3f) as u8
 }
 
 /// The bits of funct3.
-pub fn minor(word: u32) -> u32
+pub fn funct3(word: u32) -> u32
     ensures { result ≡ funct3 word }
 {
     word >> 12 & 7
 }
 
 /// The bits of funct7.
-pub fn upper(word: u32) -> u32
+pub fn funct7(word: u32) -> u32
     ensures { result ≡ funct7 word }
 {
     word >> 25
 }
 
 /// What stands above a shift of six bits.
-pub fn above_shift(word: u32) -> u32
+pub fn funct6(word: u32) -> u32
     ensures { result ≡ funct6 word }
 {
     word >> 26
 }
 
 /// The number of a control and status register.
-pub fn counter_number(word: u32) -> u16
+pub fn csr(word: u32) -> u16
     ensures { result ≡ csr word }
 {
     (word >> 20) as u16
 }
 
 /// The I immediate, sign-extended.
-pub fn low_immediate(word: u32) -> i64
+pub fn i_immediate(word: u32) -> i64
     ensures { result ≡ i_immediate word }
 {
     i64::from(word.cast_signed() >> 20)
 }
 
 /// The S immediate, sign-extended.
-pub fn store_immediate(word: u32) -> i64
+pub fn s_immediate(word: u32) -> i64
     ensures { result ≡ s_immediate word }
 {
     let bits = (word >> 25 << 5) + (word >> 7 & 0x1f);
@@ -81,7 +81,7 @@ pub fn store_immediate(word: u32) -> i64
 }
 
 /// The B immediate, an offset in bytes.
-pub fn branch_immediate(word: u32) -> i64
+pub fn b_immediate(word: u32) -> i64
     ensures { result ≡ b_immediate word }
 {
     let low = ((word >> 25 & 0x3f) << 5) + ((word >> 8 & 0xf) << 1);
@@ -90,14 +90,14 @@ pub fn branch_immediate(word: u32) -> i64
 }
 
 /// The U immediate, its low 12 bits 0, sign-extended.
-pub fn upper_immediate(word: u32) -> i64
+pub fn u_immediate(word: u32) -> i64
     ensures { result ≡ u_immediate word }
 {
     i64::from((word & 0xffff_f000).cast_signed())
 }
 
 /// The J immediate, an offset in bytes.
-pub fn jump_immediate(word: u32) -> i64
+pub fn j_immediate(word: u32) -> i64
     ensures { result ≡ j_immediate word }
 {
     let low = ((word >> 20 & 1) << 11) + ((word >> 21 & 0x3ff) << 1);

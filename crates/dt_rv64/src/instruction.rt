@@ -1,7 +1,7 @@
 // Instructions.
 
-/// An instruction of RV64IM (RISC-V unprivileged specification, chapters RV32I, RV64I and M, and Zicntr's counter reads). Registers
-/// are numbers below 32, immediates are sign-extended.
+/// An instruction of RV64IM (RISC-V unprivileged specification, chapters RV32I, RV64I and M, and Zicntr's counter
+/// reads). Registers are numbers below 32, immediates are sign-extended.
 #[derive(Clone, Copy, Debug)]
 pub enum Instr {
     /// Load upper immediate: the immediate with its twelve zeros.

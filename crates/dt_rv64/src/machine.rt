@@ -1,11 +1,13 @@
 // The machine: registers, a program counter and a space, and one step of it.
 ghost use Rattle.std.specs.Prelude.{◌≡◌, ◌≢◌};
-ghost use Rattle.dt_rv64.specs.Effects.{register, with_register, wrote, jumped, branched, passed, relative, even, address, answered, counted};
+ghost use Rattle.dt_rv64.specs.Effects.{register, with_register, wrote, jumped, branched, passed, relative, even, address, answered, counter_read};
 ghost use Rattle.dt_rv64.specs.Machine.{exec};
+ghost use Rattle.dt_rv64.specs.Valid.{IsMachine};
 
 use crate::decoder::decode;
-use crate::signal::{SIGBUS, SIGSEGV};
-use dt_space::{Near, Space};
+use crate::words::word_of;
+use dt_base::abi::{A0, SIGBUS, SIGSEGV};
+use dt_space::{PageHint, Space};
 
 /// What a step came to. Only `Ran` changes the machine.
 #[derive(Clone, Copy, Debug, PartialEq, Eq)]
@@ -48,17 +50,19 @@ impl Machine {
         }
     }
 
-    /// Ends a system call: its answer in register 10 (a0), and on to the next instruction.
+    /// Ends a system call: its answer in a0, and on to the next instruction.
     pub fn answer(&mut self, value: u64)
-        ensures { self.new ≡ answered self.old value }
+        ensures answered { self.new ≡ answered self.old value }
+        ensures sound { IsMachine self.old → IsMachine self.new }
     {
-        self.set_reg(10, value);
+        self.set_reg(A0, value);
         self.pc = self.pc.wrapping_add(4);
     }
 
     /// Ends the read of a counter: its value in the register, and on to the next instruction.
     pub fn read_counter(&mut self, rd: u8, value: u64)
-        ensures { self.new ≡ counted self.old rd value }
+        ensures read { self.new ≡ counter_read self.old rd value }
+        ensures sound { IsMachine self.old → IsMachine self.new }
     {
         self.set_reg(rd, value);
         self.pc = self.pc.wrapping_add(4);
@@ -68,20 +72,22 @@ impl Machine {
     pub fn step(&mut self) -> Step
         ensures stays { result ≢ Step.Ran → self.new ≡ self.old }
         ensures stepped { exec self.old ≡ record { step = result; machine = self.new } }
+        ensures sound { IsMachine self.old → IsMachine self.new }
     {
-        self.step_near(&mut Near::new(), &mut Near::new())
+        self.step_hinted(&mut PageHint::new(), &mut PageHint::new())
     }
 
     /// Takes one step, with hints where code and data stand. No answer depends on them.
     #[tactic(auto, unfolding(crate::specs::Machine::exec))]
-    pub fn step_near(&mut self, code: &mut Near, data: &mut Near) -> Step
+    pub fn step_hinted(&mut self, code: &mut PageHint, data: &mut PageHint) -> Step
         ensures stays { result ≢ Step.Ran → self.new ≡ self.old }
         ensures stepped { exec self.old ≡ record { step = result; machine = self.new } }
+        ensures sound { IsMachine self.old → IsMachine self.new }
     {
         if self.pc % 4 != 0 {
             return Step::Fault(SIGBUS);
         }
-        match self.space.fetch_near(code, self.pc) {
+        match self.space.fetch_hinted(code, self.pc) {
             Ok(word) => self.execute(decode(word), data),
             Err(_) => Step::Fault(SIGSEGV),
         }
@@ -116,20 +122,28 @@ impl Machine {
         Step::Ran
     }
 
+    /// The address at an offset from this instruction.
+    pub(crate) fn relative(&self, offset: i64) -> u64
+        ensures { result ≡ relative self.now offset }
+    {
+        self.pc.wrapping_add(word_of(offset))
+    }
+
     /// Jumps to an offset from what a register held before the jump, with bit 0 cleared.
     pub(crate) fn jump_register(&mut self, rd: u8, rs1: u8, imm: i64) -> Step
         ensures { jumped self.old rd (even (address self.old rs1 imm)) ≡ record { step = result; machine = self.new } }
     {
-        let target = cleared(self.address(rs1, imm));
+        let target = even(self.address(rs1, imm));
         self.jump(rd, target)
     }
 
     /// Jumps by an offset where the branch is taken.
     pub(crate) fn branch(&mut self, taken: bool, offset: i64) -> Step
-        ensures { branched self.old taken (relative self.old offset) ≡ record { step = result; machine = self.new } }
+        ensures { branched self.old taken (relative self.old offset) ≡
+            record { step = result; machine = self.new } }
     {
         if taken {
-            self.jump(0, self.pc.wrapping_add_signed(offset))
+            self.jump(0, self.relative(offset))
         } else {
             self.advance()
         }
@@ -137,7 +151,7 @@ impl Machine {
 }
 
 // An address with bit 0 cleared.
-fn cleared(address: u64) -> u64
+fn even(address: u64) -> u64
     ensures { result ≡ even address }
 {
     address & !1

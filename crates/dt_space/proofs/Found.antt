@@ -5,8 +5,9 @@ use Rattle.std.proofs.lemmas.Bool.{cases_lt}
 use Rattle.std.proofs.lemmas.Bool.Decides.{eqb_tells, nat_tests}
 use Rattle.dt_base.specs.declared.limits.TheConstants.{PAGE_SIZE}
 use Rattle.dt_space.specs.Space.{PageView, granted, page_at}
-use Rattle.dt_space.specs.Pages.{filled, pages_from}
+use Rattle.dt_space.specs.Pages.{zero_padded, pages_from}
 use Rattle.dt_space.specs.Ranges.{is_in, mapped, unmapped, with_rights, protected}
+use Rattle.dt_space.proofs.Spaces.{with_rights-number}
 use Rattle.dt_space.specs.RangeLaws.{KeepsOthers, HasZeros, HasNone, HasRights, given}
 
 -- the first of two
@@ -18,11 +19,11 @@ either-none : (page : Option PageView) → either page None ≡ page
 either-none (Some page) = refl
 either-none None = refl
 
-page_at-append : (front back : List PageView) (number : ℕ) → page_at (front ++ back) number ≡ either (page_at front number) (page_at back number)
+page_at-append : (prefix back : List PageView) (number : ℕ) → page_at (prefix ++ back) number ≡ either (page_at prefix number) (page_at back number)
 page_at-append [] back number = refl
-page_at-append (x ∷ front) back number = by-test (eqb x.number number) (page_at-append front back number)
+page_at-append (x ∷ prefix) back number = by-test (eqb x.number number) (page_at-append prefix back number)
   where
-    by-test : (b : Bool) → page_at (front ++ back) number ≡ either (page_at front number) (page_at back number) → cond b (Some x) (page_at (front ++ back) number) ≡ either (cond b (Some x) (page_at front number)) (page_at back number)
+    by-test : (b : Bool) → page_at (prefix ++ back) number ≡ either (page_at prefix number) (page_at back number) → cond b (Some x) (page_at (prefix ++ back) number) ≡ either (cond b (Some x) (page_at prefix number)) (page_at back number)
     by-test true rest = refl
     by-test false rest = rest
 
@@ -66,7 +67,7 @@ from-over first rights (suc count) number le =
     rw other (from-over (first + 1) rights count number (omega arith))
 
 from-in : (first rights count number : ℕ) → first ≤ number → number < first + count → page_at (pages_from first rights [] count) number ≡ Some (record { number = number; rights = rights; bytes = replicate PAGE_SIZE 0 })
-unfolding pages_from filled
+unfolding pages_from zero_padded
 from-in first rights zero number le lt = absurd (omega arith)
 from-in first rights (suc count) number le lt = by-number (eqb_tells first number) (λ (apart : first ≢ number). from-in (first + 1) rights count number (omega arith) (omega arith))
   where
@@ -142,13 +143,6 @@ pub unmapped-none : (pages : List PageView) (first count : ℕ) → HasNone (unm
 unmapped-none pages first count number here = page_at-gone (λ (page : PageView). not (is_in first count page.number)) pages number (λ page same. ap not (ap (is_in first count) same ∙ here))
 
 -- given other rights
-with_rights-number : (first count rights : ℕ) (page : PageView) → (with_rights first count rights page).number ≡ page.number
-with_rights-number first count rights page = by-test (is_in first count page.number)
-  where
-    by-test : (b : Bool) → (cond b (record page { rights = rights }) page).number ≡ page.number
-    by-test true = refl
-    by-test false = refl
-
 page_at-number : (pages : List PageView) (number : ℕ) (page : PageView) → page_at pages number ≡ Some page → page.number ≡ number
 page_at-number [] number page is = absurd cc
 page_at-number (x ∷ pages) number page is = by-number (eqb_tells x.number number) (page_at-number pages number page)

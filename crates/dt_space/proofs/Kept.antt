@@ -7,13 +7,13 @@ use Rattle.dt_base.specs.declared.limits.TheConstants.{PAGE_SIZE}
 use Rattle.dt_space.specs.declared.access.Miss.{Miss}
 use Rattle.dt_space.specs.declared.access.TheConstants.{WRITE}
 use Rattle.dt_space.specs.Space.{PageView, has, page_at, byte_of, byte_at, low_byte, load}
-use Rattle.dt_space.specs.Piece.{IsPart}
+use Rattle.dt_space.specs.inner.Piece.{IsPart}
 use Rattle.dt_space.specs.Written.{IsWritten}
 use Rattle.dt_space.specs.Write.{set_in, set_byte, write, stored}
 use Rattle.dt_space.proofs.Loads.{load-misses-not}
 use Rattle.dt_space.proofs.Writes.{write-none}
 
--- a list with one element changed, read at a place
+-- a list with one element changed, read at a index
 slice_get-set_same : (s : List ℕ) (i b : ℕ) → IsSome (slice_get s i) → slice_get (set s i b) i ≡ Some b
 slice_get-set_same [] i b is = absurd cc
 slice_get-set_same (x ∷ s) zero b is = refl
@@ -124,12 +124,12 @@ load-left pages right address m n total fits sum reached whole = by-result (load
     by-result (Err miss) is = absurd (load-misses-not pages right address m n total miss fits reached is sum whole)
 
 -- one write after another
-pub write-more : (front back : List ℕ) (pages : List PageView) (address : ℕ) → address < 2 ^ 64 → write pages address (front ++ back) ≡ write (write pages address front) ((address + length front) % 2 ^ 64) back
+pub write-more : (prefix back : List ℕ) (pages : List PageView) (address : ℕ) → address < 2 ^ 64 → write pages address (prefix ++ back) ≡ write (write pages address prefix) ((address + length prefix) % 2 ^ 64) back
 unfolding write
 write-more [] back pages address fits = let here : (address + 0) % 2 ^ 64 ≡ address = omega arith in rw here refl
-write-more (byte ∷ front) back pages address fits =
-    let next : ((address + 1) % 2 ^ 64 + length front) % 2 ^ 64 ≡ (address + suc (length front)) % 2 ^ 64 = omega arith in
-    write-more front back (set_byte pages address byte) ((address + 1) % 2 ^ 64) (omega arith) ∙ rw next refl
+write-more (byte ∷ prefix) back pages address fits =
+    let next : ((address + 1) % 2 ^ 64 + length prefix) % 2 ^ 64 ≡ (address + suc (length prefix)) % 2 ^ 64 = omega arith in
+    write-more prefix back (set_byte pages address byte) ((address + 1) % 2 ^ 64) (omega arith) ∙ rw next refl
 
 -- a store that is allowed, and one that misses at its first byte
 pub stored-allowed : (pages : List PageView) (address : ℕ) (bytes : List ℕ) → IsOk (load pages WRITE address (length bytes)) → stored pages address bytes ≡ Ok (write pages address bytes)
@@ -156,7 +156,7 @@ written-more start address bytes pages new done count rest fits before rest_is p
     let long : length rest ≡ length bytes - done = ap length rest_is ∙ length-drop done bytes in
     let next : (here + count) % 2 ^ 64 ≡ (address + (done + count)) % 2 ^ 64 = omega arith in
     let left : count + (length bytes - (done + count)) ≡ length bytes - done = omega (arith, part.within, before.within) in
-    let front : length (take count rest) ≡ count = length-take-le count rest part.within in
+    let prefix : length (take count rest) ≡ count = length-take-le count rest part.within in
     let reached : IsOk (load pages WRITE ((here + count) % 2 ^ 64) (length bytes - (done + count))) = load-left pages WRITE here count (length bytes - (done + count)) (length bytes - done) (omega arith) left part.loaded before.allowed in
     let kept : IsOk (load (write pages here (take count rest)) WRITE ((here + count) % 2 ^ 64) (length bytes - (done + count))) = load-kept pages (write pages here (take count rest)) WRITE (write-some (take count rest) pages WRITE here) _ _ reached in
     let parts : write pages here rest ≡ write (write pages here (take count rest)) ((here + length (take count rest)) % 2 ^ 64) (drop count rest) = ap (write pages here) (sym (take-append-drop count rest)) ∙ write-more (take count rest) (drop count rest) pages here (omega arith) in
@@ -164,7 +164,7 @@ written-more start address bytes pages new done count rest fits before rest_is p
       within = omega (arith, part.within, before.within);
       first = before.first;
       allowed = rw (new_is, ← next) kept;
-      written = before.written ∙ ap (write pages here) (sym rest_is) ∙ parts ∙ rw (front, next, new_is, rest_is, drop-drop count done bytes) refl;
+      written = before.written ∙ ap (write pages here) (sym rest_is) ∙ parts ∙ rw (prefix, next, new_is, rest_is, drop-drop count done bytes) refl;
     }
 
 pub written-start : (start : List PageView) (address : ℕ) (bytes : List ℕ) → address < 2 ^ 64 → IsOk (load start WRITE address (length bytes)) → Written start address bytes start 0

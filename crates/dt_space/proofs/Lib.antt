@@ -1,6 +1,7 @@
 pub mod Pages
 pub mod Loads
 pub mod Writes
+pub mod Spaces
 pub mod Kept
 pub mod Numbers
 pub mod Rights

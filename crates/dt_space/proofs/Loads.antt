@@ -3,7 +3,7 @@ use Rattle.std.proofs.Common.{◌≡◌, ℕ, zero, suc, ◌<◌, ◌≤◌, ◌
 use Rattle.dt_base.specs.declared.limits.TheConstants.{PAGE_SIZE}
 use Rattle.dt_space.specs.declared.access.Miss.{Miss}
 use Rattle.std.proofs.lemmas.List.{length-take-le, length-drop, length-append, append_assoc, take_at, drop_more}
-use Rattle.dt_space.specs.Piece.{IsRest, IsRestAt, IsPiece, Misses}
+use Rattle.dt_space.specs.inner.Piece.{IsRest, IsRestAt, IsPiece, Misses}
 use Rattle.dt_space.specs.Space.{PageView, has, page_at, byte_of, byte_at, low_byte, load}
 
 -- a byte of a list
@@ -53,52 +53,52 @@ module _ (pages : List PageView) (right number : ℕ) (page : PageView) (found :
 
 -- what was loaded, before what is loaded from there on
 abbrev pub joined : List ℕ → Result (List ℕ) Miss → Result (List ℕ) Miss
-joined front (Ok rest) = Ok (front ++ rest)
-joined front (Err miss) = Err miss
+joined prefix (Ok rest) = Ok (prefix ++ rest)
+joined prefix (Err miss) = Err miss
 
 joined-nil : (r : Result (List ℕ) Miss) → r ≡ joined [] r
 joined-nil (Ok rest) = refl
 joined-nil (Err miss) = refl
 
-low_byte-joined : (address byte : ℕ) (front : List ℕ) (r : Result (List ℕ) Miss) → low_byte address (Some byte) (joined front r) ≡ joined (byte ∷ front) r
-low_byte-joined address byte front (Ok rest) = refl
-low_byte-joined address byte front (Err miss) = refl
+low_byte-joined : (address byte : ℕ) (prefix : List ℕ) (r : Result (List ℕ) Miss) → low_byte address (Some byte) (joined prefix r) ≡ joined (byte ∷ prefix) r
+low_byte-joined address byte prefix (Ok rest) = refl
+low_byte-joined address byte prefix (Err miss) = refl
 
 -- one address after another wraps as the whole does
 wraps : (address m : ℕ) → ((address + 1) % 2 ^ 64 + m) % 2 ^ 64 ≡ (address + suc m) % 2 ^ 64
 wraps address m = omega arith
 
 -- the step of the law below, by what stands at the first address and what follows it
-more-at : (pages : List PageView) (right m n address : ℕ) (front : List ℕ) → address < 2 ^ 64 → (byte : Option ℕ) → byte_at pages right address ≡ byte → (rest : Result (List ℕ) Miss) → load pages right ((address + 1) % 2 ^ 64) m ≡ rest
+more-at : (pages : List PageView) (right m n address : ℕ) (prefix : List ℕ) → address < 2 ^ 64 → (byte : Option ℕ) → byte_at pages right address ≡ byte → (rest : Result (List ℕ) Miss) → load pages right ((address + 1) % 2 ^ 64) m ≡ rest
     → ((more : List ℕ) → (address + 1) % 2 ^ 64 < 2 ^ 64 → load pages right ((address + 1) % 2 ^ 64) m ≡ Ok more → load pages right ((address + 1) % 2 ^ 64) (m + n) ≡ joined more (load pages right (((address + 1) % 2 ^ 64 + m) % 2 ^ 64) n))
-    → load pages right address (suc m) ≡ Ok front → load pages right address (suc m + n) ≡ joined front (load pages right ((address + suc m) % 2 ^ 64) n)
+    → load pages right address (suc m) ≡ Ok prefix → load pages right address (suc m + n) ≡ joined prefix (load pages right ((address + suc m) % 2 ^ 64) n)
 unfolding load
-more-at pages right m n address front fits None none rest is law ok = let miss : Result (List ℕ) Miss = Err (record { at = address }) in let clash : miss ≡ Ok front = rw none at ok in cc
-more-at pages right m n address front fits (Some byte) some (Err miss) is law ok = let missed : Result (List ℕ) Miss = Err miss in let clash : missed ≡ Ok front = rw (some, is) at ok in cc
-more-at pages right m n address front fits (Some byte) some (Ok rest) is law ok =
+more-at pages right m n address prefix fits None none rest is law ok = let miss : Result (List ℕ) Miss = Err (record { at = address }) in let clash : miss ≡ Ok prefix = rw none at ok in cc
+more-at pages right m n address prefix fits (Some byte) some (Err miss) is law ok = let missed : Result (List ℕ) Miss = Err miss in let clash : missed ≡ Ok prefix = rw (some, is) at ok in cc
+more-at pages right m n address prefix fits (Some byte) some (Ok rest) is law ok =
     let bytes : Result (List ℕ) Miss = Ok (byte ∷ rest) in
-    let same : bytes ≡ Ok front = rw (some, is) at ok in
-    let front_is : byte ∷ rest ≡ front = cc in
+    let same : bytes ≡ Ok prefix = rw (some, is) at ok in
+    let prefix_is : byte ∷ rest ≡ prefix = cc in
     let count : suc m + n ≡ suc (m + n) = omega arith in
     let more = law rest (omega arith) is in
-    rw (count, ← front_is, ← wraps address m) (rw (some, more) (low_byte-joined address byte rest _))
+    rw (count, ← prefix_is, ← wraps address m) (rw (some, more) (low_byte-joined address byte rest _))
 
 -- a load of more bytes goes on where the first ones end
-pub load-more : (pages : List PageView) (right m n address : ℕ) (front : List ℕ) → address < 2 ^ 64 → load pages right address m ≡ Ok front → load pages right address (m + n) ≡ joined front (load pages right ((address + m) % 2 ^ 64) n)
+pub load-more : (pages : List PageView) (right m n address : ℕ) (prefix : List ℕ) → address < 2 ^ 64 → load pages right address m ≡ Ok prefix → load pages right address (m + n) ≡ joined prefix (load pages right ((address + m) % 2 ^ 64) n)
 unfolding load
-load-more pages right zero n address front fits ok =
-    let nil : [] ≡ front = cc in
+load-more pages right zero n address prefix fits ok =
+    let nil : [] ≡ prefix = cc in
     let here : (address + 0) % 2 ^ 64 ≡ address = omega arith in
     let count : 0 + n ≡ n = omega arith in
     rw (count, here, ← nil) (joined-nil _)
-load-more pages right (suc m) n address front fits ok = more-at pages right m n address front fits (byte_at pages right address) refl (load pages right ((address + 1) % 2 ^ 64) m) refl (load-more pages right m n ((address + 1) % 2 ^ 64)) ok
+load-more pages right (suc m) n address prefix fits ok = more-at pages right m n address prefix fits (byte_at pages right address) refl (load pages right ((address + 1) % 2 ^ 64) m) refl (load-more pages right m n ((address + 1) % 2 ^ 64)) ok
 
 -- a load that begins well and goes on well
 pub load-goes_on : (pages : List PageView) (right address m : ℕ) (piece : List ℕ) → address < 2 ^ 64 → IsOk (load pages right address m) → load pages right ((address + m) % 2 ^ 64) (length piece) ≡ Ok piece → IsOk (load pages right address (m + length piece))
 load-goes_on pages right address m piece fits reached more = by-result (load pages right address m) refl reached
   where
     by-result : (r : Result (List ℕ) Miss) → load pages right address m ≡ r → IsOk r → IsOk (load pages right address (m + length piece))
-    by-result (Ok front) is ok = rw (load-more pages right m (length piece) address front fits is, more) refl
+    by-result (Ok prefix) is ok = rw (load-more pages right m (length piece) address prefix fits is, more) refl
     by-result (Err miss) is ok = cc
 
 -- and one that begins well and misses later
@@ -106,7 +106,7 @@ pub load-misses : (pages : List PageView) (right address m n : ℕ) (miss : Miss
 load-misses pages right address m n miss fits reached more = by-result (load pages right address m) refl reached
   where
     by-result : (r : Result (List ℕ) Miss) → load pages right address m ≡ r → IsOk r → load pages right address (m + n) ≡ Err miss
-    by-result (Ok front) is ok = rw (load-more pages right m n address front fits is, more) refl
+    by-result (Ok prefix) is ok = rw (load-more pages right m n address prefix fits is, more) refl
     by-result (Err miss') is ok = cc
 
 -- so a piece of what can be loaded whole doesn't miss
@@ -117,8 +117,18 @@ load-misses-not pages right address m n total miss fits reached more sum whole =
     cc
 
 -- what was copied, and the piece copied next
-pub load-copies : (pages : List PageView) (right address m : ℕ) (front piece : List ℕ) → address < 2 ^ 64 → load pages right address m ≡ Ok front → load pages right ((address + m) % 2 ^ 64) (length piece) ≡ Ok piece → load pages right address (m + length piece) ≡ Ok (front ++ piece)
-load-copies pages right address m front piece fits reached more = rw (load-more pages right m (length piece) address front fits reached, more) refl
+pub load-copies : (pages : List PageView) (right address m : ℕ) (prefix piece : List ℕ) → address < 2 ^ 64 → load pages right address m ≡ Ok prefix → load pages right ((address + m) % 2 ^ 64) (length piece) ≡ Ok piece → load pages right address (m + length piece) ≡ Ok (prefix ++ piece)
+load-copies pages right address m prefix piece fits reached more = rw (load-more pages right m (length piece) address prefix fits reached, more) refl
+
+low_byte-begins : (address : ℕ) (byte : Option ℕ) (rest : Result (List ℕ) Miss) → IsOk (low_byte address byte rest) → IsOk (low_byte address byte (Ok []))
+low_byte-begins address None rest ok = absurd cc
+low_byte-begins address (Some byte) rest ok = refl
+
+-- the first byte of what can be loaded
+pub load-begins : (pages : List PageView) (right address count : ℕ) → IsOk (load pages right address count) → 0 < count → IsOk (load pages right address 1)
+unfolding load
+load-begins pages right address zero ok some = absurd (omega (arith, some))
+load-begins pages right address (suc count) ok some = low_byte-begins address (byte_at pages right address) (load pages right ((address + 1) % 2 ^ 64) count) ok
 
 -- where no page has the address, the first byte misses
 pub rest-none : (pages : List PageView) (right address : ℕ) → page_at pages (address / PAGE_SIZE) ≡ None → Misses pages right address (record { at = address })
@@ -145,36 +155,36 @@ module _ (pages : List PageView) (right address : ℕ) (page : PageView) (found 
         rw bytes (subst (λ (a : ℕ). load pages right a count ≡ Ok (take count (drop (address % PAGE_SIZE) page.bytes))) split (load-inside pages right _ page found low is.allowed whole count (address % PAGE_SIZE) (omega (arith, is.reaches))));
   }
 
--- the front of what is loaded, as far as it was asked for
-pub piece-some : (pages : List PageView) (right address asked : ℕ) (rest : List ℕ) → 0 < asked → IsRestAt pages right address rest → IsPiece pages right address asked (take (min (length rest) asked) rest)
-piece-some pages right address asked rest some is =
-    let count = min (length rest) asked in
+-- a prefix of what can be loaded
+pub piece-some : (pages : List PageView) (right address most : ℕ) (rest : List ℕ) → 0 < most → IsRestAt pages right address rest → IsPiece pages right address most (take (min (length rest) most) rest)
+piece-some pages right address most rest some is =
+    let count = min (length rest) most in
     let bound : count ≤ length rest = omega arith in
     let long : length (take count rest) ≡ count = length-take-le count rest bound in
     record { some = omega (arith, is.reaches); within = omega arith; loaded = rw long (is.loaded count bound) }
 
 -- the bytes of the buffer up to the end of the piece
-take-parts : (front piece back : List ℕ) (m n : ℕ) → length front ≡ m → length piece ≡ n → take (m + n) (front ++ (piece ++ back)) ≡ front ++ piece
-take-parts front piece back m n e f = rw (← append_assoc) (take_at (front ++ piece) back (m + n) (omega (arith, length-append front piece)))
+take-parts : (prefix piece back : List ℕ) (m n : ℕ) → length prefix ≡ m → length piece ≡ n → take (m + n) (prefix ++ (piece ++ back)) ≡ prefix ++ piece
+take-parts prefix piece back m n e f = rw (← append_assoc) (take_at (prefix ++ piece) back (m + n) (omega (arith, length-append prefix piece)))
 
-length-parts : (front piece back : List ℕ) → length (front ++ (piece ++ back)) ≡ length front + (length piece + length back)
-length-parts front piece back = simp length-append
+length-parts : (prefix piece back : List ℕ) → length (prefix ++ (piece ++ back)) ≡ length prefix + (length piece + length back)
+length-parts prefix piece back = simp length-append
 
--- a loop's step: the buffer is front, the bytes just written and the rest, and front is what was copied before
+-- a loop's step: the buffer is what was copied before, the bytes just written, and the rest
 pub record Copied (pages : List PageView) (right address total done : ℕ) (buf : List ℕ) : Type 0 where
   pub within : done ≤ length buf
   pub same : length buf ≡ total
   pub whole : IsOk (load pages right address total)
   pub copied : load pages right address done ≡ Ok (take done buf)
 
-pub copied-more : (pages : List PageView) (right address total done : ℕ) (buf front rest piece written back : List ℕ) → address < 2 ^ 64 → Copied pages right address total done buf → front ≡ take done buf → length front ≡ done → length rest + done ≡ length buf
-    → IsPiece pages right ((address + done) % 2 ^ 64) (length rest) piece → written ≡ piece → length back + length piece ≡ length rest → Copied pages right address total (done + length piece) (front ++ (written ++ back))
-copied-more pages right address total done buf front rest piece written back fits before front_is front_len rest_len is written_is back_len =
-    let long = length-parts front written back in
+pub copied-more : (pages : List PageView) (right address total done : ℕ) (buf prefix rest piece written back : List ℕ) → address < 2 ^ 64 → Copied pages right address total done buf → prefix ≡ take done buf → length prefix ≡ done → length rest + done ≡ length buf
+    → IsPiece pages right ((address + done) % 2 ^ 64) (length rest) piece → written ≡ piece → length back + length piece ≡ length rest → Copied pages right address total (done + length piece) (prefix ++ (written ++ back))
+copied-more pages right address total done buf prefix rest piece written back fits before prefix_is prefix_len rest_len is written_is back_len =
+    let long = length-parts prefix written back in
     let written_len : length written ≡ length piece = ap length written_is in
     record {
       within = omega arith;
       same = omega (arith, before.same);
       whole = before.whole;
-      copied = rw (take-parts front written back done (length piece) front_len written_len, written_is, front_is) (load-copies pages right address done (take done buf) piece fits before.copied is.loaded);
+      copied = rw (take-parts prefix written back done (length piece) prefix_len written_len, written_is, prefix_is) (load-copies pages right address done (take done buf) piece fits before.copied is.loaded);
     }

@@ -11,20 +11,20 @@ use Rattle.dt_space.specs.declared.access.TextErr.{TextErr}
 use Rattle.dt_space.specs.declared.access.TextErr.TheVariants as text_err
 use Rattle.dt_space.specs.declared.access.TheConstants.{READ}
 use Rattle.dt_space.specs.Space.{PageView, byte_at, low_byte, load}
-use Rattle.dt_space.specs.Piece.{IsPiece, Misses}
+use Rattle.dt_space.specs.inner.Piece.{IsPiece, Misses}
 use Rattle.dt_space.specs.Text.{text_from, text_at}
-use Rattle.dt_space.specs.TextLen.{IsTextLen}
+use Rattle.dt_space.specs.inner.TextLen.{IsTextLen}
 use Rattle.dt_space.proofs.Loads.{load-copies}
 
 -- a text after bytes that were read before it
 abbrev pub after : Result (List ℕ) Miss → Result (List ℕ) TextErr → Result (List ℕ) TextErr
-after (Ok front) (Ok text) = Ok (front ++ text)
-after (Ok front) (Err error) = Err error
+after (Ok prefix) (Ok text) = Ok (prefix ++ text)
+after (Ok prefix) (Err error) = Err error
 after (Err miss) text = Err (text_err.Miss miss)
 
-after-after : (front piece : List ℕ) (text : Result (List ℕ) TextErr) → after (Ok front) (after (Ok piece) text) ≡ after (Ok (front ++ piece)) text
-after-after front piece (Ok rest) = ap Ok (sym (append_assoc front piece rest))
-after-after front piece (Err error) = refl
+after-after : (prefix piece : List ℕ) (text : Result (List ℕ) TextErr) → after (Ok prefix) (after (Ok piece) text) ≡ after (Ok (prefix ++ piece)) text
+after-after prefix piece (Ok rest) = ap Ok (sym (append_assoc prefix piece rest))
+after-after prefix piece (Err error) = refl
 
 -- no NUL stands among the first bytes, which were read
 pub record NoNul (pages : List PageView) (address max done : ℕ) : Type 0 where
@@ -41,22 +41,22 @@ load-first : (pages : List PageView) (address b : ℕ) (bs : List ℕ) → load 
 unfolding load
 load-first pages address b bs is = low_byte-ok address (byte_at pages READ address) (load pages READ ((address + 1) % 2 ^ 64) (length bs)) b bs is
 
--- the front of what was loaded
-load-front : (piece : List ℕ) (pages : List PageView) (address count : ℕ) → load pages READ address (length piece) ≡ Ok piece → count ≤ length piece → load pages READ address count ≡ Ok (take count piece)
+-- a prefix of what was loaded
+load-prefix : (piece : List ℕ) (pages : List PageView) (address count : ℕ) → load pages READ address (length piece) ≡ Ok piece → count ≤ length piece → load pages READ address count ≡ Ok (take count piece)
 unfolding load
-load-front piece pages address zero is le = refl
-load-front [] pages address (suc count) is le = absurd (omega (arith, le))
-load-front (b ∷ bs) pages address (suc count) is le =
+load-prefix piece pages address zero is le = refl
+load-prefix [] pages address (suc count) is le = absurd (omega (arith, le))
+load-prefix (b ∷ bs) pages address (suc count) is le =
     let first = load-first pages address b bs is in
-    rw (first.0, load-front bs pages ((address + 1) % 2 ^ 64) count first.1 (omega (arith, le))) refl
+    rw (first.0, load-prefix bs pages ((address + 1) % 2 ^ 64) count first.1 (omega (arith, le))) refl
 
 text-first : (pages : List PageView) (address max byte : ℕ) → byte_at pages READ address ≡ Some byte → text_at pages address (suc max) ≡ text_from address (Some byte) (text_at pages ((address + 1) % 2 ^ 64) max)
 unfolding text_at
 text-first pages address max byte is = rw is refl
 
-text_from-after : (address byte : ℕ) (front : List ℕ) (text : Result (List ℕ) TextErr) → text_from address (Some (suc byte)) (after (Ok front) text) ≡ after (Ok (suc byte ∷ front)) text
-text_from-after address byte front (Ok rest) = refl
-text_from-after address byte front (Err error) = refl
+text_from-after : (address byte : ℕ) (prefix : List ℕ) (text : Result (List ℕ) TextErr) → text_from address (Some (suc byte)) (after (Ok prefix) text) ≡ after (Ok (suc byte ∷ prefix)) text
+text_from-after address byte prefix (Ok rest) = refl
+text_from-after address byte prefix (Err error) = refl
 
 after-nil : (text : Result (List ℕ) TextErr) → text ≡ after (Ok []) text
 after-nil (Ok rest) = refl
@@ -110,15 +110,15 @@ no_nul-more pages address max done piece fits before is none = by-result (load p
   where
     by-result : (r : Result (List ℕ) Miss) → load pages READ address done ≡ r → NoNul pages address max (done + length piece)
     by-result (Err miss) read = let clash : IsOk {T = List ℕ} {E = Miss} (Err miss) = rw read at before.reached in absurd cc
-    by-result (Ok front) read =
-        let copied = load-copies pages READ address done front piece fits read is.loaded in
+    by-result (Ok prefix) read =
+        let copied = load-copies pages READ address done prefix piece fits read is.loaded in
         let next : ((address + done) % 2 ^ 64 + length piece) % 2 ^ 64 ≡ (address + (done + length piece)) % 2 ^ 64 = omega arith in
         let left : max - done ≡ length piece + (max - (done + length piece)) = omega (arith, is.within, before.within) in
         let more = text-none piece pages ((address + done) % 2 ^ 64) (max - (done + length piece)) (omega arith) is.loaded (nonzero-none piece none) in
         record {
           within = omega (arith, is.within, before.within);
           reached = rw copied refl;
-          rest = before.rest ∙ rw (read, left, more, next, copied) (after-after front piece _);
+          rest = before.rest ∙ rw (read, left, more, next, copied) (after-after prefix piece _);
         }
 
 same_bytes : (xs ys : List ℕ) → Path (Result (List ℕ) Miss) (Ok xs) (Ok ys) → xs ≡ ys
@@ -129,15 +129,15 @@ text-found pages address max done piece end fits before is some = by-result (loa
   where
     by-result : (r : Result (List ℕ) Miss) → load pages READ address done ≡ r → IsTextLen pages address max (done + end)
     by-result (Err miss) read = let clash : IsOk {T = List ℕ} {E = Miss} (Err miss) = rw read at before.reached in absurd cc
-    by-result (Ok front) read =
+    by-result (Ok prefix) read =
         let at_nul = position-Some (λ (byte : ℕ). byte == 0) piece end 0 some in
         let left : max - done ≡ length piece + (max - (done + length piece)) = omega (arith, is.within, before.within) in
         let long : length (take end piece) ≡ end = length-take-le end piece (omega (arith, at_nul.0)) in
-        let part : load pages READ ((address + done) % 2 ^ 64) (length (take end piece)) ≡ Ok (take end piece) = rw long (load-front piece pages ((address + done) % 2 ^ 64) end is.loaded (omega (arith, at_nul.0))) in
-        let copied : load pages READ address (done + end) ≡ Ok (front ++ take end piece) = rw long at (load-copies pages READ address done front (take end piece) fits read part) in
+        let part : load pages READ ((address + done) % 2 ^ 64) (length (take end piece)) ≡ Ok (take end piece) = rw long (load-prefix piece pages ((address + done) % 2 ^ 64) end is.loaded (omega (arith, at_nul.0))) in
+        let copied : load pages READ address (done + end) ≡ Ok (prefix ++ take end piece) = rw long at (load-copies pages READ address done prefix (take end piece) fits read part) in
         let found : text_at pages ((address + done) % 2 ^ 64) (length piece + (max - (done + length piece))) ≡ Ok (take end piece) = text-some piece end pages ((address + done) % 2 ^ 64) (max - (done + length piece)) is.loaded at_nul.0 (eqb-true _ 0 at_nul.1) (λ k lt. eqb-false _ 0 (at_nul.2 k lt)) in
-        let whole : text_at pages address max ≡ Ok (front ++ take end piece) = before.rest ∙ rw (read, left, found) refl in
-        record { readable = rw copied refl; text = λ bytes loaded. whole ∙ ap Ok (same_bytes (front ++ take end piece) bytes (sym copied ∙ loaded)) }
+        let whole : text_at pages address max ≡ Ok (prefix ++ take end piece) = before.rest ∙ rw (read, left, found) refl in
+        record { readable = rw copied refl; text = λ bytes loaded. whole ∙ ap Ok (same_bytes (prefix ++ take end piece) bytes (sym copied ∙ loaded)) }
 
 text-miss : (pages : List PageView) (address max : ℕ) (miss : Miss) → load pages READ address 1 ≡ Err miss → 0 < max → text_at pages address max ≡ Err (text_err.Miss miss)
 unfolding load text_at
@@ -149,7 +149,7 @@ text-miss pages address (suc max) miss missed some = by-byte (byte_at pages READ
     by-byte (Some byte) is = let here : Result (List ℕ) Miss = Ok (byte ∷ []) in let clash : here ≡ Err miss = rw is at missed in absurd cc
 
 after-missed : (r : Result (List ℕ) Miss) (error : TextErr) → IsOk r → after r (Err error) ≡ Err error
-after-missed (Ok front) error ok = refl
+after-missed (Ok prefix) error ok = refl
 after-missed (Err miss) error ok = cc
 
 pub text-missed : (pages : List PageView) (address max done : ℕ) (miss : Miss) → NoNul pages address max done → done < max → Misses pages READ ((address + done) % 2 ^ 64) miss → text_at pages address max ≡ Err (text_err.Miss miss)

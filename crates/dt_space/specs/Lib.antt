@@ -1,12 +1,10 @@
 pub mod Space
-pub mod Piece
-pub mod Place
 pub mod Pages
 pub mod Write
 pub mod Written
+pub mod Read
 pub mod Text
-pub mod TextLen
 pub mod MapErr
 pub mod Ranges
 pub mod RangeLaws
-pub mod Gap
+pub mod inner

@@ -6,11 +6,14 @@ use Rattle.dt_space.specs.Ranges.{is_in}
 
 -- every page outside of a range is as it was
 abbrev pub KeepsOthers : List PageView → ℕ → ℕ → List PageView → Type 0
-KeepsOthers old first count new = (number : ℕ) → is_in first count number ≡ false → page_at new number ≡ page_at old number
+KeepsOthers old first count new =
+    (number : ℕ) → is_in first count number ≡ false → page_at new number ≡ page_at old number
 
 -- each page of a range has the rights that are given for these, and nothing but zeros
 abbrev pub HasZeros : List PageView → ℕ → ℕ → ℕ → Type 0
-HasZeros new first count rights = (number : ℕ) → is_in first count number ≡ true → page_at new number ≡ Some (record { number = number; rights = granted rights; bytes = replicate PAGE_SIZE 0 })
+HasZeros new first count rights =
+    (number : ℕ) → is_in first count number ≡ true
+    → page_at new number ≡ Some (record { number = number; rights = granted rights; bytes = replicate PAGE_SIZE 0 })
 
 -- no page of a range is there
 abbrev pub HasNone : List PageView → ℕ → ℕ → Type 0
@@ -23,4 +26,6 @@ given rights (Some page) = Some (record page { rights = granted rights })
 
 -- each page of a range has the rights that are given for these, and its bytes; none comes
 abbrev pub HasRights : List PageView → ℕ → ℕ → ℕ → List PageView → Type 0
-HasRights old first count rights new = (number : ℕ) → is_in first count number ≡ true → page_at new number ≡ given rights (page_at old number)
+HasRights old first count rights new =
+    (number : ℕ) → is_in first count number ≡ true
+    → page_at new number ≡ given rights (page_at old number)

@@ -11,21 +11,25 @@ use Rattle.dt_space.specs.Pages.{pages_from}
 abbrev pub is_in : ℕ → ℕ → ℕ → Bool
 is_in first count number = nat_le first number && nat_lt number (first + count)
 
--- why a range cannot be mapped: it is empty or ends past the last page number, a page of it is there, or there would be too many pages
+-- why a range cannot be mapped: it is empty or ends past the last page number, a page of it is there, or there would
+-- be too many pages
 abbrev pub map_refusal : List PageView → ℕ → ℕ → Option MapErr
 map_refusal pages first count =
     if count == 0 || nat_lt (2 ^ 26) (first + count) then Some BadRange else (
     if list_any (λ page. is_in first count page.number) pages then Some Busy else (
     if nat_lt PAGE_LIMIT (length pages + count) then Some Full else None))
 
--- an error that is told of a mapping: its refusal, or want of memory where there is none
+-- which error answers a mapping: its refusal, or want of memory where there is none
 abbrev pub IsMapErr : Option MapErr → MapErr → Type 0
 IsMapErr refusal NoMemory = refusal ≡ None
 IsMapErr refusal error = refusal ≡ Some error
 
 -- the pages with those of a range, which are zeros: the ones below it, itself, and the ones above
 abbrev pub mapped : List PageView → ℕ → ℕ → ℕ → List PageView
-mapped pages first count rights = filter (λ page. nat_lt page.number first) pages ++ pages_from first (granted rights) [] count ++ filter (λ page. nat_le (first + count) page.number) pages
+mapped pages first count rights =
+    filter (λ page. nat_lt page.number first) pages
+    ++ pages_from first (granted rights) [] count
+    ++ filter (λ page. nat_le (first + count) page.number) pages
 
 -- the pages without those of a range
 abbrev pub unmapped : List PageView → ℕ → ℕ → List PageView
@@ -34,11 +38,13 @@ unmapped pages first count = filter (λ page. not (is_in first count page.number
 -- the first page of a range that isn't there
 unfoldable pub first_missing : List PageView → ℕ → ℕ → Option ℕ
 first_missing pages first zero = None
-first_missing pages first (suc count) = if is_some (page_at pages first) then first_missing pages (first + 1) count else Some first
+first_missing pages first (suc count) =
+    if is_some (page_at pages first) then first_missing pages (first + 1) count else Some first
 
 -- a page, with these rights where it is one of the range's
 abbrev pub with_rights : ℕ → ℕ → ℕ → PageView → PageView
-with_rights first count rights page = if is_in first count page.number then record page { rights = rights } else page
+with_rights first count rights page =
+    if is_in first count page.number then record page { rights = rights } else page
 
 -- the pages, those of a range with the rights that are given for these
 abbrev pub protected : List PageView → ℕ → ℕ → ℕ → List PageView

@@ -1,5 +1,6 @@
 -- A process's memory: pages sorted by number, and what an access to a range of addresses finds.
-use Rattle.std.specs.Prelude.{◌≡◌, ℕ, ◌+◌, ◌/◌, ◌%◌, ◌^◌, ◌<◌, ◌≤◌, suc, zero, List, [], ◌∷◌, length, Bool, ◌==◌, bit_and, bit_or, slice_index_or, slice_get, Option, Some, None, Result, Ok, Err, if◌then◌else◌}
+use Rattle.std.specs.Prelude.{◌≡◌, ℕ, ◌+◌, ◌/◌, ◌%◌, ◌^◌, ◌<◌, ◌≤◌, suc, zero, List, [], ◌∷◌, length, Bool, ◌==◌, bit_and, bit_or, slice_get, Option, Some, None, Result, Ok, Err, IsOk, MatchResult, if◌then◌else◌}
+use Rattle.std.specs.List.{All, AllPairs}
 use Rattle.dt_base.specs.declared.limits.TheConstants.{PAGE_SIZE, PAGE_LIMIT}
 use Rattle.dt_base.specs.Fields.{little_endian}
 use Rattle.dt_space.specs.declared.access.Miss.{Miss}
@@ -9,34 +10,31 @@ use Rattle.dt_space.specs.declared.access.TheConstants.{READ, WRITE}
 abbrev pub has : ℕ → ℕ → Bool
 has rights right = bit_and rights right == right
 
--- the rights that are given for these: the low three bits, and with the right to write that to read
+-- the rights that a page is given for these: the low three bits, and with the right to write that to read
 abbrev pub granted : ℕ → ℕ
 granted rights = if has (rights % 8) WRITE then bit_or (rights % 8) READ else rights % 8
 
--- one page
+-- a page as contracts see it
 pub record PageView : Type 0 where
   pub number : ℕ
   pub rights : ℕ
   pub bytes : List ℕ
 
--- the number of the page at place i
-abbrev pub number_at : List PageView → ℕ → ℕ
-number_at pages i = let page = slice_index_or pages i (record { number = 0; rights = 0; bytes = [] }) in page.number
+-- each of these is a byte
+abbrev pub IsBytes : List ℕ → Type 0
+IsBytes = All (λ byte. byte < 256)
 
--- the rights of the page at place i
-abbrev pub rights_at : List PageView → ℕ → ℕ
-rights_at pages i = let page = slice_index_or pages i (record { number = 0; rights = 0; bytes = [] }) in page.rights
+-- a page below number 2^26 with rights that can be given and a page of bytes
+pub record IsPage (page : PageView) : Type 0 where
+  pub low : page.number < 2 ^ 26
+  pub rights : granted page.rights ≡ page.rights
+  pub whole : length page.bytes ≡ PAGE_SIZE
+  pub bytes : IsBytes page.bytes
 
--- how many bytes the page at place i has
-abbrev pub size_at : List PageView → ℕ → ℕ
-size_at pages i = let page = slice_index_or pages i (record { number = 0; rights = 0; bytes = [] }) in length page.bytes
-
--- what each space keeps: the numbers rise and are below 2^26, each page has rights that can be given and is whole, and there are no more pages than the limit
+-- pages whose numbers rise, no more of them than the limit
 pub record IsSpace (pages : List PageView) : Type 0 where
-  pub rising : (i j : ℕ) → i < j → j < length pages → number_at pages i < number_at pages j
-  pub low : (i : ℕ) → i < length pages → number_at pages i < 2 ^ 26
-  pub rights : (i : ℕ) → i < length pages → granted (rights_at pages i) ≡ rights_at pages i
-  pub whole : (i : ℕ) → i < length pages → size_at pages i ≡ PAGE_SIZE
+  pub rising : AllPairs (λ before after. before.number < after.number) pages
+  pub each : All IsPage pages
   pub few : length pages ≤ PAGE_LIMIT
 
 -- the page of this number
@@ -62,9 +60,16 @@ low_byte address (Some byte) (Err miss) = Err miss
 -- the bytes from an address on, or the first address without the right; addresses wrap
 unfoldable pub load : List PageView → ℕ → ℕ → ℕ → Result (List ℕ) Miss
 load pages right address zero = Ok []
-load pages right address (suc count) = low_byte address (byte_at pages right address) (load pages right ((address + 1) % 2 ^ 64) count)
+load pages right address (suc count) =
+    low_byte address (byte_at pages right address) (load pages right ((address + 1) % 2 ^ 64) count)
 
 -- the number whose bytes were loaded
-abbrev pub loaded : Result (List ℕ) Miss → Result ℕ Miss
-loaded (Ok bytes) = Ok (little_endian bytes)
-loaded (Err miss) = Err miss
+abbrev pub loaded_number : Result (List ℕ) Miss → Result ℕ Miss
+loaded_number (Ok bytes) = Ok (little_endian bytes)
+loaded_number (Err miss) = Err miss
+
+-- what a look at a range answers: that each byte has the right, or the first that has it not
+abbrev pub Reaches : {X : Type 0} → List PageView → ℕ → ℕ → ℕ → Result X Miss → Type 0
+Reaches pages right address count result = MatchResult result
+    (λ _. IsOk (load pages right address count))
+    (λ miss. load pages right address count ≡ Err miss)

@@ -15,9 +15,10 @@ text_from address (Some (suc byte)) (Err error) = Err error
 -- the bytes from an address on before the first 0, which is looked for among so many bytes
 unfoldable pub text_at : List PageView → ℕ → ℕ → Result (List ℕ) TextErr
 text_at pages address zero = Err text_err.Long
-text_at pages address (suc max) = text_from address (byte_at pages READ address) (text_at pages ((address + 1) % 2 ^ 64) max)
+text_at pages address (suc max) =
+    text_from address (byte_at pages READ address) (text_at pages ((address + 1) % 2 ^ 64) max)
 
--- an error that is told of this text: the text's own, or want of memory for a text that is there
+-- which error answers a text: its own, or want of memory where the text is there
 abbrev pub IsTextErr : Result (List ℕ) TextErr → TextErr → Type 0
 IsTextErr text text_err.NoMemory = IsOk text
 IsTextErr text error = text ≡ Err error

@@ -2,12 +2,12 @@
 #![tactic(auto)]
 
 mod access;
-mod near;
 mod page;
+mod page_hint;
 mod refusal;
 mod space;
 
-pub use access::{EXECUTE, Miss, READ, TextErr, WRITE, WriteErr};
-pub use near::Near;
+pub use access::{EXECUTE, Miss, READ, ReadErr, TextErr, WRITE, WriteErr};
+pub use page_hint::PageHint;
 pub use refusal::{MapErr, Unmapped};
 pub use space::Space;

@@ -1,9 +1,10 @@
 // One page of memory.
 ghost use Rattle.std.specs.Prelude.{◌≡◌, ◌+◌, ◌<◌, ◌≤◌, IfOk, false, length, MatchOption};
 ghost use Rattle.dt_space.specs.Space.{has};
-ghost use Rattle.dt_space.specs.Pages.{filled};
+ghost use Rattle.dt_space.specs.Pages.{zero_padded};
 ghost use Rattle.dt_space.specs.Ranges.{is_in, with_rights};
-ghost use Rattle.dt_space.specs.Piece.{IsRest, overwritten};
+ghost use Rattle.dt_space.specs.inner.Piece.{IsRest};
+ghost use Rattle.dt_base.specs.Bytes.{overwritten};
 
 use dt_base::{NoMemory, PAGE_SIZE};
 use std::alloc::Global;
@@ -29,7 +30,8 @@ impl Page {
     /// A page of these bytes, filled up with zeros.
     pub fn new(alloc: Global, number: u64, rights: u8, contents: &[u8]) -> Result<Self, NoMemory>
         requires { length contents.now ≤ PAGE_SIZE }
-        ensures { IfOk result (λ page. page ≡ record { number = number; rights = rights; bytes = filled contents.now }) }
+        ensures { IfOk result (λ page.
+            page ≡ record { number = number; rights = rights; bytes = zero_padded contents.now }) }
     {
         let mut bytes = [0; 4096];
         bytes[..contents.len()].copy_from_slice(contents);
@@ -45,7 +47,9 @@ impl Page {
     #[inline(always)]
     pub fn bytes_from(&self, right: u8, offset: u64) -> Option<&[u8]>
         requires { offset < PAGE_SIZE }
-        ensures { MatchOption result (has self.now.rights right ≡ false) (λ rest. IsRest self.now right offset rest.now) }
+        ensures { MatchOption result
+            (has self.now.rights right ≡ false)
+            (λ rest. IsRest self.now right offset rest.now) }
     {
         if self.rights & right == right {
             Some(&self.bytes[offset as usize..])

@@ -2,13 +2,11 @@
 ghost use Rattle.std.specs.Prelude.{◌≡◌, ◌≤◌, ◌+◌, ◌^◌, ◌++◌, [], IfOk, length};
 ghost use Rattle.dt_space.specs.Space.{IsSpace, granted};
 ghost use Rattle.dt_space.specs.Pages.{pages_from, EndsBelow};
-ghost use Rattle.dt_space.specs.Place.{IsPlaceOf};
+ghost use Rattle.dt_space.specs.inner.Index.{IsIndexOf};
 
 mod hinted;
 mod ranges;
 mod reads;
-#[cfg(test)]
-mod tests;
 mod text;
 mod writes;
 
@@ -58,7 +56,8 @@ impl Space {
         requires above { EndsBelow self first }
         requires low { first + count ≤ 2 ^ 26 }
         requires few { length self + count ≤ PAGE_LIMIT }
-        ensures { IfOk result (λ space. space ≡ self ++ pages_from first (granted rights) contents.now count) }
+        ensures pages { IfOk result (λ space. space ≡ self ++ pages_from first (granted rights) contents.now count) }
+        ensures sound { IfOk result IsSpace }
     {
         let given = granted_of(rights);
         let Space { mut pages } = self;
@@ -92,12 +91,12 @@ impl Space {
         Ok(Space { pages })
     }
 
-    // The place of the page of this number.
-    fn place(&self, number: u64) -> Option<usize>
-        ensures { IsPlaceOf self.now number result }
+    // The index of the page of this number.
+    fn index_of(&self, number: u64) -> Option<usize>
+        ensures { IsIndexOf self.now number result }
     {
         match self.pages.binary_search_by_key(&number, |page| page.number) {
-            Ok(place) => Some(place),
+            Ok(index) => Some(index),
             Err(_) => None,
         }
     }

@@ -210,8 +210,8 @@ fn files_of_the_guests_by_name(rt: HostRuntime) -> Result<(), Fail> {
     );
     let mut expected = listed(alloc, &CAT1, b"/f\0")?;
     for (at, byte) in [(68, 7), (104, 0), (105, 0x40)] {
-        if let Some(place) = expected.get_mut(at) {
-            *place = byte;
+        if let Some(old) = expected.get_mut(at) {
+            *old = byte;
         }
     }
     assert_eq!(rt; cat1(alloc)?.elf()?.as_slice(), expected.as_slice());

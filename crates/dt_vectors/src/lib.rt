@@ -1,4 +1,5 @@
-//! Tests of instructions and of the assembler against what other programs made of them.
+//! Tests of instructions and of the assembler against what other programs made of them, and of the numbers that code and
+//! definitions share.
 #![tactic(auto)]
 
 #[cfg(test)]
@@ -7,5 +8,7 @@ mod assembler;
 mod encodings;
 #[cfg(test)]
 mod instructions;
+#[cfg(test)]
+mod limits;
 #[cfg(test)]
 mod vectors;

@@ -1,3 +1,4 @@
+// Logical time.
 ghost use Rattle.std.specs.Prelude.{◌≡◌, ◌≤◌};
 ghost use Rattle.dt_virt.specs.Clock.{later};
 

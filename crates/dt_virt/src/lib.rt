@@ -3,8 +3,6 @@
 
 mod clock;
 mod random;
-#[cfg(test)]
-mod tests;
 
 pub use clock::{Clock, READING_TICKS, TICK_LIMIT};
 pub use random::Rand;

@@ -1,4 +1,6 @@
+// The words of a seed.
 ghost use Rattle.std.specs.Prelude.{◌≡◌, ◌<◌, ◌^◌, length};
+ghost use Rattle.rand_chacha.specs.ChaCha.{key_of};
 ghost use Rattle.dt_virt.specs.Words.{key_by, seeded_by, drawn, rest_after, start_bytes};
 
 use rand_chacha::ChaCha20Rng;
@@ -24,7 +26,7 @@ impl Model for Rand {
 
     ghost Value = { Seeded };
 
-    ghost view = { λ r. record { key = r.key; place = r.words.word_pos } };
+    ghost view = { λ r. record { key = r.key; word_pos = r.words.word_pos } };
 
     ghost invariant = { λ r. (r.words.key ≡ key_of r.key) × (r.words.stream ≡ 0) × (r.words.word_pos < 2 ^ 68) };
 }
@@ -41,8 +43,8 @@ impl Rand {
         }
     }
 
-    /// Fills `buf` with the next bytes of stream 0: as many whole words as cover it, each with its lowest byte first, the
-    /// rest of the last dropped.
+    /// Fills `buf` with the next bytes of stream 0: as many whole words as cover it, each with its lowest byte first,
+    /// the rest of the last dropped.
     pub fn fill(&mut self, buf: &mut [u8])
         ensures bytes { buf.new ≡ drawn self.old (length buf.old) }
         ensures rest { self.new ≡ rest_after self.old (length buf.old) }
@@ -54,17 +56,25 @@ impl Rand {
     pub fn start16(&self) -> [u8; 16]
         ensures { result ≡ start_bytes self.now }
     {
-        let mut words = ChaCha20Rng::from_seed(self.key);
-        words.set_stream(START_STREAM);
+        let mut words = start_words(self.key);
         let mut bytes = [0; 16];
         fill_bytes_via_u32(&mut words, &mut bytes);
         bytes
     }
 }
 
-/// The key of a seed: the SHA-256 of its 8 bytes, the lowest first.
-pub(crate) fn key_of_seed(seed: u64) -> [u8; 32]
+// The key of a seed: the SHA-256 of its 8 bytes, the lowest first.
+fn key_of_seed(seed: u64) -> [u8; 32]
     ensures { result ≡ key_by seed }
 {
     Sha256::digest(seed.to_le_bytes())
+}
+
+// The words of stream 1.
+fn start_words(key: [u8; 32]) -> ChaCha20Rng
+    ensures { result ≡ record { key = key_of key; stream = START_STREAM; word_pos = 0 } }
+{
+    let mut words = ChaCha20Rng::from_seed(key);
+    words.set_stream(START_STREAM);
+    words
 }

@@ -1,22 +1,27 @@
 // Calls on files that are there: openat, close, read.
-ghost use Rattle.std.specs.Prelude.{◌≡◌, ◌+◌, ◌<◌, ◌^◌, List, Ok, IfOk, IsErrOf, IsSome, false, length, take, drop};
-ghost use Rattle.dt_base.specs.declared.image.Entry.{Entry};
-ghost use Rattle.dt_host.specs.Cause.{HasCause};
-ghost use Rattle.dt_run.specs.Installed.{HoldsImage};
-ghost use Rattle.dt_run.specs.Lookup.{file_named};
+ghost use Rattle.std.specs.Prelude.{◌≡◌, Some, IfOk, false};
+ghost use Rattle.dt_host.specs.World.{World, Forest, IsDir, IsLive, node_at};
+ghost use Rattle.dt_tree.specs.declared.limits.TheConstants.{ROOT};
+ghost use Rattle.dt_tree.specs.Table.{Stands, shape_of};
+ghost use Rattle.dt_walk.specs.Walk.{begins_with_slash};
+ghost use Rattle.dt_run.specs.Lookup.{lookup};
 ghost use Rattle.dt_run.specs.Descriptors.{description_at, is_full};
-ghost use Rattle.dt_run.specs.FileCalls.{descriptor, count_asked, path_at, opened_name, opened_path, open_call, close_call, reads_bytes, read_call};
+ghost use Rattle.dt_run.specs.FileCalls.{descriptor, path_at, start_dir, opened_node, opened_at, opened_path, open_call, close_call, read_call};
+ghost use Rattle.dt_run.specs.inner.Asks.{Asks};
+ghost use Rattle.dt_run.specs.inner.InCode.{container_of, served_as};
+ghost use Rattle.dt_run.specs.inner.Sound.{IsSound};
 
-use super::{A0, A1, A2, Answer, OPENAT, Outcome};
+use super::{Outcome, Served};
 use crate::container::Container;
-use crate::descriptors::{Description, Descriptors};
-use crate::error::RunErr;
-use crate::install::read_part;
-use crate::lookup::{is_dots, root_name};
-use dt_base::{Blob, Errno, NoMemory, PATH_LIMIT, TRANSFER_LIMIT};
+use crate::descriptors::Description;
+use crate::lookup::lookup;
+use crate::reading::read_part;
+use dt_base::abi::{A0, A1, A2, AT_FDCWD, OPENAT, byte_count, low_word, signed_word};
+use dt_base::{Blob, Errno, NoMemory, PATH_LIMIT};
 use dt_host::{Host, HostErr};
 use dt_rv64::Machine;
 use dt_space::{Space, TextErr};
+use dt_tree::{ROOT, Tree};
 use std::alloc::Global;
 
 /// openat(2), without flags
@@ -26,26 +31,24 @@ pub fn openat<H: Host>(
     host: &mut H,
     container: &mut Container,
     machine: &mut Machine,
-) -> Result<Answer, RunErr>
-    requires { (entries : List Entry) × HoldsImage (H.view host.old) entries }
-    ensures served { (entries : List Entry) → HoldsImage (H.view host.old) entries → IfOk result (λ a.
-        open_call entries container.old machine.old ≡ record { container = container.new; machine = machine.new; events = a.events.items; outcome = a.outcome }) }
-    ensures container { (number : _) → IfOk result (λ a. a.outcome ≡ Outcome.Unsupported number → container.new ≡ container.old) }
-    ensures machine { (number : _) → IfOk result (λ a. a.outcome ≡ Outcome.Unsupported number → machine.new ≡ machine.old) }
-    ensures stays { H.view host.new ≡ H.view host.old }
-    ensures cause { HasCause (H.count host.old) (H.count host.new) (IsErrOf result RunErr.Host) }
-    ensures kinds { IsErrOf result RunErr.Sink → ⊥ }
+) -> Result<Served, HostErr>
+    requires { IsSound container.old (H.view host.old) }
+    ensures served { IfOk result (λ s. open_call (container_of container.old (H.view host.old)) machine.old
+        ≡ served_as (container_of container.new (H.view host.new)) machine.new s) }
+    ensures sound { IfOk result (λ _. IsSound container.new (H.view host.new)) }
+    ensures asks { Asks H.view H.count host.old host.new result }
 {
-    if machine.reg(A2) & 0xffff_ffff != 0 {
-        return Ok(Answer::quiet(alloc, Outcome::Unsupported(OPENAT)));
+    let _before = host.faults();
+    if low_word(machine.reg(A2)) != 0 {
+        return Ok(Served::quiet(alloc, Outcome::Unsupported(OPENAT)));
     }
     let path = path_argument(&machine.space, machine.reg(A1))?;
-    match find(alloc, host, &container.files, path)? {
+    match find(alloc, host, container, machine.reg(A0), path)? {
         Ok(description) => {
             let descriptor = container.files.open(description)?;
-            Ok(Answer::value(alloc, machine, descriptor))
+            Ok(Served::done(alloc, machine, descriptor))
         }
-        Err(errno) => Ok(Answer::refusal(alloc, machine, errno)),
+        Err(errno) => Ok(Served::refused(alloc, machine, errno)),
     }
 }
 
@@ -66,63 +69,98 @@ fn path_argument(space: &Space, at: u64) -> Result<Result<Blob, Errno>, NoMemory
 fn find<H: Host>(
     alloc: Global,
     host: &mut H,
-    files: &Descriptors,
+    container: &Container,
+    dirfd: u64,
     path: Result<Blob, Errno>,
-) -> Result<Result<Description, Errno>, RunErr>
-    requires { (entries : List Entry) × HoldsImage (H.view host.old) entries }
-    ensures ok { (entries : List Entry) → HoldsImage (H.view host.old) entries → IfOk result (λ found. found ≡ opened_path entries files.now path) }
-    ensures free { IfOk result (λ found. IfOk found (λ _. is_full files.now ≡ false)) }
-    ensures stays { H.view host.new ≡ H.view host.old }
-    ensures cause { HasCause (H.count host.old) (H.count host.new) (IsErrOf result RunErr.Host) }
-    ensures kinds { IsErrOf result RunErr.Sink → ⊥ }
+) -> Result<Result<Description, Errno>, HostErr>
+    requires { IsSound container.now (H.view host.old) }
+    ensures ok { IfOk result
+        (λ found. found ≡ opened_path (container_of container.now (H.view host.old)) dirfd path) }
+    ensures free { IfOk result (λ found. IfOk found (λ _. is_full container.now.files ≡ false)) }
+    ensures asks { Asks H.view H.count host.old host.new result }
 {
+    let _before = host.faults();
     match path {
-        Ok(_) if files.is_full() => Ok(Err(Errno::MFile)),
-        Ok(path) => match root_name(path.as_slice()) {
-            Ok(name) => find_name(alloc, host, name),
+        Ok(_) if container.files.is_full() => Ok(Err(Errno::MFile)),
+        Ok(path) => match start_dir(dirfd, path.as_slice()) {
+            Ok(start) => find_from(alloc, host, &container.tree, start, path.as_slice()),
             Err(errno) => Ok(Err(errno)),
         },
         Err(errno) => Ok(Err(errno)),
     }
 }
 
-// What a name in the root is opened as.
-fn find_name<H: Host>(
+// The directory where a path begins.
+fn start_dir(dirfd: u64, path: &[u8]) -> Result<u64, Errno>
+    ensures value { result ≡ start_dir dirfd path.now }
+    ensures root { IfOk result (λ start. start ≡ ROOT) }
+{
+    if begins_with_slash(path) || signed_word(dirfd) == AT_FDCWD {
+        Ok(ROOT)
+    } else {
+        Err(Errno::BadF)
+    }
+}
+
+// Whether a path is looked up from the root.
+fn begins_with_slash(path: &[u8]) -> bool
+    ensures { result ≡ begins_with_slash path.now }
+{
+    match path.first() {
+        Some(b) => *b == b'/',
+        None => false,
+    }
+}
+
+// What a path is opened as from a directory.
+fn find_from<H: Host>(
     alloc: Global,
     host: &mut H,
-    name: &[u8],
-) -> Result<Result<Description, Errno>, RunErr>
-    requires { (entries : List Entry) × HoldsImage (H.view host.old) entries }
-    ensures ok { (entries : List Entry) → HoldsImage (H.view host.old) entries → IfOk result (λ found. found ≡ opened_name entries (Ok name.now)) }
-    ensures stays { H.view host.new ≡ H.view host.old }
-    ensures cause { HasCause (H.count host.old) (H.count host.new) (IsErrOf result RunErr.Host) }
-    ensures kinds { IsErrOf result RunErr.Sink → ⊥ }
+    tree: &Tree,
+    start: u64,
+    path: &[u8],
+) -> Result<Result<Description, Errno>, HostErr>
+    requires stands { Stands tree.now (H.view host.old).forest }
+    requires directory { IsDir (shape_of tree.now (H.view host.old).forest) start }
+    ensures ok { IfOk result (λ found. found
+        ≡ opened_at (shape_of tree.now (H.view host.old).forest)
+        (lookup (shape_of tree.now (H.view host.old).forest) start path.now)) }
+    ensures asks { Asks H.view H.count host.old host.new result }
 {
-    if is_dots(name) {
-        return Ok(Ok(Description::Directory));
+    match lookup(alloc, host, tree, start, path)? {
+        Ok(Some(inode)) => Ok(opened(tree, inode)),
+        Ok(None) => Ok(Err(Errno::NoEnt)),
+        Err(errno) => Ok(Err(errno)),
     }
-    let root = host.root()?;
-    match host.find(root, name)? {
-        Some(_) => {
-            let name = Blob::new(Vec::from_slice(alloc, name)?);
-            Ok(Ok(Description::File { name, place: 0 }))
-        }
-        None => Ok(Err(Errno::NoEnt)),
+}
+
+// What a node is opened as.
+fn opened(tree: &Tree, inode: u64) -> Result<Description, Errno>
+    ensures { (v : Forest) → Stands tree.now v → IsLive (shape_of tree.now v) inode
+        → result ≡ opened_node inode (node_at (shape_of tree.now v) inode) }
+{
+    if tree.is_dir(inode) {
+        Ok(Description::Directory { inode })
+    } else if tree.is_link(inode) {
+        Err(Errno::Loop)
+    } else {
+        Ok(Description::File { inode, offset: 0 })
     }
 }
 
 /// close(2)
 #[tactic(auto, unfolding(crate::specs::FileCalls::close_call))]
-pub fn close(alloc: Global, container: &mut Container, machine: &mut Machine) -> Answer
-    ensures served { close_call container.old machine.old ≡ record { container = container.new; machine = machine.new; events = result.events.items; outcome = result.outcome } }
-    ensures done { result.outcome ≡ Outcome.Done }
+pub fn close(alloc: Global, container: &mut Container, machine: &mut Machine) -> Served
+    ensures served { (w : World) → close_call (container_of container.old w) machine.old
+        ≡ served_as (container_of container.new w) machine.new result }
+    ensures sound { (w : World) → IsSound container.old w → IsSound container.new w }
 {
-    let descriptor = machine.reg(A0) & 0xffff_ffff;
+    let descriptor = u64::from(low_word(machine.reg(A0)));
     if container.files.look(descriptor).is_none() {
-        return Answer::refusal(alloc, machine, Errno::BadF);
+        return Served::refused(alloc, machine, Errno::BadF);
     }
     container.files.close(descriptor);
-    Answer::value(alloc, machine, 0)
+    Served::done(alloc, machine, 0)
 }
 
 /// read(2)
@@ -132,77 +170,54 @@ pub fn read<H: Host>(
     host: &mut H,
     container: &mut Container,
     machine: &mut Machine,
-) -> Result<Answer, RunErr>
-    requires { (entries : List Entry) × HoldsImage (H.view host.old) entries }
-    ensures served { (entries : List Entry) → HoldsImage (H.view host.old) entries → IfOk result (λ a.
-        read_call entries container.old machine.old ≡ record { container = container.new; machine = machine.new; events = a.events.items; outcome = a.outcome }) }
-    ensures done { IfOk result (λ a. a.outcome ≡ Outcome.Done) }
-    ensures stays { H.view host.new ≡ H.view host.old }
-    ensures cause { HasCause (H.count host.old) (H.count host.new) (IsErrOf result RunErr.Host) }
-    ensures kinds { IsErrOf result RunErr.Sink → ⊥ }
+) -> Result<Served, HostErr>
+    requires { IsSound container.old (H.view host.old) }
+    ensures served { IfOk result (λ s. read_call (container_of container.old (H.view host.old)) machine.old
+        ≡ served_as (container_of container.new (H.view host.new)) machine.new s) }
+    ensures sound { IfOk result (λ _. IsSound container.new (H.view host.new)) }
+    ensures asks { Asks H.view H.count host.old host.new result }
 {
-    match container.files.look(machine.reg(A0) & 0xffff_ffff) {
-        Some(Description::File { name, place }) => {
-            let (name, place) = (name.copy()?, *place);
-            read_file(alloc, host, container, machine, name, place)
+    let _before = host.faults();
+    match container.files.look(u64::from(low_word(machine.reg(A0)))) {
+        Some(Description::File { inode, offset }) => {
+            let (inode, offset) = (*inode, *offset);
+            read_file(alloc, host, container, machine, inode, offset)
         }
-        Some(Description::Input) => Ok(Answer::value(alloc, machine, 0)),
-        Some(Description::Directory) => Ok(Answer::refusal(alloc, machine, Errno::IsDir)),
-        Some(Description::Stream(_)) | None => Ok(Answer::refusal(alloc, machine, Errno::BadF)),
+        Some(Description::Input) => Ok(Served::done(alloc, machine, 0)),
+        Some(Description::Directory { .. }) => Ok(Served::refused(alloc, machine, Errno::IsDir)),
+        Some(Description::Stream(_)) | None => Ok(Served::refused(alloc, machine, Errno::BadF)),
     }
 }
 
-// Reads the file of the descriptor into the guest's buffer, from a place on.
+// Reads the file of the descriptor into the guest's buffer, from an offset on.
 #[tactic(auto, unfolding(crate::specs::FileCalls::read_call))]
 fn read_file<H: Host>(
     alloc: Global,
     host: &mut H,
     container: &mut Container,
     machine: &mut Machine,
-    name: Blob,
-    place: u64,
-) -> Result<Answer, RunErr>
-    requires image { (entries : List Entry) × HoldsImage (H.view host.old) entries }
-    requires open { description_at container.old.files (descriptor machine.old) ≡ Some (Description.File name place) }
-    ensures served { (entries : List Entry) → HoldsImage (H.view host.old) entries → IfOk result (λ a.
-        read_call entries container.old machine.old ≡ record { container = container.new; machine = machine.new; events = a.events.items; outcome = a.outcome }) }
-    ensures done { IfOk result (λ a. a.outcome ≡ Outcome.Done) }
-    ensures stays { H.view host.new ≡ H.view host.old }
-    ensures cause { HasCause (H.count host.old) (H.count host.new) (IsErrOf result RunErr.Host) }
-    ensures kinds { IsErrOf result RunErr.Sink → ⊥ }
+    inode: u64,
+    offset: u64,
+) -> Result<Served, HostErr>
+    requires sound { IsSound container.old (H.view host.old) }
+    requires described { description_at container.old.files (descriptor machine.old)
+        ≡ Some (Description.File inode offset) }
+    ensures served { IfOk result (λ s. read_call (container_of container.old (H.view host.old)) machine.old
+        ≡ served_as (container_of container.new (H.view host.new)) machine.new s) }
+    ensures sound { IfOk result (λ _. IsSound container.new (H.view host.new)) }
+    ensures asks { Asks H.view H.count host.old host.new result }
 {
-    let count = machine.reg(A2).min(TRANSFER_LIMIT);
-    let bytes = read_named(alloc, host, name.as_slice(), place, count)?;
+    let count = byte_count(machine.reg(A2));
+    let bytes = read_part(alloc, host, &container.tree, inode, offset, count)?;
     let at = machine.reg(A1);
     if machine.space.write_bytes(at, &bytes).is_err() {
-        return Ok(Answer::refusal(alloc, machine, Errno::Fault));
+        return Ok(Served::refused(alloc, machine, Errno::Fault));
     }
     let moved = bytes.len() as u64;
-    let place = place + moved;
+    let offset = offset + moved;
     container.files.put(
-        machine.reg(A0) & 0xffff_ffff,
-        Description::File { name, place },
+        u64::from(low_word(machine.reg(A0))),
+        Description::File { inode, offset },
     );
-    Ok(Answer::value(alloc, machine, moved))
-}
-
-// At most so many bytes of the file of that name in the root, from a place on.
-fn read_named<H: Host>(
-    alloc: Global,
-    host: &mut H,
-    name: &[u8],
-    from: u64,
-    most: u64,
-) -> Result<Vec<u8>, HostErr>
-    requires { (entries : List Entry) × HoldsImage (H.view host.old) entries }
-    ensures ok { (entries : List Entry) → HoldsImage (H.view host.old) entries → IfOk result (λ bytes. bytes.items ≡ take most (drop from (file_named entries name.now))) }
-    ensures fits { IfOk result (λ bytes. from + length bytes.items < 2 ^ 64) }
-    ensures stays { H.view host.new ≡ H.view host.old }
-    ensures cause { HasCause (H.count host.old) (H.count host.new) (IsErrOf result HostErr.Failed) }
-{
-    let root = host.root()?;
-    match host.find(root, name)? {
-        Some(file) => read_part(alloc, host, file, from, most),
-        None => Ok(Vec::new(alloc)),
-    }
+    Ok(Served::done(alloc, machine, moved))
 }

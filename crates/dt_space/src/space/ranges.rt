@@ -3,7 +3,7 @@ ghost use Rattle.std.specs.Prelude.{◌≡◌, ◌+◌, ◌^◌, ◌≤◌, ◌+
 ghost use Rattle.dt_space.specs.Pages.{pages_from};
 ghost use Rattle.dt_space.specs.Ranges.{map_refusal, IsMapErr, mapped, unmapped, first_missing, protected};
 ghost use Rattle.dt_space.specs.RangeLaws.{KeepsOthers, HasZeros, HasNone, HasRights};
-ghost use Rattle.dt_space.specs.Gap.{IsLower, IsGap};
+ghost use Rattle.dt_space.specs.inner.Gap.{IsLower, IsGap};
 
 use super::Space;
 use crate::access::granted_of;
@@ -26,10 +26,10 @@ impl Space {
         ensures error { IfErr result (IsMapErr (map_refusal self.old first count)) }
         ensures kept { OnErr result (self.new ≡ self.old) }
     {
-        let place = self.gap(first, count)?;
+        let index = self.gap(first, count)?;
         let alloc = *self.pages.allocator();
         let fresh = zeroed(alloc, first, count, granted_of(rights))?;
-        put_in(&mut self.pages, place, fresh)?;
+        put_in(&mut self.pages, index, fresh)?;
         Ok(())
     }
 
@@ -45,7 +45,9 @@ impl Space {
     /// Gives the pages of a range these rights, cut and completed as those of `map`. Where a page is not there,
     /// nothing changes.
     pub fn protect(&mut self, first: u64, count: u64, rights: u8) -> Result<(), Unmapped>
-        ensures whole { MatchResult result (λ _. first_missing self.old first count ≡ None) (λ error. first_missing self.old first count ≡ Some error.page) }
+        ensures whole { MatchResult result
+            (λ _. first_missing self.old first count ≡ None)
+            (λ error. first_missing self.old first count ≡ Some error.page) }
         ensures ok { OnOk result (self.new ≡ protected self.old first count rights) }
         ensures rights { OnOk result (HasRights self.old first count rights self.new) }
         ensures others { OnOk result (KeepsOthers self.old first count self.new) }
@@ -53,42 +55,46 @@ impl Space {
     {
         self.look_for(first, count)?;
         let given = granted_of(rights);
-        for place in 0..self.pages.len() {
-            self.pages[place].protect(first, count, given);
+        for index in 0..self.pages.len() {
+            self.pages[index].protect(first, count, given);
         }
         Ok(())
     }
 
     // Whether each page of a range is there.
     fn look_for(&self, first: u64, count: u64) -> Result<(), Unmapped>
-        ensures { MatchResult result (λ _. first_missing self.now first count ≡ None) (λ error. first_missing self.now first count ≡ Some error.page) }
+        ensures { MatchResult result
+            (λ _. first_missing self.now first count ≡ None)
+            (λ error. first_missing self.now first count ≡ Some error.page) }
     {
         for done in 0..count {
-            if self.place(first + done).is_none() {
+            if self.index_of(first + done).is_none() {
                 return Err(Unmapped { page: first + done });
             }
         }
         Ok(())
     }
 
-    // The place where the pages of a range go, or why they can't be mapped.
+    // The index where the pages of a range go, or why they can't be mapped.
     fn gap(&self, first: u64, count: u64) -> Result<usize, MapErr>
-        ensures { MatchResult result (IsGap self.now first count) (λ error. map_refusal self.now first count ≡ Some error) }
+        ensures { MatchResult result
+            (IsGap self.now first count)
+            (λ error. map_refusal self.now first count ≡ Some error) }
     {
         if count == 0 || count > PAGE_NUMBERS || first > PAGE_NUMBERS - count {
             return Err(MapErr::BadRange);
         }
-        let place = self.lower(first);
-        if place < self.pages.len() && self.pages[place].number < first + count {
+        let index = self.lower(first);
+        if index < self.pages.len() && self.pages[index].number < first + count {
             return Err(MapErr::Busy);
         }
         if self.pages.len() as u64 + count > PAGE_LIMIT {
             return Err(MapErr::Full);
         }
-        Ok(place)
+        Ok(index)
     }
 
-    // The place of the first page whose number is not below this one.
+    // The index of the first page whose number is not below this one.
     fn lower(&self, number: u64) -> usize
         ensures { IsLower self.now number result }
     {
@@ -96,7 +102,7 @@ impl Space {
     }
 }
 
-// Pages of zeros.
+// The pages of a range, all zeros.
 fn zeroed(alloc: Global, first: u64, count: u64, rights: u8) -> Result<Vec<Page>, NoMemory>
     requires { first + count ≤ 2 ^ 26 }
     ensures { IfOk result (λ pages. pages.items ≡ pages_from first rights [] count) }
@@ -108,15 +114,16 @@ fn zeroed(alloc: Global, first: u64, count: u64, rights: u8) -> Result<Vec<Page>
     Ok(pages)
 }
 
-// Puts pages between those before a place and the others. At want of memory the others stay alone.
-fn put_in(pages: &mut Vec<Page>, place: usize, mut fresh: Vec<Page>) -> Result<(), AllocError>
-    requires { place ≤ length pages.old.items }
-    ensures put { OnOk result (pages.new.items ≡ take place pages.old.items ++ fresh.items ++ drop place pages.old.items) }
+// Puts pages between those before an index and the others. At want of memory the others stay alone.
+fn put_in(pages: &mut Vec<Page>, index: usize, mut fresh: Vec<Page>) -> Result<(), AllocError>
+    requires { index ≤ length pages.old.items }
+    ensures put { OnOk result
+        (pages.new.items ≡ take index pages.old.items ++ fresh.items ++ drop index pages.old.items) }
     ensures kept { OnErr result (pages.new.items ≡ pages.old.items) }
 {
     let count = fresh.len();
     pages.append(&mut fresh)?;
-    let (_, rest) = pages.split_at_mut(place);
+    let (_, rest) = pages.split_at_mut(index);
     rest.rotate_right(count);
     Ok(())
 }

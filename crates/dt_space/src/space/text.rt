@@ -2,7 +2,7 @@
 ghost use Rattle.std.specs.Prelude.{◌≡◌, ◌==◌, IfOk, IfErr, MatchResult, Ok};
 ghost use Rattle.std.specs.List.{position};
 ghost use Rattle.dt_space.specs.Text.{text_at, IsTextErr};
-ghost use Rattle.dt_space.specs.TextLen.{IsTextLen};
+ghost use Rattle.dt_space.specs.inner.TextLen.{IsTextLen};
 
 use super::Space;
 use crate::access::{READ, TextErr};
@@ -27,7 +27,7 @@ impl Space {
         let mut done = 0;
         while done < max {
             let piece = self.piece(READ, at.wrapping_add(done as u64), (max - done) as u64)?;
-            if let Some(end) = nul_place(piece) {
+            if let Some(end) = nul_offset(piece) {
                 return Ok(done + end);
             }
             done += piece.len();
@@ -36,8 +36,7 @@ impl Space {
     }
 }
 
-// The place of the first NUL.
-fn nul_place(bytes: &[u8]) -> Option<usize>
+fn nul_offset(bytes: &[u8]) -> Option<usize>
     ensures { result ≡ position (λ byte. byte == 0) bytes.now }
 {
     bytes.iter().position(|byte| *byte == 0)

@@ -3,7 +3,7 @@ use Rattle.dt_asm.specs.Item.{total}
 use Rattle.dt_asm.specs.Refusal.{any_out_of_reach}
 use Rattle.dt_asm.proofs.labels.any_out_of_reach.Given as goal
 
--- what is left answers as all items do, and the place is the sizes so far
+-- what is left answers as all items do, and the offset is the sizes so far
 abbrev pub invariant-loop-item : goal.invariant-loop-item
 invariant-loop-item l = record {
   sizes : l.at + total (drop l.item-index l.items) ≡ total l.items;

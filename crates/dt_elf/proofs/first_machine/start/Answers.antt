@@ -24,6 +24,5 @@ returns-in_err-space-clause-too_big c =
 -- its space is the one that was loaded
 pub returns-clause-sound : goal.returns-clause-sound
 returns-clause-sound c =
-    let placed = exe-placed c.args.bytes.now c.args.elf.now c.requires in
     let low = exe-entry c.args.bytes.now c.args.elf.now c.requires in
-    rw c.in_ok-space.ensures (first-is_machine c.args.bytes.now c.args.elf.now placed (omega (arith, low)) (rw (← c.pages.ensures) c.if-pages-gt-PAGE_LIMIT.false))
+    rw (c.from.ensures, c.in_ok-space.ensures.pages) (first-is_machine c.args.bytes.now c.args.elf.now (omega (arith, low)) (rw c.in_ok-space.ensures.pages at c.in_ok-space.ensures.sound))

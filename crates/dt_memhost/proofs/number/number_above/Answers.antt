@@ -2,7 +2,7 @@ use Rattle.std.proofs.Common.{ℕ, ◌+◌, ◌<◌, sym, ◌∙◌, arith, belo
 use Rattle.std.specs.Prelude.{IsSome}
 use Rattle.std.specs.FinMap.{get}
 use Rattle.dt_memhost.specs.declared.number.TheConstants.{NUMBERS}
-use Rattle.dt_memhost.specs.Node.{nodes_of}
+use Rattle.dt_memhost.specs.inner.Node.{nodes_of}
 use Rattle.dt_memhost.proofs.Numbered.{free_in, contains_key-nodes_of, row_of_live}
 use Rattle.dt_memhost.proofs.number.number_above.Goals as goal
 

@@ -1,6 +1,6 @@
 use Rattle.std.proofs.Common.{◌≡◌, ◌+◌, ◌-◌}
 use Rattle.dt_memhost.specs.declared.number.TheConstants.{NUMBERS}
-use Rattle.dt_memhost.specs.Node.{nodes_of}
+use Rattle.dt_memhost.specs.inner.Node.{nodes_of}
 use Rattle.dt_memhost.specs.Number.{around}
 use Rattle.dt_memhost.proofs.number.number_around.Given as goal
 

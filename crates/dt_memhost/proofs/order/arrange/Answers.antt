@@ -19,13 +19,13 @@ loop-done-preserved c =
     record {
       order =
           c.loop-done.invariant.order
-          ∙ picked_order-more found split.result.0.now split.result.1.now c.to_front.new.left c.loop-done.done c.place-at.result n c.loop-done.script (sym c.loop-done.auto.found) c.loop-done-test.true split.ensures.front split.ensures.back c.place-at.ensures.word c.to_front.ensures
-          ∙ ap (λ s. take (c.loop-done.done + 1) (split.result.0.now ++ c.to_front.new.left) ++ picked_order (words_of rest s) (drop (c.loop-done.done + 1) (split.result.0.now ++ c.to_front.new.left))) (sym c.place-at.ensures.after);
+          ∙ picked_order-more found split.result.0.now split.result.1.now c.to_first.new.left c.loop-done.done c.index-at.result n c.loop-done.script (sym c.loop-done.auto.found) c.loop-done-test.true split.ensures.front split.ensures.back c.index-at.ensures.word c.to_first.ensures
+          ∙ ap (λ s. take (c.loop-done.done + 1) (split.result.0.now ++ c.to_first.new.left) ++ picked_order (words_of rest s) (drop (c.loop-done.done + 1) (split.result.0.now ++ c.to_first.new.left))) (sym c.index-at.ensures.after);
       after =
           c.loop-done.invariant.after
           ∙ ap (λ k. picked_all k c.loop-done.script) (one_left c.loop-done.done n c.loop-done-test.true)
           ∙ picked_all-suc rest c.loop-done.script
-          ∙ ap (picked_all rest) (sym c.place-at.ensures.after);
+          ∙ ap (picked_all rest) (sym c.index-at.ensures.after);
     }
 
 pub returns-clause-order : goal.returns-clause-order

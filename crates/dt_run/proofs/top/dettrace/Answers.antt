@@ -1,31 +1,53 @@
-use Rattle.std.proofs.Common.{◌≡◌, Err, refl, sym, ap, ◌∙◌}
-use Rattle.dt_run.proofs.Askings.{refuses, tells, tells_refusal}
-use Rattle.dt_run.proofs.Completing.{complete_after, refused_after, tells_none, no_refusal}
+use Rattle.std.proofs.Common.{◌≡◌, Err, sym, ap, ◌∙◌}
+use Rattle.dt_run.proofs.Failing as failing
+use Rattle.dt_run.proofs.Lines.{own_line, refusal_line, no_line, no_refusal}
 use Rattle.dt_run.proofs.top.dettrace.Goals as goal
 
 pub returns-in-Ok-clause-line : goal.returns-in-Ok-clause-line
-returns-in-Ok-clause-line g c = λ _ _. tells_none c.in-Ok.status (g.E.Sink.told c.args.err.now) (g.E.Sink.count c.args.err.now) c.in-Ok.ensures.statuses
+returns-in-Ok-clause-line g c = λ _ _. no_line c.in-Ok.status (g.E.Sink.told c.args.err.now) (g.E.Sink.count c.args.err.now) c.in-Ok.ensures.statuses
 
 pub returns-in-Ok-clause-image_line : goal.returns-in-Ok-clause-image_line
 returns-in-Ok-clause-image_line g c = λ three. absurd (no_refusal c.in-Ok.status c.in-Ok.ensures.statuses three)
 
+pub returns-in-Ok-clause-complete : goal.returns-in-Ok-clause-complete
+returns-in-Ok-clause-complete g c = λ _ _ _. failing.completed c.in-Ok.status _ _ c.in-Ok.ensures.statuses
+
+pub returns-in-Ok-clause-refused_words : goal.returns-in-Ok-clause-refused_words
+returns-in-Ok-clause-refused_words g c = λ is. absurd (failing.not_refused_words _ _ c.in-Ok.ensures.completed is)
+
+pub returns-in-Ok-clause-refused_image : goal.returns-in-Ok-clause-refused_image
+returns-in-Ok-clause-refused_image g c = λ _. failing.not_refused_image _ _ _ c.in-Ok.ensures.completed
+
+pub returns-in-Err-clause-part : goal.returns-in-Err-clause-part
+returns-in-Err-clause-part g c = failing.part _ _ _ _ _ _ c.write_failure.ensures.status c.in-Err.ensures.failed
+
+pub returns-in-Err-clause-memory : goal.returns-in-Err-clause-memory
+returns-in-Err-clause-memory g c = λ _. failing.part_or_nothing _ _ _ _ _ c.in-Err.ensures.failed
+
+pub returns-in-Err-clause-nothing : goal.returns-in-Err-clause-nothing
+returns-in-Err-clause-nothing g c = failing.nothing _ _ _ _ _ _ c.write_failure.ensures.status c.in-Err.ensures.failed
+
+pub returns-in-Err-clause-usage : goal.returns-in-Err-clause-usage
+returns-in-Err-clause-usage g c = failing.usage _ _ _ _ _ _ c.write_failure.ensures.status c.in-Err.ensures.failed
+
 pub returns-in-Err-clause-image : goal.returns-in-Err-clause-image
-returns-in-Err-clause-image g c = λ three. refuses _ _ _ _ c.tell.ensures.status three (λ r is. c.in-Err.ensures.image r (ap Err is))
+returns-in-Err-clause-image g c = failing.refuses_image _ _ _ _ _ _ c.write_failure.ensures.status c.in-Err.ensures.failed
 
 pub returns-in-Err-clause-complete : goal.returns-in-Err-clause-complete
-returns-in-Err-clause-complete g c = λ no_store no_host no_output.
-    complete_after _ _ _ _ _ _ _ _ _ c.tell.ensures.status (λ is. c.in-Err.ensures.usage (ap Err is)) (λ r is. c.in-Err.ensures.image r (ap Err is))
+returns-in-Err-clause-complete g c =
+    failing.complete _ _ _ _ _ _ _ _ _ c.write_failure.ensures.status c.in-Err.ensures.failed
     (λ is. c.in-Err.ensures.store.rose (ap Err is)) (λ is. c.in-Err.ensures.host.rose (ap Err is)) (λ is. c.in-Err.ensures.output.rose (ap Err is))
-    no_store no_host no_output
+
+pub returns-in-Err-clause-refused_words : goal.returns-in-Err-clause-refused_words
+returns-in-Err-clause-refused_words g c = failing.refused_words _ _ _ _ _ _ c.write_failure.ensures.status c.in-Err.ensures.failed
 
 pub returns-in-Err-clause-refused_image : goal.returns-in-Err-clause-refused_image
-returns-in-Err-clause-refused_image g c = λ no_store.
-    refused_after _ _ _ _ _ c.tell.ensures.status (λ is. c.in-Err.ensures.usage (ap Err is)) (λ is. c.in-Err.ensures.store.rose (ap Err is))
-    (λ late. c.in-Err.ensures.accepted _ refl late) no_store
+returns-in-Err-clause-refused_image g c = λ none.
+    failing.refused_image _ _ _ _ _ _ _ c.write_failure.ensures.status c.in-Err.ensures.failed (λ is. c.in-Err.ensures.store.rose (ap Err is)) none
 
 pub returns-in-Err-clause-line : goal.returns-in-Err-clause-line
-returns-in-Err-clause-line g c = λ no_image other. tells _ _ _ _ _ _ c.tell.ensures.status no_image other (c.tell.ensures.line other)
+returns-in-Err-clause-line g c = λ no_image other. own_line _ _ _ _ _ _ c.write_failure.ensures.status no_image other (c.write_failure.ensures.line other)
 
 pub returns-in-Err-clause-image_line : goal.returns-in-Err-clause-image_line
 returns-in-Err-clause-image_line g c = λ three.
-    tells_refusal _ _ _ _ _ _ _ _ c.tell.ensures.status three (λ r is. c.in-Err.ensures.image r (ap Err is)) (c.tell.ensures.line (λ seven. let bad : 3 ≡ 7 = sym three ∙ seven in cc))
+    refusal_line _ _ _ _ _ _ _ _ _ _ c.write_failure.ensures.status c.in-Err.ensures.failed three (c.write_failure.ensures.line (λ seven. let bad : 3 ≡ 7 = sym three ∙ seven in cc))

@@ -1,19 +1,26 @@
-use Rattle.std.specs.Prelude.{IsOk}
-use Rattle.dt_run.proofs.Askings.{completes_asked, part_asked, refused_asked}
-use Rattle.dt_run.proofs.Completing.{on_asked, holds_asked}
+use Rattle.std.proofs.Common.{Err, ap, subst}
+use Rattle.dt_base.specs.Image.{IsImage}
+use Rattle.dt_run.proofs.Wanting.{run_of-status, some_run, on_err, fails_words, fails_image, fails_run_of}
 use Rattle.dt_run.proofs.top.run_words.Goals as goal
 
+pub returns-in_err-options-clause-failed : goal.returns-in_err-options-clause-failed
+returns-in_err-options-clause-failed g c =
+    on_err _ _ _ c.from_residual.ensures.1 (fails_words _ _ _ _ (λ is. c.in_err-options.ensures.refused (ap Err is)))
+
+pub returns-in_err-image-clause-failed : goal.returns-in_err-image-clause-failed
+returns-in_err-image-clause-failed g c =
+    on_err _ _ _ c.from_residual-in_err-image.ensures.1
+    (fails_image _ _ _ _ _ _ c.in_ok-options.ensures.ok c.as_str.ensures (λ r is. c.in_err-image.ensures.refused r (ap Err is)))
+
+pub returns-in_err-run_image-clause-failed : goal.returns-in_err-run_image-clause-failed
+returns-in_err-run_image-clause-failed g c =
+    on_err _ _ _ c.from_residual-in_err-run_image.ensures.1
+    (fails_run_of _ _ _ _ _
+    (some_run _ _ _ _ _ _ c.in_ok-options.ensures.ok c.as_str.ensures (subst IsImage c.image.view_is c.image.invariant) c.in_ok-image.ensures.ok c.run_image.ensures.part))
+
 pub returns-clause-completed : goal.returns-clause-completed
-returns-clause-completed g c = completes_asked _ _ _ _ _ _ c.in_ok-options.ensures.ok c.run_options.ensures.completed
+returns-clause-completed g c =
+    some_run _ _ _ _ _ _ c.in_ok-options.ensures.ok c.as_str.ensures (subst IsImage c.image.view_is c.image.invariant) c.in_ok-image.ensures.ok c.in_ok-run_image.ensures.completed
 
-pub returns-clause-tree : goal.returns-clause-tree
-returns-clause-tree g c = holds_asked _ _ _ _ _ c.in_ok-options.ensures.ok c.run_options.ensures.tree
-
-pub returns-clause-part : goal.returns-clause-part
-returns-clause-part g c = part_asked _ _ _ _ _ c.in_ok-options.ensures.ok c.run_options.ensures.part
-
-pub returns-clause-image : goal.returns-clause-image
-returns-clause-image g c = λ r is. refused_asked _ _ _ r c.in_ok-options.ensures.ok (c.run_options.ensures.image r is)
-
-pub returns-clause-accepted : goal.returns-clause-accepted
-returns-clause-accepted g c = λ f is late. on_asked _ _ _ (λ found. IsOk found) c.in_ok-options.ensures.ok (c.run_options.ensures.accepted f is late)
+pub returns-clause-statuses : goal.returns-clause-statuses
+returns-clause-statuses g c = run_of-status _ _ _ _ _ c.in_ok-run_image.ensures.completed.status

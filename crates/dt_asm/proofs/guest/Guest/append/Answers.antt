@@ -1,5 +1,5 @@
 use Rattle.std.proofs.Common.{subst}
-use Rattle.dt_asm.specs.Sized.{IsGrown}
+use Rattle.dt_asm.specs.inner.Sized.{IsGrown}
 use Rattle.dt_asm.proofs.Codes.{sized_more}
 use Rattle.dt_asm.proofs.guest.Guest.append.Goals as goal
 

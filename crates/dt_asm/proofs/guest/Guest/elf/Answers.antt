@@ -4,7 +4,7 @@ use Rattle.std.proofs.lemmas.Result.{err_from_is_err_and}
 use Rattle.dt_base.specs.declared.limits.TheConstants.{FILE_LIMIT}
 use Rattle.dt_asm.specs.Item.{pieces_of}
 use Rattle.dt_asm.specs.Refusal.{is_lost, is_set_twice, any_out_of_reach, is_bad}
-use Rattle.dt_asm.specs.Adding.{RefusesField}
+use Rattle.dt_asm.specs.inner.Adding.{RefusesField}
 use Rattle.dt_asm.specs.File.{file_size, Refuses, IsFileOf}
 use Rattle.dt_asm.proofs.Codes.{refuses_field}
 use Rattle.dt_asm.proofs.Accepting.{accepted}

@@ -11,12 +11,12 @@ use Rattle.dt_elf.proofs.elf.Segment.load.Goals as goal
 pub with_pages-requires-2-clause-above : goal.with_pages-requires-2-clause-above
 with_pages-requires-2-clause-above c =
     let first = c.args.self.now.vaddr / PAGE_SIZE in
-    let pages : c.in_ok-space.space ≡ pages_from first (granted c.args.self.now.rights) c.deref.result.now c.pages.result = c.in_ok-space.ensures ∙ ap (λ front. front ++ pages_from first (granted c.args.self.now.rights) c.deref.result.now c.pages.result) c.new.ensures in
+    let pages : c.in_ok-space.space ≡ pages_from first (granted c.args.self.now.rights) c.deref.result.now c.pages.result = c.in_ok-space.ensures.pages ∙ ap (λ prefix. prefix ++ pages_from first (granted c.args.self.now.rights) c.deref.result.now c.pages.result) c.new.ensures in
     let below : first + c.pages.result ≤ STACK_START / PAGE_SIZE = rw c.pages.ensures (pages-below c.args.bytes.now c.args.self.now c.requires.placed) in
     first-pages-end _ _ _ _ _ _ pages below
 
 pub with_pages-requires-2-clause-few : goal.with_pages-requires-2-clause-few
 with_pages-requires-2-clause-few c =
     let first = c.args.self.now.vaddr / PAGE_SIZE in
-    let pages : c.in_ok-space.space ≡ pages_from first (granted c.args.self.now.rights) c.deref.result.now c.pages.result = c.in_ok-space.ensures ∙ ap (λ front. front ++ pages_from first (granted c.args.self.now.rights) c.deref.result.now c.pages.result) c.new.ensures in
+    let pages : c.in_ok-space.space ≡ pages_from first (granted c.args.self.now.rights) c.deref.result.now c.pages.result = c.in_ok-space.ensures.pages ∙ ap (λ prefix. prefix ++ pages_from first (granted c.args.self.now.rights) c.deref.result.now c.pages.result) c.new.ensures in
     rw (first-pages-length _ _ _ _ _ pages, c.pages.ensures) c.requires.few

@@ -1,7 +1,7 @@
 use Rattle.std.proofs.Common.{◌≡◌, None, sym, ap, ◌∙◌}
 use Rattle.std.specs.FinMap.{get}
 use Rattle.indexmap.proofs.CallerLemmas.{insert_entry-new}
-use Rattle.dt_memhost.specs.Dir.{order_of, names_of}
+use Rattle.dt_memhost.specs.inner.Dir.{order_of, names_of}
 use Rattle.dt_memhost.proofs.Named.{get-names_of, order_of-push, names_of-push}
 use Rattle.dt_memhost.proofs.dir.Entries.bind.Goals as goal
 

@@ -6,7 +6,7 @@ use Rattle.std.proofs.lemmas.Map.Iter.{iter_end}
 use Rattle.std.proofs.lemmas.Simd.{map-map}
 use Rattle.dt_host.specs.declared.entry.HostEntry.{HostEntry}
 use Rattle.dt_host.specs.Legal.{named}
-use Rattle.dt_memhost.specs.Dir.{order_of, names_of}
+use Rattle.dt_memhost.specs.inner.Dir.{order_of, names_of}
 use Rattle.dt_memhost.proofs.Named.{alike_pushed, each_entry}
 use Rattle.dt_memhost.proofs.dir.Entries.list.Goals as goal
 

@@ -1,10 +1,12 @@
 use Rattle.std.proofs.Common.{◌≡◌, ◌∷◌, [], ◌++◌, Option, None, Some, sym, ◌∙◌, subst}
+use Rattle.std.proofs.lemmas.Result.{on_ok_weaker, on_err_weaker}
 use Rattle.std.specs.Prelude.{IsSome, IfSome, OnOk, OnErr, Result, Ok, Err, option_map, option_and_then}
 use Rattle.std.specs.FinMap.{get, insert}
-use Rattle.dt_host.specs.World.{dir, dir_names, IsDir, entry}
-use Rattle.dt_memhost.specs.Node.{node_in, entries_of, order_in}
-use Rattle.dt_memhost.specs.Forest.{Ordered}
-use Rattle.dt_memhost.proofs.Forests.{entry-forest_of, dir_at-forest_of, put_entry, same_forest, same_values, order_pushed, has_order}
+use Rattle.dt_host.specs.World.{dir, dir_names, IsDir, IsSized, entry}
+use Rattle.dt_host.proofs.Sized.{IsSized-with_entry}
+use Rattle.dt_memhost.specs.inner.Node.{node_in, entries_of, order_in}
+use Rattle.dt_memhost.specs.inner.Forest.{Ordered}
+use Rattle.dt_memhost.proofs.Forests.{forest_of, by_outcome, entry-forest_of, dir_at-forest_of, put_entry, same_forest, same_values, order_pushed, has_order}
 use Rattle.dt_memhost.proofs.forest.MemForest.bind.Goals as goal
 
 -- what holds for what is there holds
@@ -28,6 +30,17 @@ bind-requires c =
     let unnamed : option_and_then (λ names. get names c.in_ok-name.name.items) (option_and_then dir_names (node_in nodes c.args.dir)) ≡ None =
     rw c.in_ok-name.ensures.items (sym (entry-forest_of nodes c.self.inside.root c.args.dir c.args.name.now) ∙ none) in
     unnamed
+
+pub invariant_of-self : goal.invariant_of-self
+invariant_of-self c =
+    let old = c.self.inside.nodes in
+    let root = c.self.inside.root in
+    let d = c.args.dir in
+    let is = subst (λ (v : Ordered). IsDir v.forest d) (sym c.self.view_is) c.requires.directory in
+    let put = subst (λ name. IfSome (option_and_then dir_names (node_in old d)) (λ names. node_in c.bind.new.nodes d ≡ Some (dir (insert names name c.args.number)))) c.in_ok-name.ensures.items in
+    by_outcome c.bind.result
+    (on_ok_weaker c.bind.result (λ h. subst IsSized (sym (put_entry old c.bind.new.nodes root d c.bind.ensures.others c.args.name.now c.args.number is (put h))) (IsSized-with_entry (forest_of old root) d c.args.name.now c.args.number c.self.invariant is)) c.bind.ensures.ok)
+    (on_err_weaker c.bind.result (λ h. subst IsSized (sym (same_forest old c.bind.new.nodes root d c.bind.ensures.others h)) c.self.invariant) c.bind.ensures.err)
 
 pub returns-clause-ok : goal.returns-clause-ok
 returns-clause-ok c =

@@ -1,7 +1,7 @@
 use Rattle.std.proofs.Common.{◌≡◌, ℕ, List, [], Option, Some, None, Bor, Vec, sym, ap, subst, ◌∙◌}
 use Rattle.std.specs.Prelude.{IfSome, option_map, option_copied, option_and_then, unwrap_or, vec_items}
 use Rattle.dt_host.specs.World.{file_bytes}
-use Rattle.dt_memhost.specs.Node.{node_in}
+use Rattle.dt_memhost.specs.inner.Node.{node_in}
 use Rattle.dt_memhost.proofs.Forests.{file_at-forest_of, content-forest_of}
 use Rattle.dt_memhost.proofs.forest.MemForest.bytes_at.Goals as goal
 

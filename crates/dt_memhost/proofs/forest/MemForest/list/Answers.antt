@@ -4,7 +4,7 @@ use Rattle.std.specs.List.Sorted.{IsPermutation}
 use Rattle.std.specs.FinMap.{entries, empty}
 use Rattle.dt_host.specs.World.{Names, IsDir, names_at}
 use Rattle.dt_host.specs.Legal.{named}
-use Rattle.dt_memhost.specs.Forest.{Ordered}
+use Rattle.dt_memhost.specs.inner.Forest.{Ordered}
 use Rattle.dt_memhost.proofs.Forests.{dir_at-forest_of, get-orders_of}
 use Rattle.dt_memhost.proofs.forest.MemForest.list.Goals as goal
 

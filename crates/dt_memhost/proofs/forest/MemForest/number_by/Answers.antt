@@ -1,4 +1,4 @@
-use Rattle.dt_memhost.specs.Node.{nodes_of}
+use Rattle.dt_memhost.specs.inner.Node.{nodes_of}
 use Rattle.dt_memhost.proofs.Numbered.{chosen_number}
 use Rattle.dt_memhost.proofs.forest.MemForest.number_by.Goals as goal
 

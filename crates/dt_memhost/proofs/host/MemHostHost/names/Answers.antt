@@ -1,5 +1,5 @@
 use Rattle.std.proofs.Common.{◌≡◌, ◌||◌, ℕ, List, ◌++◌, Bool, true, false, map, length, take, drop, arith, append-nil, sym, ap, subst, ◌∙◌}
-use Rattle.std.specs.Prelude.{MatchBool, if◌then◌else◌}
+use Rattle.std.specs.Prelude.{MatchBool}
 use Rattle.std.specs.List.Sorted.{IsPermutation}
 use Rattle.std.specs.FinMap.{entries}
 use Rattle.std.proofs.lemmas.List.{drop_all, take_all, length-map}
@@ -7,7 +7,7 @@ use Rattle.std.proofs.lemmas.List.Sorted.{IsPermutation-trans}
 use Rattle.dt_host.specs.declared.entry.HostEntry.{HostEntry}
 use Rattle.dt_host.specs.World.{names_at}
 use Rattle.dt_host.specs.Legal.{named}
-use Rattle.dt_memhost.specs.Script.{Script, fails_next, counted, failed, picked_all, words_of}
+use Rattle.dt_memhost.specs.Script.{Script, fails_next, counted, picked_all, words_of}
 use Rattle.dt_memhost.specs.Order.{order_at, picked_order}
 use Rattle.dt_memhost.specs.Host.{HostState, ListsBy}
 use Rattle.dt_memhost.proofs.Arranged.{map-picked_order, IsPermutation-picked_order}
@@ -19,10 +19,6 @@ written_over new items len size same =
     ap (λ xs. take len (new ++ xs)) (drop_all (length new) items (omega arith))
     ∙ ap (take len) (append-nil new)
     ∙ take_all len new (omega arith)
-
--- a call that isn't listed is counted
-counts : (s after : Script) (fails : Bool) → fails ≡ false → after ≡ (if fails then failed s else counted s) → after ≡ counted s
-counts s after fails e is = is ∙ ap (λ b. if b then failed s else counted s) e
 
 -- the entries in the order of the words, where they were found in that of their binding
 lists : (old : HostState) (d : ℕ) (found arranged : List HostEntry) (before after : Script) → map named found ≡ order_at old.orders d → before ≡ counted old.script → arranged ≡ picked_order (words_of (length found) before) found → after ≡ picked_all (length found) before → ListsBy old d (record old { script = after }) arranged
@@ -39,10 +35,10 @@ lists old d found arranged before after bound calls turned left =
       kept = ap (λ s. record old { script = s }) (left ∙ ap (picked_all (length found)) calls ∙ ap (λ n. picked_all n (counted old.script)) many);
     }
 
--- a call whose test was not met answers as said
-unlisted : (F L : Type 0) (listed fails : Bool) → fails ≡ (false || listed) → fails ≡ false → L → MatchBool listed F L
-unlisted F L true fails e h said = cc
-unlisted F L false fails e h said = said
+-- a call that isn't listed answers as said
+unlisted : (F L : Type 0) (listed : Bool) → (false || listed) ≡ false → L → MatchBool listed F L
+unlisted F L true h said = cc
+unlisted F L false h said = said
 
 pub returns-clause-exact : goal.returns-clause-exact
 returns-clause-exact c =
@@ -52,18 +48,18 @@ returns-clause-exact c =
     let old : HostState = record { view = record { forest = inside.forest.forest }; orders = inside.forest.orders; script = inside.script } in
     let new : HostState = record { view = record { forest = inside.forest.forest }; orders = inside.forest.orders; script = c.arrange.new.script } in
     let said : ListsBy old c.args.dir new c.arrange.new.found =
-    lists old c.args.dir found.items c.arrange.new.found c.fails.new.self c.arrange.new.script c.in_ok-found.ensures.order
-    (counts inside.script c.fails.new.self c.fails.result c.if-fails.false c.fails.ensures.after)
-    (c.arrange.ensures.order ∙ ap (λ xs. picked_order (words_of (length xs) c.fails.new.self) xs) first)
-    (c.arrange.ensures.after ∙ ap (λ xs. picked_all (length xs) c.fails.new.self) first) in
+    lists old c.args.dir found.items c.arrange.new.found c.begin.new.self c.arrange.new.script c.in_ok-found.ensures.order
+    c.in_ok-begin.ensures.ok
+    (c.arrange.ensures.order ∙ ap (λ xs. picked_order (words_of (length xs) c.begin.new.self) xs) first)
+    (c.arrange.ensures.after ∙ ap (λ xs. picked_all (length xs) c.begin.new.self) first) in
     let whole = written_over c.arrange.new.found found.items found.len (sym c.deref_mut.ensures.len ∙ ap length first) (c.arrange.auto.found ∙ ap length first) in
-    rw (← c.self.view_is) (unlisted _ _ (fails_next inside.script) c.fails.result c.fails.ensures.answer c.if-fails.false (subst (ListsBy old c.args.dir new) (sym whole) said))
+    rw (← c.self.view_is) (unlisted _ _ (fails_next inside.script) c.in_ok-begin.ensures.unlisted (subst (ListsBy old c.args.dir new) (sym whole) said))
 
 pub returns-clause-ok : goal.returns-clause-ok
 returns-clause-ok c =
     let found = c.in_ok-found.found in
     let first = c.deref_mut.ensures.value in
-    let words = words_of (length c.deref_mut.result.now) c.fails.new.self in
+    let words = words_of (length c.deref_mut.result.now) c.begin.new.self in
     let whole = written_over c.arrange.new.found found.items found.len (sym c.deref_mut.ensures.len ∙ ap length first) (c.arrange.auto.found ∙ ap length first) in
     let turned : map named (take found.len (c.arrange.new.found ++ drop (length c.arrange.new.found) found.items)) ≡ picked_order words (map named found.items) =
     ap (map named) (whole ∙ c.arrange.ensures.order ∙ ap (picked_order words) first) ∙ map-picked_order named words found.items in

@@ -8,10 +8,10 @@ use Rattle.dt_memhost.proofs.script.Script.fill.Goals as goal
 
 -- one byte more
 filled : (buf : List ℕ) (i byte : ℕ) (start before : Script) → i < length buf → take i buf ≡ map (λ word. word % 256) (words_of i start) → before ≡ picked_all i start → byte ≡ word_of before % 256 → take (i + 1) (slice_set buf i byte) ≡ map (λ word. word % 256) (words_of (i + 1) start)
-filled buf i byte start before h front stands is =
+filled buf i byte start before h prefix stands is =
     ap (λ k. take k (slice_set buf i byte)) (add-one i)
     ∙ take-suc-set buf i byte h
-    ∙ ap (λ xs. xs ++ byte ∷ []) front
+    ∙ ap (λ xs. xs ++ byte ∷ []) prefix
     ∙ ap (λ b. map (λ word. word % 256) (words_of i start) ++ b ∷ []) (is ∙ ap (λ s. word_of s % 256) stands)
     ∙ sym (map-append (λ word. word % 256) (words_of i start) (word_of (picked_all i start) ∷ []))
     ∙ ap (map (λ word. word % 256)) (sym (next_words-push i start.picks))
@@ -36,10 +36,10 @@ loop-byte-preserved c =
 
 -- all of it was filled
 all_filled : (buf : List ℕ) (i n : ℕ) (start : Script) → i ≡ n → n ≡ length buf → take i buf ≡ map (λ word. word % 256) (words_of i start) → buf ≡ map (λ word. word % 256) (words_of n start)
-all_filled buf i n start same size front =
+all_filled buf i n start same size prefix =
     sym (take-length buf)
     ∙ ap (λ k. take k buf) (sym (same ∙ size))
-    ∙ front
+    ∙ prefix
     ∙ ap (λ k. map (λ word. word % 256) (words_of k start)) same
 
 pub returns-clause-bytes : goal.returns-clause-bytes

@@ -3,7 +3,7 @@ use Rattle.std.specs.List.{filter}
 use Rattle.std.proofs.lemmas.Fn.{filter_same}
 use Rattle.dt_space.specs.Space.{PageView}
 use Rattle.dt_space.specs.Ranges.{is_in, unmapped}
-use Rattle.dt_space.proofs.Mapped.{IsSpace-filter}
+use Rattle.dt_space.proofs.Spaces.{IsSpace-filter}
 use Rattle.dt_space.proofs.Found.{unmapped-others, unmapped-none}
 use Rattle.dt_space.proofs.space.Space.unmap.Goals as goal
 

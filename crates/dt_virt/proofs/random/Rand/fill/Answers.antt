@@ -12,7 +12,7 @@ pub returns-clause-bytes : goal.returns-clause-bytes
 returns-clause-bytes c =
     let filled = c.fill_bytes_via_u32 in
     let all = draws c.self.inside.key (length c.args.buf.now) c.self.inside.words filled.new.rng filled.new.dst c.self.invariant filled.ensures in
-    rw (← c.self.view_is) all.front
+    rw (← c.self.view_is) all.prefix
 
 pub returns-clause-rest : goal.returns-clause-rest
 returns-clause-rest c =

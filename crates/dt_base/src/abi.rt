@@ -1,0 +1,81 @@
+//! Linux's calls on 64-bit RISC-V: registers, call numbers, signal numbers, and how wide an argument is.
+ghost use Rattle.std.specs.Prelude.{◌≡◌};
+ghost use Rattle.dt_base.specs.Abi.{low_word, signed_word, byte_count, exit_code};
+
+use crate::TRANSFER_LIMIT;
+
+/// The register of the stack pointer, sp (RISC-V ELF psABI, "Integer Register Convention").
+pub const SP: u8 = 2;
+
+/// The register of a call's first argument and of its answer, a0 (syscall(2)).
+pub const A0: u8 = 10;
+
+/// The register of a call's second argument, a1.
+pub const A1: u8 = 11;
+
+/// The register of a call's third argument, a2.
+pub const A2: u8 = 12;
+
+/// The register of a call's number, a7.
+pub const A7: u8 = 17;
+
+/// openat(2), by its number (asm-generic/unistd.h, as all numbers of calls here).
+pub const OPENAT: u64 = 56;
+
+/// close(2)
+pub const CLOSE: u64 = 57;
+
+/// read(2)
+pub const READ: u64 = 63;
+
+/// write(2)
+pub const WRITE: u64 = 64;
+
+/// exit(2)
+pub const EXIT: u64 = 93;
+
+/// exit_group(2)
+pub const EXIT_GROUP: u64 = 94;
+
+/// The dirfd that stands for the working directory (openat(2)).
+pub const AT_FDCWD: i32 = -100;
+
+/// An illegal instruction (signal(7), as all numbers of signals here).
+pub const SIGILL: u8 = 4;
+
+/// A breakpoint.
+pub const SIGTRAP: u8 = 5;
+
+/// A program counter or a jump's target that is not a multiple of 4.
+pub const SIGBUS: u8 = 7;
+
+/// An access to memory that is not there, or lacks the right.
+pub const SIGSEGV: u8 = 11;
+
+/// The 32 bits that count of an argument which C declares as an `int`: a descriptor, flags, a mode.
+pub fn low_word(argument: u64) -> u32
+    ensures { result ≡ low_word argument }
+{
+    (argument & 0xffff_ffff) as u32
+}
+
+/// The same 32 bits of an argument that may be negative: a dirfd.
+pub fn signed_word(argument: u64) -> i32
+    ensures { result ≡ signed_word argument }
+{
+    low_word(argument).cast_signed()
+}
+
+/// How many bytes a transfer is asked for: the argument, cut to what one call moves at most.
+pub fn byte_count(argument: u64) -> u64
+    ensures { result ≡ byte_count argument }
+{
+    argument.min(TRANSFER_LIMIT)
+}
+
+/// The code with which a process ends that asks for it (exit(2)).
+pub fn exit_code(argument: u64) -> u8
+    ensures { result ≡ exit_code argument }
+{
+    (argument & 0xff) as u8
+}

@@ -1,0 +1,52 @@
+-- A forest whose numbers have 64 bits, and what keeps it so.
+use Rattle.std.proofs.Common.{arith, ◌≡◌, ℕ, ◌+◌, ◌^◌, ◌<◌, ◌≤◌, List, [], ◌++◌, length, take, drop, Option, Some, None, refl, sym, subst, length-append, length-drop}
+use Rattle.std.specs.Prelude.{IsSome, option_and_then, unwrap_or}
+use Rattle.std.proofs.lemmas.List.{length-take-le}
+use Rattle.std.specs.Cmp.{nat_cmp_total}
+use Rattle.std.specs.FinMap.{empty, get-empty, nat_cmp-IsAntisymmetric}
+use Rattle.std.specs.Ordering.{nat_cmp}
+use Rattle.dt_host.specs.World.{Forest, Node, dir, file_bytes, node_at, content, with_node, with_entry, with_bytes, empty_forest, IsDir, IsFile, IsSized}
+use Rattle.dt_host.proofs.Maps.{at_insert}
+use Rattle.dt_host.proofs.Spots.{at_node, IsLive-IsDir}
+use Rattle.dt_base.specs.Bytes.{overwritten}
+
+-- one node more, under a number of 64 bits
+pub IsSized-with_node : (v : Forest) (n : ℕ) (node : Node) → IsSized v → n < 2 ^ 64 → length (unwrap_or (file_bytes node) []) < 2 ^ 64 → IsSized (with_node v n node)
+unfolding content
+IsSized-with_node v n node kept small short = record {
+  numbers = λ q. at_node v n node (λ found. IsSome found → q < 2 ^ 64) q (λ is _. subst (λ x. x < 2 ^ 64) (sym is) small) (λ _. kept.numbers q);
+  root = kept.root;
+  files = λ q. at_node v n node (λ found. length (unwrap_or (option_and_then file_bytes found) []) < 2 ^ 64) q (λ _. short) (λ _. kept.files q);
+}
+
+-- one entry more in a directory
+pub IsSized-with_entry : (v : Forest) (d : ℕ) (name : List ℕ) (n : ℕ) → IsSized v → IsDir v d → IsSized (with_entry v d name n)
+unfolding with_entry
+IsSized-with_entry v d name n kept is = IsSized-with_node v d _ kept (kept.numbers d (IsLive-IsDir v d is)) (omega arith)
+
+-- other bytes as a file, of a size of 64 bits
+pub IsSized-with_bytes : (v : Forest) (n : ℕ) (bytes : List ℕ) → IsSized v → IsFile v n → length bytes < 2 ^ 64 → IsSized (with_bytes v n bytes)
+unfolding with_bytes
+IsSized-with_bytes v n bytes kept is short = IsSized-with_node v n _ kept (kept.numbers n (live (node_at v n) is)) short
+  where
+    live : (found : Option Node) → IsSome (option_and_then file_bytes found) → IsSome found
+    live None h = cc
+    live (Some node) h = refl
+
+-- bytes written over a file that end within 64 bits
+pub short_overwritten : (old : List ℕ) (off : ℕ) (bytes : List ℕ) → off ≤ length old → length old < 2 ^ 64 → off + length bytes < 2 ^ 64 → length (overwritten old off bytes) < 2 ^ 64
+short_overwritten old off bytes joined short fits =
+    omega (arith, length-take-le off old joined, length-append (take off old) bytes, length-append (take off old ++ bytes) (drop (off + length bytes) old), length-drop (off + length bytes) old)
+
+-- nothing but a root without entries
+pub IsSized-empty_forest : (root : ℕ) → root < 2 ^ 64 → IsSized (empty_forest root)
+unfolding content
+IsSized-empty_forest root small = record {
+  numbers = λ q. at_insert nat_cmp_total nat_cmp-IsAntisymmetric (λ found. IsSome found → q < 2 ^ 64) empty root (dir empty) q (λ is _. subst (λ x. x < 2 ^ 64) (sym is) small) (λ _ live. absurd (none_live _ (get-empty nat_cmp q) live));
+  root = small;
+  files = λ q. at_insert nat_cmp_total nat_cmp-IsAntisymmetric (λ found. length (unwrap_or (option_and_then file_bytes found) []) < 2 ^ 64) empty root (dir empty) q (λ _. omega arith) (λ _. subst (λ found. length (unwrap_or (option_and_then file_bytes found) []) < 2 ^ 64) (sym (get-empty nat_cmp q)) (omega arith));
+}
+  where
+    none_live : (found : Option Node) → found ≡ None → IsSome found → ⊥
+    none_live None e live = cc
+    none_live (Some node) e live = cc

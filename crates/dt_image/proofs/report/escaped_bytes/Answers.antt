@@ -1,5 +1,0 @@
-use Rattle.dt_image.proofs.Escapes.{contains_escaped}
-use Rattle.dt_image.proofs.report.escaped_bytes.Goals as goal
-
-pub returns-clause-bytes : goal.returns-clause-bytes
-returns-clause-bytes c = contains_escaped

@@ -1,0 +1,172 @@
+// The tree's part of a report.
+ghost use Rattle.std.specs.Prelude.{◌≡◌, ◌<◌, ◌++◌, ℕ, Some, length, map, OnOk, IfOk, IsErrOf, string_bytes};
+ghost use Rattle.std.specs.List.{All, flat_map};
+ghost use Rattle.hex.specs.Hex.{encode_lower};
+ghost use Rattle.percent_encoding.specs.AsciiSet.{contains};
+ghost use Rattle.sha2.specs.Sha256.{sha256};
+ghost use Rattle.dt_host.specs.Cause.{HasCause};
+ghost use Rattle.dt_host.specs.World.{IsFile, IsLive, content};
+ghost use Rattle.dt_tree.specs.Table.{Stands, shape_of, tree_of};
+ghost use Rattle.dt_image.specs.Report.{escaped_set, is_escaped, file_line, dir_line, link_line, mode_text, path_line, tree_header, tree_text};
+ghost use Rattle.dt_image.specs.inner.PathView.{shown};
+
+use crate::paths::{TreePath, paths_of};
+use dt_base::{Blob, NoMemory};
+use dt_host::{Host, HostErr};
+use dt_tree::{Meta, Tree};
+use percent_encoding::{AsciiSet, CONTROLS, ascii_set, percent_encode};
+use sha2::{Digest, Sha256};
+use std::alloc::{AllocError, Global};
+use std::io::Write;
+
+// They are written as `%` and two digits, and so is each byte past ASCII.
+const ESCAPED: AsciiSet = ascii_set!(CONTROLS.add(b' ').add(b'%'));
+
+// The bytes of ASCII that a path is shown without: the controls, space and `%`.
+fn escaped_bytes() -> AsciiSet
+    ensures value { result ≡ escaped_set }
+    ensures bytes { (b : ℕ) → b < 128 → contains result b ≡ is_escaped b }
+{
+    ESCAPED
+}
+
+/// The lines of a tree: `tree`, how many follow, and for each path below the root in byte order what stands there.
+pub fn tree_lines<H: Host>(alloc: Global, host: &mut H, tree: &Tree) -> Result<Blob, HostErr>
+    requires { Stands tree.now (H.view host.old).forest }
+    ensures ok { IfOk result (λ text. text ≡ tree_text (tree_of tree.now (H.view host.old).forest)) }
+    ensures stays { H.view host.new ≡ H.view host.old }
+    ensures cause { HasCause (H.count host.old) (H.count host.new) (IsErrOf result HostErr.Failed) }
+{
+    let paths = paths_of(alloc, host, tree)?;
+    let mut text = Vec::new(alloc);
+    write_tree_header(&mut text, paths.len())?;
+    write_lines(alloc, host, tree, &mut text, &paths)?;
+    Ok(Blob::new(text))
+}
+
+fn write_tree_header(text: &mut Vec<u8>, count: usize) -> Result<(), NoMemory>
+    ensures { OnOk result (text.new.items ≡ text.old.items ++ tree_header count) }
+{
+    write!(text, "tree {count}\n").map_err(|_| NoMemory)
+}
+
+// Writes a line for each of these paths.
+fn write_lines<H: Host>(
+    alloc: Global,
+    host: &mut H,
+    tree: &Tree,
+    text: &mut Vec<u8>,
+    paths: &[TreePath],
+) -> Result<(), HostErr>
+    requires stands { Stands tree.now (H.view host.old).forest }
+    requires live { All (λ at. IsLive (shape_of tree.now (H.view host.old).forest) at.inode) paths.now }
+    ensures ok { OnOk result (text.new.items ≡ text.old.items
+        ++ flat_map (path_line (tree_of tree.now (H.view host.old).forest)) (map shown paths.now)) }
+    ensures stays { H.view host.new ≡ H.view host.old }
+    ensures cause { HasCause (H.count host.old) (H.count host.new) (IsErrOf result HostErr.Failed) }
+{
+    for at in paths {
+        write_line(alloc, host, tree, text, at)?;
+    }
+    Ok(())
+}
+
+fn write_line<H: Host>(
+    alloc: Global,
+    host: &mut H,
+    tree: &Tree,
+    text: &mut Vec<u8>,
+    at: &TreePath,
+) -> Result<(), HostErr>
+    requires stands { Stands tree.now (H.view host.old).forest }
+    requires live { IsLive (shape_of tree.now (H.view host.old).forest) at.now.inode }
+    ensures ok { OnOk result (text.new.items ≡ text.old.items
+        ++ path_line (tree_of tree.now (H.view host.old).forest) (shown at.now)) }
+    ensures stays { H.view host.new ≡ H.view host.old }
+    ensures cause { HasCause (H.count host.old) (H.count host.new) (IsErrOf result HostErr.Failed) }
+{
+    let meta = tree.meta(host, at.inode)?;
+    if tree.is_dir(at.inode) {
+        return Ok(write_dir(alloc, text, at, meta)?);
+    }
+    if tree.is_link(at.inode) {
+        let target = tree.target(host, at.inode)?;
+        return Ok(write_link(text, at, meta, target.as_slice())?);
+    }
+    let bytes = read_file(alloc, host, tree, at.inode, meta.size)?;
+    Ok(write_file(alloc, text, at, meta, &bytes)?)
+}
+
+// All the bytes of a file of that size.
+fn read_file<H: Host>(
+    alloc: Global,
+    host: &mut H,
+    tree: &Tree,
+    inode: u64,
+    size: u64,
+) -> Result<Vec<u8>, HostErr>
+    requires stands { Stands tree.now (H.view host.old).forest }
+    requires file { IsFile (shape_of tree.now (H.view host.old).forest) inode }
+    requires size { size ≡ length (content (shape_of tree.now (H.view host.old).forest) inode) }
+    ensures ok { IfOk result (λ bytes.
+        bytes.items ≡ content (shape_of tree.now (H.view host.old).forest) inode) }
+    ensures stays { H.view host.new ≡ H.view host.old }
+    ensures cause { HasCause (H.count host.old) (H.count host.new) (IsErrOf result HostErr.Failed) }
+{
+    let mut bytes = vec![in alloc; 0; size as usize]?;
+    tree.read_at(host, inode, 0, &mut bytes)?;
+    Ok(bytes)
+}
+
+#[tactic(auto, unfolding(crate::specs::Report::dir_line))]
+fn write_dir(alloc: Global, text: &mut Vec<u8>, at: &TreePath, meta: Meta) -> Result<(), NoMemory>
+    ensures { OnOk result (text.new.items ≡ text.old.items
+        ++ dir_line at.now.inode meta.mode meta.stamp at.now.path) }
+{
+    let (inode, stamp) = (at.inode, meta.stamp);
+    let mode = mode_text(alloc, meta.mode)?;
+    let path = percent_encode(at.path.as_slice(), escaped_bytes());
+    write!(text, "dir {inode} {mode} {stamp} {path}\n").map_err(|_| NoMemory)
+}
+
+#[tactic(auto, unfolding(crate::specs::Report::link_line))]
+fn write_link(text: &mut Vec<u8>, at: &TreePath, meta: Meta, target: &[u8]) -> Result<(), NoMemory>
+    ensures { OnOk result (text.new.items ≡ text.old.items
+        ++ link_line at.now.inode meta.stamp at.now.path target.now) }
+{
+    let (inode, stamp) = (at.inode, meta.stamp);
+    let path = percent_encode(at.path.as_slice(), escaped_bytes());
+    let target = percent_encode(target, escaped_bytes());
+    write!(text, "link {inode} {stamp} {path} {target}\n").map_err(|_| NoMemory)
+}
+
+#[tactic(auto, unfolding(crate::specs::Report::file_line))]
+fn write_file(
+    alloc: Global,
+    text: &mut Vec<u8>,
+    at: &TreePath,
+    meta: Meta,
+    bytes: &[u8],
+) -> Result<(), NoMemory>
+    ensures { OnOk result (text.new.items ≡ text.old.items
+        ++ file_line at.now.inode meta.mode meta.stamp at.now.path bytes.now) }
+{
+    let (inode, stamp, size) = (at.inode, meta.stamp, bytes.len());
+    let mode = mode_text(alloc, meta.mode)?;
+    let digest = digest_text(alloc, bytes)?;
+    let path = percent_encode(at.path.as_slice(), escaped_bytes());
+    write!(text, "file {inode} {mode} {stamp} {size} {digest} {path}\n").map_err(|_| NoMemory)
+}
+
+#[tactic(auto, using(crate::proofs::Modes::padded_mode))]
+fn mode_text(alloc: Global, mode: u32) -> Result<String, AllocError>
+    ensures { IfOk result (λ text. string_bytes text ≡ mode_text mode) }
+{
+    format!(in alloc; "{mode:04o}")
+}
+
+fn digest_text(alloc: Global, bytes: &[u8]) -> Result<String, AllocError>
+    ensures { IfOk result (λ text. string_bytes text ≡ encode_lower (sha256 bytes.now)) }
+{
+    hex::encode(alloc, Sha256::digest(bytes))
+}

@@ -1,0 +1,5 @@
+-- Inner words: no public clause cites these.
+pub mod Dir
+pub mod Node
+pub mod Forest
+pub mod Codes

@@ -1,0 +1,95 @@
+// The words before `--`, which clap reads: the arguments of `run`.
+ghost use Rattle.std.specs.Prelude.{◌≡◌, Option, false, map, string_bytes, codes, IfOk, option_and_then, unwrap_or};
+ghost use Rattle.clap.specs.Words.{FailsBy, app_of, fault_of, found_of, one_of, rows_of, rule_of, shape_of, subcommand_of, subcommand_rows_of};
+ghost use Rattle.clap.specs.declared.builder.command.Command.TheViews.{out-Command as fields_of};
+ghost use Rattle.dt_options.specs.Options.{image_rule, number_rule, budget_rule, run_shape, program_app, image_in, number_in, default_seed, default_budget};
+
+use clap::{Arg, ArgMatches, Command, Error};
+use std::alloc::{AllocError, Global};
+
+// The seed and the budget of a run whose words give none.
+const SEED: u64 = 0;
+
+const BUDGET: u64 = 100_000_000;
+
+/// What clap makes of the words before `--`.
+pub fn read_arguments<'a>(alloc: Global, words: &'a [String]) -> Result<ArgMatches<'a>, Error>
+    ensures refused { FailsBy (fault_of program_app (map string_bytes words.entry.now)) result }
+    ensures exact { IfOk result (λ m.
+        subcommand_rows_of m ≡ subcommand_of program_app (map string_bytes words.entry.now)) }
+{
+    program_command(alloc)?.try_get_matches_from(words)
+}
+
+fn program_command<'a>(alloc: Global) -> Result<Command<'a>, AllocError>
+    ensures { IfOk result (λ c. app_of c ≡ program_app) }
+{
+    Command::new(alloc, "dettrace")
+        .no_binary_name(true)
+        .subcommand_required(true)
+        .subcommand(run_command(alloc)?)
+}
+
+fn run_command<'a>(alloc: Global) -> Result<Command<'a>, AllocError>
+    ensures shape { IfOk result (λ c. shape_of c ≡ run_shape) }
+    ensures local { IfOk result (λ c. (fields_of c).has_globals ≡ false) }
+{
+    Command::new(alloc, "run")
+        .arg(image_arg(alloc))?
+        .arg(number_arg(alloc, "seed"))?
+        .arg(budget_arg(alloc))?
+        .arg(number_arg(alloc, "host"))
+}
+
+fn image_arg<'a>(alloc: Global) -> Arg<'a>
+    ensures rule { rule_of result ≡ image_rule }
+    ensures local { result.global ≡ false }
+{
+    Arg::new(alloc, "image").required(true)
+}
+
+fn number_arg<'a>(alloc: Global, name: &'a str) -> Arg<'a>
+    ensures rule { rule_of result ≡ number_rule name.entry.now }
+    ensures local { result.global ≡ false }
+{
+    Arg::new(alloc, name)
+        .long(name)
+        .value_parser(clap::value_parser!(u64))
+}
+
+fn budget_arg<'a>(alloc: Global) -> Arg<'a>
+    ensures rule { rule_of result ≡ budget_rule }
+    ensures local { result.global ≡ false }
+{
+    Arg::new(alloc, "budget")
+        .long("budget")
+        .value_parser(clap::value_parser!(u64).range(1..=1_000_000_000))
+}
+
+/// IMAGE, as `run` was given it.
+pub fn image<'a>(run: &ArgMatches<'a>) -> &'a str
+    ensures { result.now ≡ image_in (rows_of (found_of run.now)) }
+{
+    run.get_str("image").unwrap_or("")
+}
+
+/// The number of one of the options `--seed`, `--budget` and `--host`, if it was given.
+pub fn number(run: &ArgMatches<'_>, name: &str) -> Option<u64>
+    ensures { result ≡ number_in name.now (rows_of (found_of run.now)) }
+{
+    run.get_one::<u64>(name)
+}
+
+/// The number of `--seed`, or what a run has without it.
+pub fn seed(run: &ArgMatches<'_>) -> u64
+    ensures { result ≡ unwrap_or (number_in (codes "seed") (rows_of (found_of run.now))) default_seed }
+{
+    number(run, "seed").unwrap_or(SEED)
+}
+
+/// The number of `--budget`, or what a run has without it.
+pub fn budget(run: &ArgMatches<'_>) -> u64
+    ensures { result ≡ unwrap_or (number_in (codes "budget") (rows_of (found_of run.now))) default_budget }
+{
+    number(run, "budget").unwrap_or(BUDGET)
+}

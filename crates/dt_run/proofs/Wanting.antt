@@ -1,0 +1,117 @@
+-- What is wanted, by the words' request and the image that was read.
+use Rattle.std.proofs.Common.{◌≡◌, ℕ, Bool, true, false, cond, List, Option, Some, None, Result, Ok, Err, refl, sym, ap, subst, eqb, inl, inr}
+use Rattle.std.specs.Prelude.{IsTrue, IsSome, IfSome, IfErr, IsErrAnd}
+use Rattle.dt_base.specs.declared.image.Entry.{Entry}
+use Rattle.dt_base.specs.declared.event.End.TheVariants.{Code, Signal}
+use Rattle.dt_base.specs.declared.errno.Errno.{Errno}
+use Rattle.dt_base.specs.declared.refusal.Refusal.{Refusal}
+use Rattle.dt_base.specs.declared.refusal.ImageErr.{ImageErr}
+use Rattle.dt_base.specs.declared.refusal.ImageErr.TheVariants.{Refused as ImageRefused, Store as StoreFailed, NoMemory as NoImageMemory}
+use Rattle.dt_base.specs.Command.{Words}
+use Rattle.dt_base.specs.Image.{IsImage}
+use Rattle.dt_host.specs.Store.{Files}
+use Rattle.dt_rv64.specs.declared.machine.Machine.{Machine}
+use Rattle.dt_tree.specs.FileTree.{FileTree}
+use Rattle.dt_tree.specs.ImageTree.{image_tree}
+use Rattle.dt_options.specs.Options.{Request, request_of}
+use Rattle.dt_options.specs.declared.options.UsageErr.{UsageErr}
+use Rattle.dt_options.specs.declared.options.UsageErr.TheVariants.{Refused as WordsRefused, NoMemory as NoWordsMemory}
+use Rattle.dt_image.specs.ImageOf.{image_of}
+use Rattle.dt_run.specs.declared.error.RunErr.{RunErr}
+use Rattle.dt_run.specs.declared.error.RunErr.TheVariants.{Host as HostFailed, Sink as SinkFailed, NoMemory as NoRunMemory}
+use Rattle.dt_run.specs.declared.failure.Failure.{Failure}
+use Rattle.dt_run.specs.declared.failure.Failure.TheVariants.{Usage, Image}
+use Rattle.dt_run.specs.declared.process.Phase.{Phase}
+use Rattle.dt_run.specs.declared.process.Phase.TheVariants.{Owes, Ran, Zombie}
+use Rattle.dt_run.specs.Process.{status_of}
+use Rattle.dt_run.specs.TurnsRun.{run_turns}
+use Rattle.dt_run.specs.Launch.{launch}
+use Rattle.dt_run.specs.Turn.{first_state}
+use Rattle.dt_run.specs.Run.{Run, run_from, run_of}
+use Rattle.dt_run.specs.Wanted.{run_on, run_or_refusal, wanted, wanted_by}
+use Rattle.dt_run.specs.SomeRun.{SomeRun, AddsReportPart}
+use Rattle.dt_run.specs.Statuses.{is_run_status}
+use Rattle.dt_run.specs.inner.Fails.{Fails}
+use Rattle.dt_run.specs.inner.Failures.{of_usage, of_image, of_run}
+
+code_status : (b : Bool) → IsTrue (is_run_status (cond b 0 1))
+code_status true = refl
+code_status false = refl
+
+status_of-run : (phase : Phase) → IsTrue (is_run_status (status_of phase))
+status_of-run Owes = refl
+status_of-run (Ran seg) = refl
+status_of-run (Zombie (Code code)) = code_status (eqb code 0)
+status_of-run (Zombie (Signal signal)) = refl
+
+run_from-status : (t : FileTree) (budget : ℕ) (started : Result Machine Errno) → IsTrue (is_run_status (run_from t budget started).status)
+run_from-status t budget (Ok m) = let r = run_turns (first_state t m budget) in status_of-run r.last.process.phase
+run_from-status t budget (Err errno) = refl
+
+-- the status of a run is 0, 1 or 10
+pub run_of-status : (entries : List Entry) (words : Words) (seed budget status : ℕ) → status ≡ (run_of entries words seed budget).status → IsTrue (is_run_status status)
+unfolding run_of
+run_of-status entries words seed budget status is = subst (λ s. IsTrue (is_run_status s)) (sym is) (run_from-status (image_tree entries) budget (launch (image_tree entries) words))
+
+-- what a request wants, for words that make it
+wanted-request : (told : Option Files) (words : List (List ℕ)) (request : Option Request) → request_of words ≡ request → wanted told words ≡ wanted_by request told
+unfolding wanted
+wanted-request told words request is = ap (λ found. wanted_by found told) is
+
+-- words that make a request are not refused
+pub not_refused : (told : Option Files) (words : List (List ℕ)) → IsSome (request_of words) → wanted told words ≡ Some (Err Usage) → ⊥
+unfolding wanted
+not_refused told words some is = by_request (request_of words) told some is
+  where
+    by_found : (request : Request) (found : Result (List Entry) Refusal) → run_or_refusal request found ≡ Err Usage → ⊥
+    by_found request (Ok image) is = cc
+    by_found request (Err refusal) is = cc
+
+    by_request : (request : Option Request) (told : Option Files) → IsSome request → wanted_by request told ≡ Some (Err Usage) → ⊥
+    by_request None told some is = cc
+    by_request (Some request) None some is = cc
+    by_request (Some request) (Some files) some is = by_found request (image_of files request.image) (cc)
+
+-- the run on the image that was read is wanted
+read_run : (told : Option Files) (request : Request) (image : List Entry) → IfSome told (λ files. image_of files request.image ≡ Ok image) → IfSome (wanted_by (Some request) told) (λ found. found ≡ Ok (run_on request image))
+read_run None request image read = tt
+read_run (Some files) request image read = rw read
+
+-- the refusal of the image is wanted
+read_refusal : (told : Option Files) (request : Request) (refusal : Refusal) → IfSome told (λ files. image_of files request.image ≡ Err refusal) → IfSome (wanted_by (Some request) told) (λ found. found ≡ Err (Image refusal))
+read_refusal None request refusal read = tt
+read_refusal (Some files) request refusal read = rw read
+
+pub some_run : (told : Option Files) (words : List (List ℕ)) (request : Request) (folder : List ℕ) (image : List Entry) (P : Run → Type 0) → request_of words ≡ Some request → folder ≡ request.image → IsImage image → IfSome told (λ files. image_of files folder ≡ Ok image) → P (run_on request image) → SomeRun told words P
+some_run told words request folder image P is at good read holds = record {
+  request = request;
+  parsed = is;
+  image = image;
+  good = good;
+  is_wanted = subst (λ found. IfSome found (λ run. run ≡ Ok (run_on request image))) (sym (wanted-request told words (Some request) is)) (read_run told request image (subst (λ name. IfSome told (λ files. image_of files name ≡ Ok image)) at read));
+  holds = holds;
+}
+
+-- what was answered on an error is the failure that it stands for
+pub on_err : {A : Type 0} (r : Result A Failure) (P : Failure → Type 0) (f : Failure) → IsErrAnd r (λ found. found ≡ f) → P f → IfErr r P
+on_err (Ok x) P f is h = tt
+on_err (Err found) P f is h = subst P (sym is) h
+
+-- where the words are refused, or memory was wanting for them
+pub fails_words : (e : UsageErr) (told : Option Files) (words : List (List ℕ)) (out : Option (List ℕ)) → (e ≡ WordsRefused → request_of words ≡ None) → Fails (of_usage e) told words out out
+fails_words WordsRefused told words out refused = (wanted-request told words None (refused refl), refl)
+fails_words NoWordsMemory told words out refused = inr refl
+
+-- where the image was not read
+pub fails_image : (e : ImageErr) (told : Option Files) (words : List (List ℕ)) (request : Request) (folder : List ℕ) (out : Option (List ℕ)) → request_of words ≡ Some request → folder ≡ request.image → ((refusal : Refusal) → e ≡ ImageRefused refusal → IfSome told (λ files. image_of files folder ≡ Err refusal)) → Fails (of_image e) told words out out
+fails_image (ImageRefused refusal) told words request folder out is at refused =
+    let read = subst (λ name. IfSome told (λ files. image_of files name ≡ Err refusal)) at (refused refusal refl) in
+    (subst (λ found. IfSome found (λ run. run ≡ Err (Image refusal))) (sym (wanted-request told words (Some request) is)) (read_refusal told request refusal read), refl)
+fails_image StoreFailed told words request folder out is at refused = (subst (λ found. IsSome found) (sym is) refl, refl)
+fails_image NoImageMemory told words request folder out is at refused = inr refl
+
+-- where the run on the image was not completed
+pub fails_run_of : (e : RunErr) (told : Option Files) (words : List (List ℕ)) (old new : Option (List ℕ)) → AddsReportPart told words old new → Fails (of_run e) told words old new
+fails_run_of HostFailed told words old new part = part
+fails_run_of SinkFailed told words old new part = part
+fails_run_of NoRunMemory told words old new part = inl part

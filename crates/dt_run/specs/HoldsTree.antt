@@ -1,0 +1,32 @@
+-- How a host holds a file tree: read by names from their roots, both are the same.
+use Rattle.std.specs.Prelude.{◌≡◌, ℕ, List, [], ◌∷◌, Option, Some, option_map, option_and_then}
+use Rattle.dt_base.specs.declared.image.What.{What}
+use Rattle.dt_base.specs.declared.image.What.TheVariants.{File, Dir, Link}
+use Rattle.dt_host.specs.World.{World, Forest, Node, file, dir, link, node_at, entry}
+use Rattle.dt_tree.specs.FileTree.{FileTree}
+
+-- the node that names lead to from a node: each is an entry of the directory that those before it led to. No link is followed
+unfoldable pub reached_from : Forest → ℕ → List (List ℕ) → Option ℕ
+reached_from v n [] = Some n
+reached_from v n (name ∷ names) = option_and_then (λ m. reached_from v m names) (entry v n name)
+
+-- the node that names lead to from the root
+abbrev pub reached : Forest → List (List ℕ) → Option ℕ
+reached v names = reached_from v v.root names
+
+-- what a node shows: a file its bytes, a link its target, and a directory that it is one
+abbrev pub what_of : Node → What
+what_of (file bytes) = File bytes
+what_of (dir names) = Dir
+what_of (link target) = Link target
+
+-- what the node that names lead to shows
+abbrev pub shown_at : Forest → List (List ℕ) → Option What
+shown_at v names = option_map what_of (option_and_then (node_at v) (reached v names))
+
+-- the same paths lead to something, and it shows the same; and two paths lead to one number at the host exactly where
+-- they lead to one inode
+pub record HoldsTree (w : World) (t : FileTree) : Type 0 where
+  pub shown : (names : List (List ℕ)) → shown_at w.forest names ≡ shown_at t.shape names
+  pub together : (a b : List (List ℕ)) → reached w.forest a ≡ reached w.forest b → reached t.shape a ≡ reached t.shape b
+  pub apart : (a b : List (List ℕ)) → reached t.shape a ≡ reached t.shape b → reached w.forest a ≡ reached w.forest b

@@ -1,0 +1,144 @@
+// What a test starts: a store with an image, a host and sinks, each with its choices and its faults.
+ghost use Rattle.std.specs.Prelude.{◌≡◌, [], None, IfOk, IsTrue, option_to_list};
+ghost use Rattle.dt_run.specs.Statuses.{is_status};
+ghost use Rattle.dt_testing.specs.declared.bench.Words.TheVariants.{Stream};
+
+use dt_host::NoGate;
+use dt_memhost::{MemHost, MemSink, MemStore, Picker};
+use dt_run::dettrace;
+use std::alloc::{AllocError, Global};
+use std::test::Fail;
+
+/// Which words a picker gives.
+#[derive(Clone, Copy, Debug)]
+pub enum Words {
+    /// So many zeros, by which each transfer moves one byte, and then the words of stream 0.
+    Zeros(usize),
+    /// Those of the stream of this number.
+    Stream(u64),
+}
+
+/// One call of the program.
+#[derive(Clone, Copy)]
+pub struct Call<'a> {
+    /// The words after the program's name, each ended by a line's end.
+    pub words: &'a str,
+    pub files: &'a [(&'a str, &'a [u8])],
+    pub choices: Words,
+    /// The number of the store's call that fails, if one does.
+    pub store_fails: Option<u64>,
+    /// The number of the host's call that fails, if one does.
+    pub host_fails: Option<u64>,
+    pub out_room: Option<u64>,
+    pub err_room: Option<u64>,
+}
+
+/// The words of a run of `/hello`.
+pub const RUN_HELLO: &str = "run\nimg\n--\n/hello";
+
+/// The line of words that are refused.
+pub const USAGE: &str =
+    "dettrace: usage: dettrace run IMAGE [--seed N] [--budget N] [--host N] -- [NAME=VALUE ..] PROGRAM [ARG ..]\n";
+
+/// What came of it: the exit status, and the bytes on standard output and on standard error.
+#[derive(Drop)]
+pub struct Came {
+    pub status: u8,
+    pub out: Vec<u8>,
+    pub err: Vec<u8>,
+}
+
+impl Came {
+    /// What its report shows before the tree, without the last line's end.
+    pub fn before_tree(&self) -> &[u8] {
+        let mut end = self.out.len();
+        for (offset, bytes) in self.out.windows(6).enumerate() {
+            if bytes == b"\ntree ".as_slice() {
+                end = offset;
+            }
+        }
+        self.out.get(..end).unwrap_or(&[])
+    }
+}
+
+impl<'a> Call<'a> {
+    /// These words on these files, with the choices of stream 1 and no faults.
+    pub fn new(words: &'a str, files: &'a [(&'a str, &'a [u8])]) -> Self
+        ensures choices { result.choices ≡ Stream 1 }
+        ensures store { result.store_fails ≡ None }
+        ensures host { result.host_fails ≡ None }
+    {
+        Call {
+            words,
+            files,
+            choices: Words::Stream(1),
+            store_fails: None,
+            host_fails: None,
+            out_room: None,
+            err_room: None,
+        }
+    }
+
+    /// Makes the call.
+    pub fn make(&self, alloc: Global) -> Result<Came, Fail>
+        ensures { IfOk result (λ came. IsTrue (is_status came.status)) }
+    {
+        let words = strings(alloc, self.words)?;
+        let mut store = self.store(alloc)?;
+        let picker = picker(alloc, self.choices)?;
+        let mut host = MemHost::new(alloc, picker, listed(alloc, self.host_fails)?)?;
+        let mut out = sink(alloc, self.choices, self.out_room)?;
+        let mut err = sink(alloc, self.choices, self.err_room)?;
+        let status = dettrace(
+            alloc, &words, &mut store, &mut host, &mut out, &mut err, &NoGate,
+        );
+        Ok(Came {
+            status,
+            out: Vec::from_slice(alloc, out.bytes())?,
+            err: Vec::from_slice(alloc, err.bytes())?,
+        })
+    }
+
+    fn store(&self, alloc: Global) -> Result<MemStore, Fail> {
+        let picker = picker(alloc, self.choices)?;
+        let mut store = MemStore::new(alloc, picker, listed(alloc, self.store_fails)?)?;
+        for (name, bytes) in self.files {
+            store.put(name, bytes)?;
+        }
+        Ok(store)
+    }
+}
+
+fn picker(alloc: Global, words: Words) -> Result<Picker, AllocError> {
+    match words {
+        Words::Zeros(count) => Ok(Picker::new(vec![in alloc; 0; count]?, 0)),
+        Words::Stream(number) => Ok(Picker::new(Vec::new(alloc), number)),
+    }
+}
+
+// The calls that fail: this one, if one does.
+fn listed(alloc: Global, call: Option<u64>) -> Result<Vec<u64>, AllocError>
+    ensures { IfOk result (λ calls. calls.items ≡ option_to_list call) }
+{
+    let mut calls = Vec::new(alloc);
+    if let Some(call) = call {
+        calls.push(call)?;
+    }
+    Ok(calls)
+}
+
+fn sink(alloc: Global, words: Words, room: Option<u64>) -> Result<MemSink, Fail>
+    ensures empty { IfOk result (λ sink. sink.bytes ≡ []) }
+    ensures room { IfOk result (λ sink. sink.room ≡ room) }
+{
+    Ok(MemSink::new(alloc, picker(alloc, words)?, Vec::new(alloc), room)?)
+}
+
+/// The lines of a text, as the words that the program is given.
+pub fn strings(alloc: Global, words: &str) -> Result<Vec<String>, AllocError> {
+    let mut strings = Vec::new(alloc);
+    for word in words.lines() {
+        strings.push(String::from_str(alloc, word)?)?;
+    }
+    Ok(strings)
+}

@@ -1,0 +1,7 @@
+//! Tests of what programs do: their ends, and each call that they make.
+#![tactic(auto)]
+
+#[cfg(test)]
+mod files;
+#[cfg(test)]
+mod programs;

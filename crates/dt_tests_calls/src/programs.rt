@@ -1,0 +1,211 @@
+// What programs do, seen in their reports.
+use dt_asm::{AsmErr, Guest};
+use dt_rv64::Instr;
+use dt_testing::{Call, HELLO_INDEX, RUN_HELLO, hello};
+use std::alloc::Global;
+use std::test::Fail;
+
+const A0: u8 = 10;
+
+const WRITE: u32 = 64;
+
+const EXIT: u32 = 93;
+
+const SOCKET: u32 = 198;
+
+// Where a program lies, its ELF header first.
+const START: i64 = 0x1_0000;
+
+const NOP: Instr = Instr::Addi {
+    rd: 0,
+    rs1: 0,
+    imm: 0,
+};
+
+// A program that loads the registers of arguments, from a0 on, and makes these calls.
+fn calling(alloc: Global, arguments: &[i64], calls: &[u32]) -> Result<Vec<u8>, AsmErr> {
+    let mut guest = Guest::new(alloc);
+    let mut register = A0;
+    for argument in arguments {
+        guest.li(register, *argument)?;
+        register = register.wrapping_add(1);
+    }
+    for call in calls {
+        guest.call(*call)?;
+    }
+    guest.elf()
+}
+
+// The status of a run of this program, and what its report shows before the tree.
+fn shown(alloc: Global, file: &[u8]) -> Result<(u8, Vec<u8>), Fail> {
+    let files = [("img/image.json", HELLO_INDEX), ("img/hello", file)];
+    let came = Call::new(RUN_HELLO, &files).make(alloc)?;
+    Ok((came.status, Vec::from_slice(alloc, came.before_tree())?))
+}
+
+#[test]
+fn programs_end_with_codes(rt: HostRuntime) -> Result<(), Fail> {
+    let alloc = rt.alloc();
+    // Registers are empty at the start, and of a code the low 8 bits count.
+    let rows: [(&[i64], u8, &str); 3] = [(&[], 0, "0"), (&[3], 1, "3"), (&[256], 0, "0")];
+    for (arguments, status, code) in rows {
+        let (came, before) = shown(alloc, &calling(alloc, arguments, &[EXIT])?)?;
+        let want = format!(in alloc; "dettrace 1\nexit 1 code {code}\nverdict ended")?;
+        assert_eq!(rt; before.as_slice(), want.as_bytes());
+        assert_eq!(rt; came, status, "{code}");
+    }
+    Ok(())
+}
+
+#[test]
+fn faults_end_programs_by_their_signals(rt: HostRuntime) -> Result<(), Fail> {
+    let alloc = rt.alloc();
+    let jump = Instr::Jalr {
+        rd: 0,
+        rs1: 0,
+        imm: 2,
+    };
+    let load = Instr::Lb {
+        rd: A0,
+        rs1: 0,
+        imm: 0,
+    };
+    let store = Instr::Sb {
+        rs1: 0,
+        rs2: 0,
+        imm: 0,
+    };
+    // Zeros stand behind the code, which are no instruction; a jump to an address that is no multiple of 4; and
+    // nothing is mapped at 0.
+    let rows = [
+        (Instr::Fence, "4"),
+        (Instr::Ebreak, "5"),
+        (jump, "7"),
+        (load, "11"),
+        (store, "11"),
+    ];
+    for (instruction, signal) in rows {
+        let mut guest = Guest::new(alloc);
+        guest.ins(instruction)?;
+        let (status, before) = shown(alloc, &guest.elf()?)?;
+        let want = format!(in alloc; "dettrace 1\nexit 1 signal {signal}\nverdict ended")?;
+        assert_eq!(rt; before.as_slice(), want.as_bytes());
+        assert_eq!(rt; status, 1, "{signal}");
+    }
+    Ok(())
+}
+
+#[test]
+fn pages_of_a_program_within_their_limit(rt: HostRuntime) -> Result<(), Fail> {
+    let alloc = rt.alloc();
+    // With the 256 pages of the stack there are 16,384, and then one more.
+    let rows = [
+        (16_128 * 4_096, "exit 1 code 0\nverdict ended"),
+        (16_128 * 4_096 + 1, "verdict nostart 7"),
+    ];
+    for (size, want) in rows {
+        let mut guest = Guest::new(alloc);
+        guest.memsz(size)?;
+        guest.call(EXIT)?;
+        let (_, before) = shown(alloc, &guest.elf()?)?;
+        let want = format!(in alloc; "dettrace 1\n{want}")?;
+        assert_eq!(rt; before.as_slice(), want.as_bytes(), "{size}");
+    }
+    Ok(())
+}
+
+#[test]
+fn a_call_that_is_not_known_is_the_verdict(rt: HostRuntime) -> Result<(), Fail> {
+    let alloc = rt.alloc();
+    let (status, before) = shown(alloc, &calling(alloc, &[], &[SOCKET])?)?;
+    let want = b"dettrace 1\nverdict unsupported 1 198".as_slice();
+    assert_eq!(rt; before.as_slice(), want);
+    assert_eq!(rt; status, 10);
+    Ok(())
+}
+
+#[test]
+fn answers_of_writes(rt: HostRuntime) -> Result<(), Fail> {
+    let alloc = rt.alloc();
+    // Descriptor, buffer and count; the low byte of the answer, with which the program ends; and the event.
+    let rows = [
+        // Descriptor 3 is not open, which is told before the buffer is looked at: minus 9.
+        ([3, 0, 6], 247, ""),
+        // Nothing is mapped at 0: minus 14.
+        ([1, 0, 6], 242, ""),
+        // No byte is no event, whatever the address.
+        ([1, 0, 0], 0, ""),
+        ([1, START, 6], 6, "out 1 6\n\x7fELF\x02\x01\n"),
+    ];
+    for (arguments, answer, event) in rows {
+        let program = calling(alloc, &arguments, &[WRITE, EXIT])?;
+        let (status, before) = shown(alloc, &program)?;
+        let end = format!(in alloc; "exit 1 code {answer}\nverdict ended")?;
+        let want = format!(in alloc; "dettrace 1\n{event}{end}")?;
+        assert_eq!(rt; before.as_slice(), want.as_bytes(), "{answer}");
+        assert_eq!(rt; status, u8::from(answer != 0), "{answer}");
+    }
+    Ok(())
+}
+
+#[test]
+fn a_program_goes_on_after_a_slice(rt: HostRuntime) -> Result<(), Fail> {
+    let alloc = rt.alloc();
+    let mut guest = Guest::new(alloc);
+    for _ in 0..70_000 {
+        guest.ins(NOP)?;
+    }
+    guest.li(A0, 3)?;
+    guest.call(EXIT)?;
+    let (status, before) = shown(alloc, &guest.elf()?)?;
+    assert_eq!(rt;
+        before.as_slice(),
+        b"dettrace 1\nexit 1 code 3\nverdict ended".as_slice()
+    );
+    assert_eq!(rt; status, 1);
+    Ok(())
+}
+
+#[test]
+fn files_that_are_no_executables(rt: HostRuntime) -> Result<(), Fail> {
+    let alloc = rt.alloc();
+    let good = hello(alloc)?;
+    // The offset of a byte, what it becomes, and the errno: 8 is ENOEXEC, 7 is E2BIG.
+    let changes: [(usize, u8, u8); 16] = [
+        (0, 0x7e, 8),
+        (4, 1, 8),
+        (5, 2, 8),
+        (6, 0, 8),
+        (16, 3, 8),
+        (18, 0xf4, 8),
+        (29, 0x40, 8),
+        (54, 57, 8),
+        (56, 0, 8),
+        (57, 1, 8),
+        (64, 2, 8),
+        (64, 3, 8),
+        (73, 1, 8),
+        (82, 0, 8),
+        (96, 163, 8),
+        (107, 4, 7),
+    ];
+    for (offset, byte, errno) in changes {
+        let mut file = good.clone()?;
+        assert!(rt; offset < file.len());
+        file[offset] = byte;
+        let (status, before) = shown(alloc, &file)?;
+        let want = format!(in alloc; "dettrace 1\nverdict nostart {errno}")?;
+        assert_eq!(rt; before.as_slice(), want.as_bytes(), "{offset}");
+        assert_eq!(rt; status, 10, "{offset}");
+    }
+    for length in [0, 63, 100, 119] {
+        assert!(rt; length < good.len());
+        let (_, before) = shown(alloc, &good[..length])?;
+        assert_eq!(rt;
+            before.as_slice(),
+            b"dettrace 1\nverdict nostart 8".as_slice(),
+            "{length}"
+        );
+    }
+    Ok(())
+}

@@ -1,0 +1,11 @@
+//! Tests of the virtual tree and of paths in it, over a host in memory.
+#![tactic(auto)]
+
+#[cfg(test)]
+mod fixture;
+#[cfg(test)]
+mod listings;
+#[cfg(test)]
+mod nodes;
+#[cfg(test)]
+mod walks;

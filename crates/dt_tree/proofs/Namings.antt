@@ -1,0 +1,115 @@
+-- How often a node is named, after a change of a forest.
+use Rattle.std.proofs.Common.{arith, ◌≡◌, ◌≢◌, ℕ, zero, suc, ◌+◌, ◌≤◌, ◌<◌, cond, List, [], ◌∷◌, length, Option, Some, None, ◌⊎◌, inl, inr, refl, sym, ap, subst, ◌∙◌}
+use Rattle.std.proofs.lemmas.Bool.Decides.{nat_tests}
+use Rattle.std.specs.Prelude.{is_some, unwrap_or, option_and_then}
+use Rattle.std.specs.Cmp.{nat_cmp_total}
+use Rattle.std.specs.Cmp.Lexicographic.{nat_list_cmp_total}
+use Rattle.std.specs.FinMap.{empty, entries, len, len-entries, len-empty, len-insert, get, insert}
+use Rattle.std.specs.Ordering.{nat_cmp}
+use Rattle.std.specs.Cmp.Lexicographic.{slice_cmp}
+use Rattle.dt_host.specs.World.{Forest, Node, Names, file, dir, link, node_at, dir_names, names_at, entry, with_node, with_entry}
+use Rattle.dt_host.specs.Total.{total, total_in, weight}
+use Rattle.dt_host.proofs.Maps.{at_insert, names_tie}
+use Rattle.dt_host.proofs.Totals.{total-insert, total-empty}
+use Rattle.dt_tree.specs.Shape.{one_for, entries_for, names_of, name_count}
+
+pub same_name : (a b : List ℕ) → (a ≡ b) ⊎ (a ≢ b)
+same_name a b = at_insert nat_list_cmp_total names_tie (λ _. (a ≡ b) ⊎ (a ≢ b)) (empty {X = ℕ}) b 0 a inl inr
+
+pub one_for-same : (n : ℕ) → one_for n n ≡ 1
+one_for-same n = grind (arith, nat_tests)
+
+pub one_for-other : (n x : ℕ) → n ≢ x → one_for n x ≡ 0
+one_for-other n x h = grind (arith, nat_tests)
+
+-- the entries for a node among those of a number
+held : (n : ℕ) (found : Option Node) → weight (entries_for n) found ≡ total (one_for n) (unwrap_or (option_and_then dir_names found) empty)
+held n None = sym (total-empty nat_list_cmp_total (one_for n))
+held n (Some (file bytes)) = refl
+held n (Some (dir names)) = refl
+held n (Some (link target)) = refl
+
+module _ (v : Forest) (d : ℕ) (n : ℕ) where
+  names_of-with_node : (node : Node) → names_of (with_node v d node) n + total (one_for n) (names_at v d) ≡ names_of v n + entries_for n node
+  unfolding names_of names_at
+  names_of-with_node node =
+      let sum = total-insert nat_cmp_total (entries_for n) v.nodes d node in
+      let there = held n (node_at v d) in
+      omega arith
+
+  pub names_of-with_entry : (name : List ℕ) (x : ℕ) → names_of (with_entry v d name x) n + weight (one_for n) (entry v d name) ≡ names_of v n + one_for n x
+  unfolding with_entry entry
+  names_of-with_entry name x =
+      let node = names_of-with_node (dir (insert (names_at v d) name x)) in
+      let more = total-insert nat_list_cmp_total (one_for n) (names_at v d) name x in
+      omega arith
+
+  pub names_of-with_new : (node : Node) → node_at v d ≡ None → unwrap_or (dir_names node) empty ≡ empty → names_of (with_node v d node) n ≡ names_of v n
+  unfolding names_at
+  names_of-with_new node free none =
+      let sum = names_of-with_node node in
+      let before = ap (λ found. total (one_for n) (unwrap_or (option_and_then dir_names found) empty)) free in
+      let after = ap (total (one_for n)) none in
+      omega arith
+
+  -- an entry is a name
+  pub named : (name : List ℕ) → entry v d name ≡ Some n → 1 ≤ names_of v n
+  named name e =
+      let sum = names_of-with_entry name (n + 1) in
+      let one = ap (weight (one_for n)) e ∙ one_for-same n in
+      let none = one_for-other n (n + 1) (omega arith) in
+      omega arith
+
+-- the names in what may be a directory
+counted : (found : Option Node) → weight (λ node. len (unwrap_or (dir_names node) empty)) found ≡ len (unwrap_or (option_and_then dir_names found) empty)
+counted None = sym (len-empty (slice_cmp nat_cmp) ℕ)
+counted (Some (file bytes)) = refl
+counted (Some (dir names)) = refl
+counted (Some (link target)) = refl
+
+module _ (v : Forest) (d : ℕ) where
+  name_count-with_node : (node : Node) → name_count (with_node v d node) + len (names_at v d) ≡ name_count v + len (unwrap_or (dir_names node) empty)
+  unfolding name_count names_at
+  name_count-with_node node =
+      let sum = total-insert nat_cmp_total (λ node. len (unwrap_or (dir_names node) empty)) v.nodes d node in
+      let there = counted (node_at v d) in
+      omega arith
+
+  -- a name more is one more
+  pub name_count-with_entry : (name : List ℕ) (x : ℕ) → entry v d name ≡ None → name_count (with_entry v d name x) ≡ name_count v + 1
+  unfolding with_entry entry
+  name_count-with_entry name x free =
+      let node = name_count-with_node (dir (insert (names_at v d) name x)) in
+      let more = len-insert nat_list_cmp_total (names_at v d) name x ∙ ap (λ found. cond (is_some found) (len (names_at v d)) (len (names_at v d) + 1)) free in
+      omega arith
+
+  pub name_count-with_new : (node : Node) → node_at v d ≡ None → unwrap_or (dir_names node) empty ≡ empty → name_count (with_node v d node) ≡ name_count v
+  unfolding names_at
+  name_count-with_new node free none =
+      let sum = name_count-with_node node in
+      let before = ap (λ found. len (unwrap_or (option_and_then dir_names found) empty)) free in
+      let after = ap (λ names. len names) none in
+      omega arith
+
+  -- no directory has more names than there are
+  pub len-names_at : len (names_at v d) ≤ name_count v
+  len-names_at = let sum = name_count-with_node (link []) in let none = len-empty (slice_cmp nat_cmp) ℕ in omega arith
+
+total_in-le : {K X : Type 0} (g h : X → ℕ) → ((x : X) → g x ≤ h x) → (es : List (K × X)) → total_in g es ≤ total_in h es
+total_in-le g h le [] = omega arith
+total_in-le g h le (e ∷ es) = omega (arith, le e.1, total_in-le g h le es)
+
+one_at_most : (n : ℕ) (es : List (List ℕ × ℕ)) → total_in (one_for n) es ≤ length es
+one_at_most n [] = omega arith
+one_at_most n (e ∷ es) = omega (arith, one_or_none n e.1, one_at_most n es)
+  where
+    one_or_none : (n x : ℕ) → one_for n x ≤ 1
+    one_or_none n x = grind (arith, nat_tests)
+
+-- a node has no more names than there are
+pub names_of-le : (v : Forest) (n : ℕ) → names_of v n ≤ name_count v
+unfolding names_of name_count total
+names_of-le v n = total_in-le (entries_for n) (λ node. len (unwrap_or (dir_names node) empty)) (λ node. at_node (unwrap_or (dir_names node) empty)) (entries v.nodes)
+  where
+    at_node : (names : Names) → total (one_for n) names ≤ len names
+    at_node names = let size = len-entries names in omega (arith, one_at_most n (entries names))

@@ -1,0 +1,55 @@
+-- The file tree of an image: the root, and one node for each entry.
+use Rattle.std.specs.Prelude.{◌≡◌, ℕ, ◌+◌, List, [], map, length}
+use Rattle.std.specs.List.{filter, enumerate_from, after_last}
+use Rattle.std.specs.Str.{bytes_eq}
+use Rattle.std.specs.Ordering.{nat_cmp}
+use Rattle.std.specs.FinMap.{FinMap, empty, insert, from_entries}
+use Rattle.dt_base.specs.declared.image.Entry.{Entry}
+use Rattle.dt_base.specs.declared.image.What.{What}
+use Rattle.dt_base.specs.declared.image.What.TheVariants.{File, Dir, Link}
+use Rattle.dt_base.specs.Path.{is_slash, parent_of}
+use Rattle.dt_host.specs.World.{Forest, Names, Node, file, dir, link, empty_forest}
+use Rattle.dt_tree.specs.declared.limits.TheConstants.{ROOT, FIRST_INODE, ROOT_MODE}
+use Rattle.dt_tree.specs.FileTree.{Attributes, FileTree}
+
+-- the last name of a path
+abbrev pub last_name : List ℕ → List ℕ
+last_name path = after_last is_slash path
+
+-- each entry with its inode
+abbrev pub numbered : List Entry → List (ℕ × Entry)
+numbered entries = enumerate_from FIRST_INODE entries
+
+-- the names of a directory: the last name of each entry whose path without it is the directory's, with the entry's inode. The root's path is empty here
+unfoldable pub names_below : List Entry → List ℕ → Names
+names_below entries path = from_entries (map (λ e. (last_name e.1.path, e.0)) (filter (λ e. bytes_eq (parent_of e.1.path) path) (numbered entries)))
+
+-- the node of what stands at a path
+abbrev pub node_of : List Entry → List ℕ → What → Node
+node_of entries path (File bytes) = file bytes
+node_of entries path Dir = dir (names_below entries path)
+node_of entries path (Link target) = link target
+
+-- the nodes by inode
+unfoldable pub image_nodes : List Entry → FinMap nat_cmp Node
+image_nodes entries = insert (from_entries (map (λ e. (e.0, node_of entries e.1.path e.1.what)) (numbered entries))) ROOT (dir (names_below entries []))
+
+-- a node of this mode at the start: never modified, and not held
+abbrev pub at_start : ℕ → Attributes
+at_start mode = record { mode = mode; stamp = 0; holds = 0 }
+
+-- their attributes
+unfoldable pub image_attributes : List Entry → FinMap nat_cmp Attributes
+image_attributes entries = insert (from_entries (map (λ e. (e.0, at_start e.1.mode)) (numbered entries))) ROOT (at_start ROOT_MODE)
+
+-- the tree of an image's entries
+abbrev pub image_tree : List Entry → FileTree
+image_tree entries = record {
+  shape = record { nodes = image_nodes entries; root = ROOT };
+  attributes = image_attributes entries;
+  next = FIRST_INODE + length entries;
+}
+
+-- the nodes of a host are a root without entries and nothing else
+abbrev pub IsEmptyRoot : Forest → Type 0
+IsEmptyRoot v = v ≡ empty_forest v.root

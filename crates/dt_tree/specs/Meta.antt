@@ -1,0 +1,36 @@
+-- What is told of a node (stat(2), inode(7)).
+use Rattle.std.specs.Prelude.{ℕ, ◌+◌, if◌then◌else◌, List, length, Option, option_map, option_and_then}
+use Rattle.std.specs.List.{count_by}
+use Rattle.std.specs.FinMap.{get, entries}
+use Rattle.dt_host.specs.World.{Forest, Node, file, dir, link, node_at, names_at}
+use Rattle.dt_tree.specs.declared.limits.TheConstants.{DIR_SIZE}
+use Rattle.dt_tree.specs.declared.meta.Meta.{Meta}
+use Rattle.dt_tree.specs.Shape.{names_of, is_dir, is_removed}
+use Rattle.dt_tree.specs.FileTree.{FileTree, Attributes}
+use Rattle.dt_tree.specs.Listing.{type_of}
+
+-- the size: a file's bytes, the target's of a link, and one number for every directory
+abbrev pub size_of : Node → ℕ
+size_of (file bytes) = length bytes
+size_of (dir names) = DIR_SIZE
+size_of (link target) = length target
+
+-- how many of a directory's entries are for directories
+abbrev pub subdirectories : Forest → ℕ → ℕ
+subdirectories v d = count_by (λ e. is_dir v e.1) (entries (names_at v d))
+
+-- the link count (stat(2)): of a directory 2 and its subdirectories, 0 where it is removed; of any other node its names
+abbrev pub nlink_of : Forest → ℕ → ℕ
+nlink_of v n =
+    if is_dir v n then (if is_removed v n then 0 else 2 + subdirectories v n)
+    else names_of v n
+
+-- what is told of a node, if it is there
+abbrev pub meta_of : FileTree → ℕ → Option Meta
+meta_of t n = option_and_then (λ node. option_map (λ a. record {
+  kind = type_of node;
+  mode = a.mode;
+  nlink = nlink_of t.shape n;
+  size = size_of node;
+  stamp = a.stamp;
+}) (get t.attributes n)) (node_at t.shape n)

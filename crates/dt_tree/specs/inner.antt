@@ -1,0 +1,7 @@
+pub mod Tables
+pub mod Created
+pub mod Names
+pub mod Lists
+pub mod Kinds
+pub mod Places
+pub mod Codes

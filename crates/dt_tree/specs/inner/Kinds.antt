@@ -1,0 +1,11 @@
+-- Inner words: no public clause cites these. What is told of a node by its kind.
+use Rattle.std.specs.Prelude.{ℕ}
+use Rattle.dt_tree.specs.declared.inode.Kind.{Kind}
+use Rattle.dt_tree.specs.declared.inode.Kind.TheVariants.{File, Dir, Link}
+use Rattle.dt_tree.specs.declared.limits.TheConstants.{DT_DIR, DT_REG, DT_LNK}
+
+-- the type of an entry for a node of this kind
+abbrev pub type_for : Kind → ℕ
+type_for File = DT_REG
+type_for Dir = DT_DIR
+type_for Link = DT_LNK

@@ -1,0 +1,28 @@
+// The numbers of a tree. Code and definitions cite them by name.
+
+/// The root's inode.
+pub const ROOT: u64 = 1;
+
+/// The inode of an image's first entry; each later entry has the next one.
+pub const FIRST_INODE: u64 = 2;
+
+/// The root's mode.
+pub const ROOT_MODE: u32 = 0o755;
+
+/// Nodes of a tree, the root included.
+pub const NODE_LIMIT: u64 = 4_096;
+
+/// Names of a tree, those of all its directories together.
+pub const NAMES_LIMIT: u64 = 0x8000_0000;
+
+/// What stat(2) gives as the size of a directory.
+pub const DIR_SIZE: u64 = 4_096;
+
+/// A directory, as a type of an entry (dirent.h, as the next two).
+pub const DT_DIR: u8 = 4;
+
+/// A file.
+pub const DT_REG: u8 = 8;
+
+/// A symbolic link.
+pub const DT_LNK: u8 = 10;

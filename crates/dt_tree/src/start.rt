@@ -1,0 +1,26 @@
+// A tree at its start.
+ghost use Rattle.std.specs.Prelude.{◌≡◌, [], IfOk, IsErrOf};
+ghost use Rattle.dt_host.specs.Cause.{HasCause};
+ghost use Rattle.dt_tree.specs.ImageTree.{IsEmptyRoot, image_tree};
+ghost use Rattle.dt_tree.specs.Table.{Stands, tree_of};
+
+use crate::inode::{Inode, Kind};
+use crate::limits::ROOT_MODE;
+use crate::tree::Tree;
+use dt_host::{Host, HostErr};
+use std::alloc::Global;
+
+impl Tree {
+    /// The tree of a host that has nothing but a root without entries.
+    pub fn new<H: Host>(alloc: Global, host: &mut H) -> Result<Tree, HostErr>
+        requires { IsEmptyRoot (H.view host.old).forest }
+        ensures stands { IfOk result (λ t. Stands t (H.view host.new).forest) }
+        ensures tree { IfOk result (λ t. tree_of t (H.view host.new).forest ≡ image_tree []) }
+        ensures stays { H.view host.new ≡ H.view host.old }
+        ensures cause { HasCause (H.count host.old) (H.count host.new)
+            (IsErrOf result HostErr.Failed) }
+    {
+        let real = host.root()?;
+        Ok(Tree::of_root(alloc, Inode::new(real, Kind::Dir, ROOT_MODE, 0))?)
+    }
+}

@@ -1,0 +1,63 @@
+use Rattle.std.proofs.Common.{arith, ◌≡◌, ◌-◌, ◌+◌, ◌<◌, ◌≤◌, Ok, Err, rules, refl, sym, ap, subst, ◌∙◌}
+use Rattle.std.specs.Prelude.{reverse}
+use Rattle.dt_host.specs.World.{World}
+use Rattle.dt_tree.specs.Table.{shape_of}
+use Rattle.dt_walk.specs.declared.paths.Stretch.{Stretch}
+use Rattle.dt_walk.specs.Walk.{keeps, start_of, path_names, ends_in_slash, walk_of}
+use Rattle.dt_walk.specs.inner.Stretch.{reached_of, stretch_of, stretches}
+use Rattle.dt_walk.proofs.Stretches.{in_stretches, walk_done, walk_goes, walk_end}
+use Rattle.dt_walk.proofs.Lived.{by_place}
+use Rattle.dt_walk.proofs.paths.walk.Goals as goal
+
+pub loop-i-init : goal.loop-i-init
+loop-i-init g c =
+    let v = shape_of c.args.tree.now (g.H.Host.view c.args.host.now).forest in
+    let keep : c.eq-keep.result ≡ keeps c.args.last = search rules in
+    record {
+      stays = refl;
+      later = omega arith;
+      same = (λ i. stretches 41 v (keep i) (c.start_of-at.ensures i) ((c.in_ok-names.ensures).names i) (c.ends_in_slash-slash.ensures i))
+          ∙ sym (in_stretches 40 v (keeps c.args.last) (start_of c.args.start c.args.path.now) (path_names c.args.path.now) (ends_in_slash c.args.path.now));
+    }
+
+pub returns-in-Done-clause-exact : goal.returns-in-Done-clause-exact
+returns-in-Done-clause-exact g c =
+    let v = shape_of c.args.tree.now (g.H.Host.view c.args.host.now).forest in
+    let names = reverse c.loop-i.names.items in
+    let here = subst (λ (w : World). reached_of c.in_ok-place.field-0 c.walk_on.new.names.items ≡ stretch_of (shape_of c.args.tree.now w.forest) c.eq-keep.result c.loop-i.at names c.loop-i.slash) c.loop-i.invariant.stays c.in_ok-place.ensures.ok in
+    let stretch = sym here ∙ ap (λ (s : Stretch). reached_of s c.walk_on.new.names.items) c.in-Done.is in
+    sym c.loop-i.invariant.same ∙ walk_done (41 - c.loop-i._i) v c.eq-keep.result c.loop-i.at names c.loop-i.slash (Ok c.in-Done.place) (omega arith) stretch
+
+pub returns-in-Done-clause-place : goal.returns-in-Done-clause-place
+returns-in-Done-clause-place g c =
+    let v = shape_of c.args.tree.now (g.H.Host.view c.args.host.now).forest in
+    let names = reverse c.loop-i.names.items in
+    let here = subst (λ (w : World). reached_of c.in_ok-place.field-0 c.walk_on.new.names.items ≡ stretch_of (shape_of c.args.tree.now w.forest) c.eq-keep.result c.loop-i.at names c.loop-i.slash) c.loop-i.invariant.stays c.in_ok-place.ensures.ok in
+    let stretch = sym here ∙ ap (λ (s : Stretch). reached_of s c.walk_on.new.names.items) c.in-Done.is in
+    let ends = sym c.loop-i.invariant.same ∙ walk_done (41 - c.loop-i._i) v c.eq-keep.result c.loop-i.at names c.loop-i.slash (Ok c.in-Done.place) (omega arith) stretch in
+    by_place v c.requires.stands.tree.shaped c.requires.stands.tree.root 40 (keeps c.args.last) (start_of c.args.start c.args.path.now) (path_names c.args.path.now) (ends_in_slash c.args.path.now) c.in-Done.place ends
+
+pub returns-in-Refused-clause-exact : goal.returns-in-Refused-clause-exact
+returns-in-Refused-clause-exact g c =
+    let v = shape_of c.args.tree.now (g.H.Host.view c.args.host.now).forest in
+    let names = reverse c.loop-i.names.items in
+    let here = subst (λ (w : World). reached_of c.in_ok-place.field-0 c.walk_on.new.names.items ≡ stretch_of (shape_of c.args.tree.now w.forest) c.eq-keep.result c.loop-i.at names c.loop-i.slash) c.loop-i.invariant.stays c.in_ok-place.ensures.ok in
+    let stretch = sym here ∙ ap (λ (s : Stretch). reached_of s c.walk_on.new.names.items) c.in-Refused.is in
+    sym c.loop-i.invariant.same ∙ walk_done (41 - c.loop-i._i) v c.eq-keep.result c.loop-i.at names c.loop-i.slash (Err c.in-Refused.e) (omega arith) stretch
+
+pub loop-i-preserved : goal.loop-i-preserved
+loop-i-preserved g c =
+    let v = shape_of c.args.tree.now (g.H.Host.view c.args.host.now).forest in
+    let names = reverse c.loop-i.names.items in
+    let here = subst (λ (w : World). reached_of c.in_ok-place.field-0 c.walk_on.new.names.items ≡ stretch_of (shape_of c.args.tree.now w.forest) c.eq-keep.result c.loop-i.at names c.loop-i.slash) c.loop-i.invariant.stays c.in_ok-place.ensures.ok in
+    let stretch = sym here ∙ ap (λ (s : Stretch). reached_of s c.walk_on.new.names.items) c.in-Follow.is in
+    record {
+      stays = c.walk_on.ensures.stays ∙ c.loop-i.invariant.stays;
+      later = omega (arith, c.walk_on.ensures.cause.later, c.loop-i.invariant.later);
+      same = sym (walk_goes (41 - c.loop-i._i) (41 - (c.loop-i._i + 1)) v c.eq-keep.result c.loop-i.at names c.loop-i.slash c.in-Follow.next (reverse c.walk_on.new.names.items) c.in-Follow.ends (omega arith) stretch) ∙ c.loop-i.invariant.same;
+    }
+
+pub returns-clause-exact : goal.returns-clause-exact
+returns-clause-exact g c =
+    let v = shape_of c.args.tree.now (g.H.Host.view c.args.host.now).forest in
+    sym c.loop-i.invariant.same ∙ walk_end (41 - c.loop-i._i) v c.eq-keep.result c.loop-i.at (reverse c.loop-i.names.items) c.loop-i.slash (omega arith)

@@ -1,0 +1,4 @@
+pub mod Walk
+pub mod Answer
+pub mod Placed
+pub mod inner
