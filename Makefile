@@ -1,10 +1,15 @@
-# The machine's speed beside that of a plain loop in Rust. Nothing that is timed here is a test.
+# The machine's speed beside that of a plain loop in Rust, and how the times of a tree and of memory grow. Nothing that
+# is timed here is a test.
 
 .PHONY: bench
 
 # `rt run` proves and builds the program.
 bench:
 	cd crates/dt_bench && rt run
+	cd crates/dt_bench_tree && rt run
+	cd crates/dt_bench_memory && rt run
 	mkdir -p bench/out
 	rustc --edition 2024 -O -o bench/out/plain bench/plain.rs
 	sh bench/compare.sh crates/dt_bench/out/dt_bench bench/out/plain
+	sh bench/best.sh crates/dt_bench_tree/out/dt_bench_tree 3
+	sh bench/best.sh crates/dt_bench_memory/out/dt_bench_memory 5

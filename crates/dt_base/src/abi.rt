@@ -16,6 +16,15 @@ pub const A1: u8 = 11;
 /// The register of a call's third argument, a2.
 pub const A2: u8 = 12;
 
+/// The register of a call's fourth argument, a3.
+pub const A3: u8 = 13;
+
+/// The register of a call's fifth argument, a4.
+pub const A4: u8 = 14;
+
+/// The register of a call's sixth argument, a5.
+pub const A5: u8 = 15;
+
 /// The register of a call's number, a7.
 pub const A7: u8 = 17;
 
@@ -36,6 +45,36 @@ pub const EXIT: u64 = 93;
 
 /// exit_group(2)
 pub const EXIT_GROUP: u64 = 94;
+
+/// brk(2)
+pub const BRK: u64 = 214;
+
+/// munmap(2)
+pub const MUNMAP: u64 = 215;
+
+/// mmap(2)
+pub const MMAP: u64 = 222;
+
+/// mprotect(2)
+pub const MPROTECT: u64 = 226;
+
+/// All rights that a page may be asked for: PROT_READ, PROT_WRITE and PROT_EXEC (mmap(2)).
+pub const PROT_ALL: u32 = 7;
+
+/// A mapping of this process alone (mmap(2), asm-generic/mman-common.h and mman.h, as all flags of mappings here).
+pub const MAP_PRIVATE: u64 = 0x2;
+
+/// The mapping stands at the address that is asked for, in the place of what is there.
+pub const MAP_FIXED: u64 = 0x10;
+
+/// The mapping is of zeros, and of no file.
+pub const MAP_ANONYMOUS: u64 = 0x20;
+
+/// No memory is set aside for the mapping.
+pub const MAP_NORESERVE: u64 = 0x4000;
+
+/// The mapping is fit for a stack.
+pub const MAP_STACK: u64 = 0x2_0000;
 
 /// The dirfd that stands for the working directory (openat(2)).
 pub const AT_FDCWD: i32 = -100;

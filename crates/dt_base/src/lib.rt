@@ -2,6 +2,7 @@
 #![tactic(auto)]
 
 pub mod abi;
+mod answer;
 mod blob;
 mod command;
 mod errno;
@@ -13,6 +14,7 @@ mod memory;
 mod path;
 mod refusal;
 
+pub use answer::Answer;
 pub use blob::{Blob, Text};
 pub use command::Command;
 pub use errno::Errno;
@@ -20,9 +22,9 @@ pub use event::{End, Event, Verdict};
 pub use fields::{get16, get32, get64, put16, put32, put64};
 pub use image::{Entry, Image, What};
 pub use limits::{
-    ARGUMENT_LIMIT, ENTRY_LIMIT, FILE_LIMIT, INDEX_LIMIT, LINK_MODE, MODE_LIMIT, NAME_LIMIT,
-    PAGE_LIMIT, PAGE_SIZE, PATH_LIMIT, SEGMENT_LIMIT, TRANSFER_LIMIT,
+    ADDRESS_LIMIT, ARGUMENT_LIMIT, ENTRY_LIMIT, FILE_LIMIT, INDEX_LIMIT, LINK_MODE, MMAP_START,
+    MODE_LIMIT, NAME_LIMIT, PAGE_LIMIT, PAGE_SIZE, PATH_LIMIT, SEGMENT_LIMIT, TRANSFER_LIMIT,
 };
 pub use memory::NoMemory;
-pub use path::{has_no_nul, is_name, is_path, is_top};
+pub use path::{begins_with_slash, has_no_nul, is_name, is_path, is_top};
 pub use refusal::{ImageErr, Refusal};

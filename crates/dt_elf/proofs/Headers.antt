@@ -1,10 +1,11 @@
 -- The program headers of a file, one after another.
-use Rattle.std.proofs.Common.{◌≡◌, ℕ, suc, ◌+◌, ◌-◌, ◌*◌, ◌<◌, ◌≤◌, List, [], ◌∷◌, ◌++◌, true, false, filter, Option, Some, None, is_some, refl, ◌∙◌, ap, arith}
+use Rattle.std.proofs.Common.{◌≡◌, ℕ, suc, ◌+◌, ◌-◌, ◌*◌, ◌<◌, ◌≤◌, List, [], ◌∷◌, ◌++◌, true, false, filter, refl, sym, ◌∙◌, ap, map, take, length, set, add-one, append_assoc, arith}
+use Rattle.std.proofs.Math.Seq.{take-suc-set}
+use Rattle.dt_elf.specs.declared.elf.Segment.{Segment}
 use Rattle.std.specs.List.{list_any}
-use Rattle.std.specs.Option.{option_to_list}
-use Rattle.dt_elf.specs.declared.elf.TheConstants.{HEADER_SIZE}
-use Rattle.dt_elf.specs.declared.elf.ProgramHeader.{ProgramHeader}
-use Rattle.dt_elf.specs.Executable.{program_header, headers_from, is_load, is_interp, only}
+use Rattle.dt_elf.specs.declared.layout.TheConstants.{HEADER_SIZE}
+use Rattle.dt_elf.specs.declared.header.ProgramHeader.{ProgramHeader}
+use Rattle.dt_elf.specs.Header.{program_header, headers_from, e_phoff, e_phnum, is_load, is_interp, segment_of, loads}
 
 headers-suc : (bytes : List ℕ) (at at' left rest : ℕ) → left ≡ suc rest → at + HEADER_SIZE ≡ at' → headers_from bytes at left ≡ program_header bytes at ∷ headers_from bytes at' rest
 unfolding headers_from
@@ -21,9 +22,9 @@ module _ (bytes : List ℕ) (start count : ℕ) where
 
   pub headers_after-start : headers_after 0 ≡ headers_from bytes start count
   headers_after-start =
-      let first : start + HEADER_SIZE * 0 ≡ start = omega arith in
+      let place : start + HEADER_SIZE * 0 ≡ start = omega arith in
       let left : count - 0 ≡ count = omega arith in
-      rw (first, left) refl
+      rw (place, left) refl
 
   pub headers_after-end : (i : ℕ) → count ≤ i → headers_after i ≡ []
   headers_after-end i all = headers-zero bytes _ _ (omega arith)
@@ -46,17 +47,25 @@ module _ (bytes : List ℕ) (start count : ℕ) where
   pub interps-found : (i : ℕ) → i < count → is_interp (program_header bytes (start + HEADER_SIZE * i)) ≡ true → list_any is_interp (headers_after i) ≡ true
   interps-found i lt found = ap (list_any is_interp) (headers_after-next i lt) ∙ rw found refl
 
--- a second header beside one that was found
-pub only-two : (found : Option ProgramHeader) (header : ProgramHeader) (rest all : List ProgramHeader) → is_some found ≡ true → option_to_list found ++ (header ∷ rest) ≡ all → only all ≡ None
-only-two None header rest all some is = cc
-only-two (Some first) header rest all some is = rw (← is) refl
+-- the segments that are still to be read
+abbrev pub loads_after : List ℕ → ℕ → List Segment
+loads_after bytes i = map segment_of (filter is_load (headers_after bytes (e_phoff bytes) (e_phnum bytes) i))
 
--- the first that is found
-pub only-first : (found : Option ProgramHeader) (header : ProgramHeader) (rest all : List ProgramHeader) → is_some found ≡ false → option_to_list found ++ (header ∷ rest) ≡ all → header ∷ rest ≡ all
-only-first None header rest all none is = is
-only-first (Some first) header rest all none is = cc
+pub loads-start : (bytes : List ℕ) → loads_after bytes 0 ≡ loads bytes
+unfolding loads
+loads-start bytes = ap (λ headers. map segment_of (filter is_load headers)) (headers_after-start bytes (e_phoff bytes) (e_phnum bytes))
 
--- at the end, the one that was found is the only one
-pub only-found : (found : Option ProgramHeader) (all : List ProgramHeader) → option_to_list found ++ [] ≡ all → found ≡ only all
-only-found None all is = rw (← is) refl
-only-found (Some first) all is = rw (← is) refl
+pub loads-next : (bytes : List ℕ) (i : ℕ) (header : ProgramHeader) → i < e_phnum bytes → header ≡ program_header bytes (e_phoff bytes + HEADER_SIZE * i) → is_load header ≡ true → loads_after bytes i ≡ segment_of header ∷ loads_after bytes (i + 1)
+loads-next bytes i header lt is kept = ap (map segment_of) (loads-keep bytes (e_phoff bytes) (e_phnum bytes) i lt (ap is_load (sym is) ∙ kept)) ∙ rw is refl
+
+pub loads-passed : (bytes : List ℕ) (i : ℕ) (header : ProgramHeader) → i < e_phnum bytes → header ≡ program_header bytes (e_phoff bytes + HEADER_SIZE * i) → is_load header ≡ false → loads_after bytes i ≡ loads_after bytes (i + 1)
+loads-passed bytes i header lt is skipped = ap (map segment_of) (loads-skip bytes (e_phoff bytes) (e_phnum bytes) i lt (ap is_load (sym is) ∙ skipped))
+
+pub loads-end : (bytes : List ℕ) (i : ℕ) → e_phnum bytes ≤ i → loads_after bytes i ≡ []
+loads-end bytes i all = ap (λ headers. map segment_of (filter is_load headers)) (headers_after-end bytes (e_phoff bytes) (e_phnum bytes) i all)
+
+-- one more segment in the table
+pub table-keep : (table : List Segment) (count : ℕ) (segment : Segment) (rest more all : List Segment) → count < length table → take count table ++ rest ≡ all → rest ≡ segment ∷ more → take (count + 1) (set table count segment) ++ more ≡ all
+table-keep table count segment rest more all lt sofar next =
+    let shown : take (count + 1) (set table count segment) ≡ take count table ++ segment ∷ [] = rw add-one (take-suc-set table count segment lt) in
+    rw (shown, append_assoc) (ap (λ (tail : List Segment). take count table ++ tail) (sym next) ∙ sofar)

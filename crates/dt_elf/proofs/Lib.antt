@@ -1,3 +1,8 @@
 pub mod Headers
-pub mod Placed
+pub mod Segments
+pub mod Refusals
+pub mod Numbers
+pub mod Touched
+pub mod Strings
 pub mod Starts
+pub mod StackBytes

@@ -1,41 +1,43 @@
--- The machine that starts an executable.
-use Rattle.std.specs.Prelude.{ℕ, ◌+◌, ◌-◌, ◌/◌, ◌%◌, List, [], ◌++◌, take, drop, replicate, slice_set, nat_lt, Option, Some, None, if◌then◌else◌}
+-- The machine that starts an executable (execve(2)).
+use Rattle.std.specs.Prelude.{ℕ, ◌+◌, ◌/◌, List, ◌++◌, length, replicate, slice_set, Bool, ◌||◌, nat_lt, Option, Some, None, if◌then◌else◌}
 use Rattle.dt_base.specs.declared.abi.TheConstants.{SP}
-use Rattle.dt_base.specs.declared.limits.TheConstants.{PAGE_SIZE, PAGE_LIMIT}
-use Rattle.dt_elf.specs.declared.first_machine.TheConstants.{STACK_START, STACK_PAGES, STACK_TOP}
-use Rattle.dt_elf.specs.declared.elf.Elf.{Elf}
-use Rattle.dt_elf.specs.declared.elf.Segment.{Segment}
+use Rattle.dt_base.specs.declared.limits.TheConstants.{PAGE_SIZE, PAGE_LIMIT, ARGUMENT_LIMIT}
+use Rattle.dt_base.specs.Command.{Words}
+use Rattle.dt_elf.specs.declared.layout.TheConstants.{STACK_START, STACK_PAGES, TRAMPOLINE, TRAMPOLINE_CODE}
+use Rattle.dt_elf.specs.Header.{e_phnum}
+use Rattle.dt_elf.specs.Executable.{Executable}
+use Rattle.dt_elf.specs.SegmentPages.{page_numbers, segment_pages}
+use Rattle.dt_elf.specs.Stack.{Invocation, size, stack_pointer, stack_contents}
 use Rattle.dt_rv64.specs.declared.machine.Machine.{Machine}
-use Rattle.dt_space.specs.declared.access.TheConstants.{READ, WRITE}
+use Rattle.dt_space.specs.declared.access.TheConstants.{READ, WRITE, EXECUTE}
 use Rattle.dt_space.specs.Space.{PageView, granted}
 use Rattle.dt_space.specs.Pages.{pages_from}
 
--- how many pages a segment touches
-abbrev pub page_count : Segment → ℕ
-page_count segment = (segment.vaddr % PAGE_SIZE + segment.memsz + (PAGE_SIZE - 1)) / PAGE_SIZE
+-- the stack's pages, its contents running through them: the byte at an address of the stack is that of the contents at
+-- the offset from the stack's start, or 0 past their end (proved as `stack-byte` in proofs/StackBytes.antt)
+abbrev pub stack_pages : Executable → List ℕ → Invocation → List PageView
+stack_pages program bytes given =
+    pages_from (STACK_START / PAGE_SIZE) (granted (READ + WRITE)) (stack_contents program (e_phnum bytes) given)
+    STACK_PAGES
 
--- a segment's bytes from the start of its first page to the end of its file part
-abbrev pub contents_of : Segment → List ℕ → List ℕ
-contents_of segment bytes = replicate (segment.vaddr % PAGE_SIZE) 0 ++ take segment.filesz (drop segment.offset bytes)
+-- the page to which handlers of signals return
+abbrev pub trampoline_pages : List PageView
+trampoline_pages = pages_from (TRAMPOLINE / PAGE_SIZE) (granted (READ + EXECUTE)) TRAMPOLINE_CODE 1
 
--- a segment's pages, with the rights that are given for its own, and zeros after its file part
-abbrev pub segment_pages : Segment → List ℕ → List PageView
-segment_pages segment bytes =
-    pages_from (segment.vaddr / PAGE_SIZE) (granted segment.rights) (contents_of segment bytes) (page_count segment)
-
--- the stack's pages, all zeros
-abbrev pub stack_pages : List PageView
-stack_pages = pages_from (STACK_START / PAGE_SIZE) (READ + WRITE) [] STACK_PAGES
-
--- the first machine: the stack pointer at the stack's top, and all other registers 0
-abbrev pub first_machine : Elf → List ℕ → Machine
-first_machine elf bytes = record {
-  regs = slice_set (replicate 32 0) SP STACK_TOP;
-  pc = elf.entry;
-  space = segment_pages elf.segment bytes ++ stack_pages;
+-- the first machine: the stack pointer, and all other registers 0
+abbrev pub first_machine : Executable → List ℕ → Invocation → Machine
+first_machine program bytes given = record {
+  regs = slice_set (replicate 32 0) SP (stack_pointer program (e_phnum bytes) given);
+  pc = program.entry;
+  space = segment_pages program.segments bytes ++ stack_pages program bytes given ++ trampoline_pages;
 }
 
--- the machine that starts an executable, where its pages don't pass the limit
-abbrev pub first : Elf → List ℕ → Option Machine
-first elf bytes =
-    if nat_lt PAGE_LIMIT (page_count elf.segment + STACK_PAGES) then None else Some (first_machine elf bytes)
+-- the words or the pages pass their limit
+abbrev pub is_too_big : Executable → Words → Bool
+is_too_big program words =
+    nat_lt ARGUMENT_LIMIT (size words.args + size words.env)
+    || nat_lt PAGE_LIMIT (length (page_numbers program.segments) + STACK_PAGES + 1)
+
+-- the machine that starts an executable, where nothing passes its limit
+abbrev pub first : Executable → List ℕ → Invocation → Option Machine
+first program bytes given = if is_too_big program given.words then None else Some (first_machine program bytes given)

@@ -1,55 +1,19 @@
-// Reading an ELF-64 file: its header, its program headers, its segment.
-ghost use Rattle.std.specs.Prelude.{◌≡◌, ◌+◌, ◌*◌, ◌≤◌, ◌<◌, length, nat_lt, nat_le, filter, IfOk, None};
-ghost use Rattle.std.specs.List.{list_any};
-ghost use Rattle.dt_elf.specs.Executable.{number, e_phoff, e_phnum, program_header, program_headers, header_refusal, is_short, is_bad_header, is_load, is_interp, is_placed, rights_of, segment_at, only, only_segment, exe_after, exe, IsPlaced};
+// Reading an ELF-64 file as an executable.
+ghost use Rattle.std.specs.Prelude.{◌≡◌, ◌+◌, ◌*◌, ◌≤◌, ◌<◌, length, take, not, nat_lt, nat_le, filter, IfOk, MatchResult, Ok, None, true};
+ghost use Rattle.std.specs.List.{list_any, list_all};
+ghost use Rattle.dt_elf.specs.Header.{e_phnum, table_end, program_headers, is_interp, loads};
+ghost use Rattle.dt_elf.specs.Executable.{is_placed, share_byte, overlap, all_placed, refusal, holds_table, table_address_or, table_address, exe, executable, IsElfErr};
+ghost use Rattle.dt_elf.specs.Placed.{IsPlaced, ArePlaced, EndLow};
+ghost use Rattle.dt_elf.specs.ProgramBreak.{program_break, segments_end};
+ghost use Rattle.dt_elf.specs.inner.Refused.{is_short, is_bad_header, segments_refusal};
 
-use dt_base::{PAGE_SIZE, get16, get32, get64};
-use dt_space::{EXECUTE, READ, WRITE};
+use crate::header::{double, exceeds, half, phnum, read_header, table_exceeds};
+use crate::layout::{CLASS, EM_RISCV, ET_EXEC, FILE_HEADER_SIZE, HEADER_LIMIT, HEADER_SIZE, MAGIC};
+use dt_base::{ADDRESS_LIMIT, MMAP_START, PAGE_SIZE};
+use std::alloc::{AllocError, Global};
 use thiserror::Error;
 
-/// The first bytes of an ELF file.
-pub const MAGIC: [u8; 4] = [0x7f, 0x45, 0x4c, 0x46];
-
-/// The bytes after them: 64 bits, little-endian, version 1.
-pub const CLASS: [u8; 3] = [2, 1, 1];
-
-/// An executable that is loaded at fixed addresses.
-pub const ET_EXEC: u16 = 2;
-
-/// The RISC-V architecture.
-pub const EM_RISCV: u16 = 243;
-
-/// A segment that is loaded.
-pub const PT_LOAD: u32 = 1;
-
-/// A request for a program interpreter.
-pub const PT_INTERP: u32 = 3;
-
-/// The flag of a segment that may be executed.
-pub const PF_X: u32 = 1;
-
-/// The flag of a segment that may be written.
-pub const PF_W: u32 = 2;
-
-/// The flag of a segment that may be read.
-pub const PF_R: u32 = 4;
-
-/// Bytes of the file header.
-pub const FILE_HEADER_SIZE: u64 = 64;
-
-/// Bytes of a program header.
-pub const HEADER_SIZE: u64 = 56;
-
-/// Program headers of a file.
-pub const HEADER_LIMIT: u16 = 64;
-
-/// The end of the address space, 2^38.
-pub const ADDRESS_LIMIT: u64 = 0x40_0000_0000;
-
-/// The end of the addresses that a segment may have.
-pub const IMAGE_LIMIT: u64 = 0x20_0000_0000;
-
-/// Why a file is no executable that can be started, in the order in which it is looked for.
+/// Why a file is no executable that can be started: the first reason that holds.
 #[derive(Clone, Copy, Debug, PartialEq, Eq, Error)]
 pub enum ElfErr {
     #[error("the headers run past the end of the file")]
@@ -64,10 +28,14 @@ pub enum ElfErr {
     Machine,
     #[error("a size, a number or the entry in the header is out of its range")]
     Header,
-    #[error("not exactly one segment that takes memory, or one that lies badly")]
+    #[error("no segment that takes memory, or one that lies badly")]
     Segment,
+    #[error("two segments share a byte")]
+    Overlap,
     #[error("the file asks for an interpreter")]
     Interp,
+    #[error("out of memory")]
+    NoMemory,
 }
 
 /// A segment of a file that is loaded: addresses and sizes in bytes, rights as pages have them.
@@ -80,38 +48,59 @@ pub struct Segment {
     pub rights: u8,
 }
 
-/// An executable: the address where it starts, and its segment.
-#[derive(Clone, Copy, Debug, PartialEq, Eq)]
+/// An executable: the address where it starts, that of its program headers in memory (0 where no segment holds them
+/// all), and its segments in the order of their headers.
+#[derive(Debug, Drop)]
 pub struct Elf {
     pub entry: u64,
-    pub segment: Segment,
+    pub phdr: u64,
+    pub segments: Vec<Segment>,
 }
 
-/// The fields of a program header that count here.
-#[derive(Clone, Copy)]
-pub struct ProgramHeader {
-    kind: u32,
-    flags: u32,
-    offset: u64,
-    vaddr: u64,
-    filesz: u64,
-    memsz: u64,
-}
+// What stands in a table where no segment does.
+const NO_SEGMENT: Segment = Segment {
+    vaddr: 0,
+    memsz: 0,
+    offset: 0,
+    filesz: 0,
+    rights: 0,
+};
 
-/// Reads an executable, or gives the first reason why the file is none.
-pub fn read_elf(bytes: &[u8]) -> Result<Elf, ElfErr>
-    ensures exact { result ≡ exe bytes.now }
-    ensures placed { IfOk result (λ elf. IsPlaced bytes.now elf.segment) }
-{
-    match refused_header(bytes) {
-        Some(refusal) => Err(refusal),
-        None => read_segments(bytes),
+impl From<AllocError> for ElfErr {
+    ghost use Rattle.std.specs.Prelude.{◌≡◌};
+    ghost use Rattle.dt_elf.specs.declared.elf.ElfErr.TheVariants.{NoMemory as no_memory};
+
+    ghost from_gives = { λ _ error. error ≡ no_memory };
+
+    fn from(_: AllocError) -> Self {
+        ElfErr::NoMemory
     }
 }
 
-// The first refusal of the file header.
-fn refused_header(bytes: &[u8]) -> Option<ElfErr>
-    ensures { result ≡ header_refusal bytes.now }
+/// Reads an executable (ELF-64 object file format), or gives the first reason why the file is none. Want of memory
+/// comes only where there is no such reason.
+pub fn read_elf(alloc: Global, bytes: &[u8]) -> Result<Elf, ElfErr>
+    ensures exact { MatchResult result (λ elf. exe bytes.now ≡ Ok (executable elf)) (IsElfErr (exe bytes.now)) }
+    ensures low { IfOk result (λ elf. EndLow elf.segments.items) }
+{
+    if let Some(refused) = refused(bytes) {
+        return Err(refused);
+    }
+    let mut table = [NO_SEGMENT; 64];
+    let count = read_segments(bytes, &mut table);
+    let loaded = &table[..count];
+    let mut segments = Vec::new(alloc);
+    segments.extend_from_slice(loaded)?;
+    Ok(Elf {
+        entry: double(bytes, 24),
+        phdr: table_address(bytes, loaded),
+        segments,
+    })
+}
+
+// The first reason why a file is no executable.
+fn refused(bytes: &[u8]) -> Option<ElfErr>
+    ensures { result ≡ refusal bytes.now }
 {
     if is_short_file(bytes) {
         Some(ElfErr::Short)
@@ -126,7 +115,7 @@ fn refused_header(bytes: &[u8]) -> Option<ElfErr>
     } else if is_unusable(bytes) {
         Some(ElfErr::Header)
     } else {
-        None
+        refused_segments(bytes)
     }
 }
 
@@ -135,77 +124,108 @@ fn is_short_file(bytes: &[u8]) -> bool
     ensures { result ≡ is_short bytes.now }
 {
     let size = bytes.len() as u64;
-    size < FILE_HEADER_SIZE
-        || exceeds(
-            size,
-            double(bytes, 32),
-            HEADER_SIZE * u64::from(half(bytes, 56)),
-        )
+    size < FILE_HEADER_SIZE || table_exceeds(bytes, size)
 }
 
-// Whether the table's numbers or the entry rule the file out.
+// Whether the numbers of program headers or the entry rule the file out.
 fn is_unusable(bytes: &[u8]) -> bool
     ensures { result ≡ is_bad_header bytes.now }
 {
-    let count = half(bytes, 56);
+    let count = phnum(bytes);
     u64::from(half(bytes, 54)) != HEADER_SIZE
         || count == 0
         || HEADER_LIMIT < count
         || ADDRESS_LIMIT <= double(bytes, 24)
 }
 
-// The executable, after a file header that is not refused.
-fn read_segments(bytes: &[u8]) -> Result<Elf, ElfErr>
-    requires { e_phoff bytes.now + HEADER_SIZE * e_phnum bytes.now ≤ length bytes.now }
-    ensures { result ≡ exe_after bytes.now None }
+// The first reason that lies in the program headers.
+fn refused_segments(bytes: &[u8]) -> Option<ElfErr>
+    requires table { table_end bytes.now ≤ length bytes.now }
+    requires few { e_phnum bytes.now ≤ HEADER_LIMIT }
+    ensures { result ≡ segments_refusal bytes.now }
 {
-    let Some(segment) = read_only_segment(bytes) else {
-        return Err(ElfErr::Segment);
-    };
-    if asks_interpreter(bytes) {
-        return Err(ElfErr::Interp);
-    }
-    Ok(Elf {
-        entry: double(bytes, 24),
-        segment,
-    })
-}
-
-// The segment of the only header that loads memory.
-fn read_only_segment(bytes: &[u8]) -> Option<Segment>
-    requires { e_phoff bytes.now + HEADER_SIZE * e_phnum bytes.now ≤ length bytes.now }
-    ensures { result ≡ only_segment bytes.now }
-{
-    match read_only_load(bytes) {
-        Some(header) if header.lies_in(bytes) => Some(header.segment()),
-        _ => None,
+    let mut table = [NO_SEGMENT; 64];
+    let count = read_segments(bytes, &mut table);
+    let loaded = &table[..count];
+    if !are_placed(bytes, loaded) {
+        Some(ElfErr::Segment)
+    } else if overlapping(loaded) {
+        Some(ElfErr::Overlap)
+    } else if asks_interpreter(bytes) {
+        Some(ElfErr::Interp)
+    } else {
+        None
     }
 }
 
-// The only header that loads memory.
-fn read_only_load(bytes: &[u8]) -> Option<ProgramHeader>
-    requires { e_phoff bytes.now + HEADER_SIZE * e_phnum bytes.now ≤ length bytes.now }
-    ensures { result ≡ only (filter is_load (program_headers bytes.now)) }
+// Puts the segments that take memory first into the table, and says how many there are.
+fn read_segments(bytes: &[u8], table: &mut [Segment; 64]) -> usize
+    requires table { table_end bytes.now ≤ length bytes.now }
+    requires few { e_phnum bytes.now ≤ HEADER_LIMIT }
+    ensures within { result ≤ HEADER_LIMIT }
+    ensures loaded { take result table.new ≡ loads bytes.now }
 {
-    let mut found: Option<ProgramHeader> = None;
-    for index in 0..half(bytes, 56) {
+    let mut count = 0;
+    for index in 0..phnum(bytes) {
         let header = read_header(bytes, index);
         if header.loads() {
-            if found.is_some() {
-                return None;
-            }
-            found = Some(header);
+            table[count] = header.segment();
+            count += 1;
         }
+    }
+    count
+}
+
+// Whether there is a segment, and each is placed well.
+#[tactic(auto, unfolding(crate::specs::Executable::all_placed))]
+fn are_placed(bytes: &[u8], segments: &[Segment]) -> bool
+    ensures { result ≡ all_placed bytes.now segments.now }
+{
+    !segments.is_empty() && each_is_placed(bytes, segments)
+}
+
+// Whether each of the segments is placed well.
+fn each_is_placed(bytes: &[u8], segments: &[Segment]) -> bool
+    ensures { result ≡ list_all (is_placed bytes.now) segments.now }
+{
+    segments.iter().all(|segment| segment.is_placed(bytes))
+}
+
+// Whether some two of the segments share a byte.
+fn overlapping(segments: &[Segment]) -> bool
+    ensures { result ≡ overlap segments.now }
+{
+    let mut index = segments.len();
+    let mut found = false;
+    while 0 < index {
+        let (_, rest) = segments.split_at(index);
+        index -= 1;
+        found = segments[index].shares_any(rest) || found;
     }
     found
 }
 
-// Whether a header asks for a program interpreter.
+// The address of the program headers: in the first segment that holds them all, else 0.
+fn table_address(bytes: &[u8], segments: &[Segment]) -> u64
+    requires table { table_end bytes.now ≤ length bytes.now }
+    requires placed { ArePlaced bytes.now segments.now }
+    ensures { result ≡ table_address bytes.now segments.now }
+{
+    let mut index = segments.len();
+    let mut address = 0;
+    while 0 < index {
+        index -= 1;
+        address = segments[index].table_address_or(bytes, address);
+    }
+    address
+}
+
+// Whether a program header asks for a program interpreter.
 fn asks_interpreter(bytes: &[u8]) -> bool
-    requires { e_phoff bytes.now + HEADER_SIZE * e_phnum bytes.now ≤ length bytes.now }
+    requires { table_end bytes.now ≤ length bytes.now }
     ensures { result ≡ list_any is_interp (program_headers bytes.now) }
 {
-    for index in 0..half(bytes, 56) {
+    for index in 0..phnum(bytes) {
         let header = read_header(bytes, index);
         if header.is_interpreter() {
             return true;
@@ -214,101 +234,77 @@ fn asks_interpreter(bytes: &[u8]) -> bool
     false
 }
 
-// A program header by its index.
-fn read_header(bytes: &[u8], index: u16) -> ProgramHeader
-    requires table { e_phoff bytes.now + HEADER_SIZE * e_phnum bytes.now ≤ length bytes.now }
-    requires within { index < e_phnum bytes.now }
-    ensures { result ≡ program_header bytes.now (e_phoff bytes.now + HEADER_SIZE * index) }
-{
-    let at = (double(bytes, 32) + HEADER_SIZE * u64::from(index)) as usize;
-    ProgramHeader {
-        kind: word(bytes, at),
-        flags: word(bytes, at + 4),
-        offset: double(bytes, at + 8),
-        vaddr: double(bytes, at + 16),
-        filesz: double(bytes, at + 32),
-        memsz: double(bytes, at + 40),
+impl Elf {
+    /// Where the break starts: the end of the highest segment, rounded up to a page.
+    pub fn program_break(&self) -> u64
+        requires { EndLow self.now.segments.items }
+        ensures exact { result ≡ program_break (executable self.now) }
+        ensures low { result ≤ MMAP_START }
+    {
+        segments_end(&self.segments).div_ceil(PAGE_SIZE) * PAGE_SIZE
     }
 }
 
-impl ProgramHeader {
-    // Whether it loads memory.
-    fn loads(&self) -> bool
-        ensures { result ≡ is_load self.now }
-    {
-        self.kind == PT_LOAD && 0 < self.memsz
+// The greatest of the addresses that follow segments.
+fn segments_end(segments: &[Segment]) -> u64
+    requires { EndLow segments.now }
+    ensures exact { result ≡ segments_end segments.now }
+    ensures low { result ≤ MMAP_START }
+{
+    let mut index = segments.len();
+    let mut end = 0;
+    while 0 < index {
+        index -= 1;
+        end = end.max(segments[index].vaddr + segments[index].memsz);
     }
+    end
+}
 
-    // Whether it names a program interpreter.
-    fn is_interpreter(&self) -> bool
-        ensures { result ≡ is_interp self.now }
-    {
-        self.kind == PT_INTERP
-    }
-
-    // Whether the file part lies in the file and in the memory part, and this in the image's range.
-    fn lies_in(&self, bytes: &[u8]) -> bool
+impl Segment {
+    // Whether the file part lies in the file and in the memory part, and this in a program's range.
+    fn is_placed(&self, bytes: &[u8]) -> bool
         ensures { result ≡ is_placed bytes.now self.now }
     {
         self.filesz <= self.memsz
             && !exceeds(bytes.len() as u64, self.offset, self.filesz)
             && PAGE_SIZE <= self.vaddr
-            && !exceeds(IMAGE_LIMIT, self.vaddr, self.memsz)
+            && !exceeds(MMAP_START, self.vaddr, self.memsz)
     }
 
-    // Its segment.
-    fn segment(&self) -> Segment
-        ensures { result ≡ segment_at self.now }
+    // Whether it shares a byte with some of the others.
+    fn shares_any(&self, others: &[Segment]) -> bool
+        ensures { result ≡ list_any (share_byte self.now) others.now }
     {
-        Segment {
-            vaddr: self.vaddr,
-            memsz: self.memsz,
-            offset: self.offset,
-            filesz: self.filesz,
-            rights: rights(self.flags),
+        others.iter().any(|other| self.shares(other))
+    }
+
+    // Whether some byte of memory is in both.
+    fn shares(&self, other: &Segment) -> bool
+        ensures { result ≡ share_byte self.now other.now }
+    {
+        exceeds(self.vaddr, other.vaddr, other.memsz)
+            && exceeds(other.vaddr, self.vaddr, self.memsz)
+    }
+
+    // The address of the program headers where its file part holds them all, else another.
+    fn table_address_or(&self, bytes: &[u8], other: u64) -> u64
+        requires table { table_end bytes.now ≤ length bytes.now }
+        requires placed { IsPlaced bytes.now self.now }
+        ensures { result ≡ table_address_or bytes.now self.now other }
+    {
+        if self.holds_table_of(bytes) {
+            self.vaddr + (double(bytes, 32) - self.offset)
+        } else {
+            other
         }
     }
-}
 
-// The rights that a segment's flags give; the right to write brings the right to read.
-fn rights(flags: u32) -> u8
-    ensures { result ≡ rights_of flags }
-{
-    let to_data = if flags & PF_W == PF_W {
-        READ + WRITE
-    } else if flags & PF_R == PF_R {
-        READ
-    } else {
-        0
-    };
-    let to_code = if flags & PF_X == PF_X { EXECUTE } else { 0 };
-    to_data + to_code
-}
-
-// Whether a range ends past a limit.
-fn exceeds(limit: u64, start: u64, size: u64) -> bool
-    ensures { result ≡ nat_lt limit (start + size) }
-{
-    limit < start || limit - start < size
-}
-
-// The 16-bit number at an offset; 0 past the end.
-fn half(bytes: &[u8], at: usize) -> u16
-    ensures { result ≡ number 2 bytes.now at }
-{
-    get16(bytes, at).unwrap_or(0)
-}
-
-// The 32-bit number at an offset; 0 past the end.
-fn word(bytes: &[u8], at: usize) -> u32
-    ensures { result ≡ number 4 bytes.now at }
-{
-    get32(bytes, at).unwrap_or(0)
-}
-
-// The 64-bit number at an offset; 0 past the end.
-fn double(bytes: &[u8], at: usize) -> u64
-    ensures { result ≡ number 8 bytes.now at }
-{
-    get64(bytes, at).unwrap_or(0)
+    // Whether its file part holds all program headers.
+    fn holds_table_of(&self, bytes: &[u8]) -> bool
+        requires table { table_end bytes.now ≤ length bytes.now }
+        requires placed { IsPlaced bytes.now self.now }
+        ensures { result ≡ holds_table bytes.now self.now }
+    {
+        self.offset <= double(bytes, 32) && !table_exceeds(bytes, self.offset + self.filesz)
+    }
 }

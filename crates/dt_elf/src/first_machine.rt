@@ -1,32 +1,29 @@
 // The machine that starts an executable.
-ghost use Rattle.std.specs.Prelude.{◌≡◌, ◌+◌, ◌≤◌, ◌++◌, ◌↔◌, length, IfOk, Ok, Err, Some, None};
+ghost use Rattle.std.specs.Prelude.{◌≡◌, ◌≤◌, ◌<◌, ◌^◌, ◌+◌, ◌/◌, ◌++◌, ◌↔◌, false, length, IfOk, Ok, Err, Some, None};
 ghost use Rattle.dt_rv64.specs.Valid.{IsMachine};
-ghost use Rattle.dt_space.specs.Space.{IsSpace};
-ghost use Rattle.dt_elf.specs.declared.elf.TheConstants.{IMAGE_LIMIT};
-ghost use Rattle.dt_elf.specs.Executable.{exe, IsPlaced};
-ghost use Rattle.dt_elf.specs.FirstMachine.{page_count, contents_of, segment_pages, stack_pages, first};
+ghost use Rattle.dt_space.specs.Space.{IsSpace, granted};
+ghost use Rattle.dt_space.specs.Pages.{pages_from, EndsBelow};
+ghost use Rattle.dt_elf.specs.Executable.{exe, executable};
+ghost use Rattle.dt_elf.specs.Placed.{ArePlaced, EndLow};
+ghost use Rattle.dt_elf.specs.Stack.{invocation};
+ghost use Rattle.dt_elf.specs.FirstMachine.{is_too_big, first_machine, trampoline_pages, first};
 
-use crate::elf::{Elf, Segment};
+use crate::elf::Elf;
+use crate::header::phnum;
+use crate::layout::{STACK_PAGES, STACK_START, TRAMPOLINE, TRAMPOLINE_CODE};
+use crate::pages::{load, touch_more_than};
+use crate::stack::{are_too_many, make_stack};
 use dt_base::abi::SP;
-use dt_base::{NoMemory, PAGE_LIMIT, PAGE_SIZE};
+use dt_base::{Command, NoMemory, PAGE_LIMIT, PAGE_SIZE, PATH_LIMIT};
 use dt_rv64::Machine;
-use dt_space::{READ, Space, WRITE};
+use dt_space::{EXECUTE, READ, Space, WRITE};
 use std::alloc::Global;
 use thiserror::Error;
-
-/// The first address of the stack.
-pub const STACK_START: u64 = 0x3f_ffef_e000;
-
-/// Pages of the stack.
-pub const STACK_PAGES: u64 = 256;
-
-/// The end of the stack.
-pub const STACK_TOP: u64 = 0x3f_ffff_e000;
 
 /// Why an executable has no first machine.
 #[derive(Clone, Copy, Debug, PartialEq, Eq, Error)]
 pub enum StartErr {
-    #[error("the pages pass their limit")]
+    #[error("the pages or the words pass their limit")]
     TooBig,
     #[error("out of memory")]
     NoMemory,
@@ -43,19 +40,60 @@ impl From<NoMemory> for StartErr {
     }
 }
 
-/// The machine that starts an executable. `TooBig` comes exactly where the pages pass the limit.
-pub fn start(alloc: Global, elf: &Elf, bytes: &[u8]) -> Result<Machine, StartErr>
-    requires { exe bytes.now ≡ Ok elf.now }
-    ensures machine { IfOk result (λ machine. first elf.now bytes.now ≡ Some machine) }
+/// The machine that starts the executable of a file with a command's words, the path that it is executed by, of at
+/// most 4,095 bytes, and 16 random bytes. `TooBig` comes exactly where the words or the pages pass their limit.
+pub fn start(
+    alloc: Global,
+    elf: &Elf,
+    bytes: &[u8],
+    command: &Command,
+    execfn: &[u8],
+    random: &[u8; 16],
+) -> Result<Machine, StartErr>
+    requires read { exe bytes.now ≡ Ok (executable elf.now) }
+    requires short { length execfn.now ≤ PATH_LIMIT }
+    ensures machine { IfOk result (λ machine.
+        first (executable elf.now) bytes.now (invocation command.now execfn.now random.now) ≡ Some machine) }
     ensures sound { IfOk result IsMachine }
-    ensures too_big { (result ≡ Err StartErr.TooBig) ↔ (first elf.now bytes.now ≡ None) }
+    ensures too_big { (result ≡ Err StartErr.TooBig)
+        ↔ (first (executable elf.now) bytes.now (invocation command.now execfn.now random.now) ≡ None) }
 {
-    if PAGE_LIMIT < elf.segment.pages() + STACK_PAGES {
+    if is_too_big(elf, command) {
         return Err(StartErr::TooBig);
     }
-    let space = elf.segment.load(alloc, bytes)?;
+    Ok(make(alloc, elf, bytes, command, execfn, random)?)
+}
+
+// Whether the words or the pages pass their limit.
+fn is_too_big(elf: &Elf, command: &Command) -> bool
+    requires { EndLow elf.now.segments.items }
+    ensures { result ≡ is_too_big (executable elf.now) command.now }
+{
+    are_too_many(command) || touch_more_than(PAGE_LIMIT - STACK_PAGES - 1, &elf.segments)
+}
+
+// The machine, where nothing passes its limit.
+fn make(
+    alloc: Global,
+    elf: &Elf,
+    bytes: &[u8],
+    command: &Command,
+    execfn: &[u8],
+    random: &[u8; 16],
+) -> Result<Machine, NoMemory>
+    requires placed { ArePlaced bytes.now elf.now.segments.items }
+    requires entry { elf.now.entry < 2 ^ 64 }
+    requires short { length execfn.now ≤ PATH_LIMIT }
+    requires few { is_too_big (executable elf.now) command.now ≡ false }
+    ensures machine { IfOk result (λ machine. machine
+        ≡ first_machine (executable elf.now) bytes.now (invocation command.now execfn.now random.now)) }
+    ensures sound { IfOk result IsMachine }
+{
+    let segments = load(alloc, &elf.segments, bytes)?;
+    let stack = make_stack(alloc, elf, phnum(bytes), command, execfn, random)?;
+    let space = with_stack(alloc, segments, &stack.contents)?;
     let mut regs = [0; 32];
-    regs[usize::from(SP)] = STACK_TOP;
+    regs[usize::from(SP)] = stack.pointer;
     Ok(Machine {
         regs,
         pc: elf.entry,
@@ -63,48 +101,27 @@ pub fn start(alloc: Global, elf: &Elf, bytes: &[u8]) -> Result<Machine, StartErr
     })
 }
 
-impl Segment {
-    // How many pages it touches.
-    fn pages(&self) -> u64
-        requires { self.now.vaddr + self.now.memsz ≤ IMAGE_LIMIT }
-        ensures { result ≡ page_count self.now }
-    {
-        (self.vaddr % PAGE_SIZE + self.memsz).div_ceil(PAGE_SIZE)
-    }
-
-    // Its pages, and those of the stack.
-    fn load(&self, alloc: Global, bytes: &[u8]) -> Result<Space, NoMemory>
-        requires placed { IsPlaced bytes.now self.now }
-        requires few { page_count self.now + STACK_PAGES ≤ PAGE_LIMIT }
-        ensures pages { IfOk result (λ space. space ≡ segment_pages self.now bytes.now ++ stack_pages) }
-        ensures sound { IfOk result IsSpace }
-    {
-        let contents = self.contents(alloc, bytes)?;
-        let first = self.vaddr / PAGE_SIZE;
-        let space = Space::new(alloc).with_pages(
-            alloc,
-            first,
-            self.pages(),
-            self.rights,
-            &contents,
-        )?;
-        space.with_pages(
-            alloc,
-            STACK_START / PAGE_SIZE,
-            STACK_PAGES,
-            READ + WRITE,
-            &[],
-        )
-    }
-
-    // Its bytes from the start of its first page to the end of its file part.
-    fn contents(&self, alloc: Global, bytes: &[u8]) -> Result<Vec<u8>, NoMemory>
-        requires { self.now.offset + self.now.filesz ≤ length bytes.now }
-        ensures { IfOk result (λ contents. contents.items ≡ contents_of self.now bytes.now) }
-    {
-        let mut contents = vec![in alloc; 0; (self.vaddr % PAGE_SIZE) as usize]?;
-        let start = self.offset as usize;
-        contents.extend_from_slice(&bytes[start..start + self.filesz as usize])?;
-        Ok(contents)
-    }
+// The pages of segments with those of the stack and the trampoline.
+fn with_stack(alloc: Global, segments: Space, contents: &[u8]) -> Result<Space, NoMemory>
+    requires below { EndsBelow segments (STACK_START / PAGE_SIZE) }
+    requires few { length segments + STACK_PAGES + 1 ≤ PAGE_LIMIT }
+    ensures pages { IfOk result (λ space. space
+        ≡ segments ++ pages_from (STACK_START / PAGE_SIZE) (granted (READ + WRITE)) contents.now STACK_PAGES
+        ++ trampoline_pages) }
+    ensures sound { IfOk result IsSpace }
+{
+    let space = segments.with_pages(
+        alloc,
+        STACK_START / PAGE_SIZE,
+        STACK_PAGES,
+        READ + WRITE,
+        contents,
+    )?;
+    space.with_pages(
+        alloc,
+        TRAMPOLINE / PAGE_SIZE,
+        1,
+        READ + EXECUTE,
+        &TRAMPOLINE_CODE,
+    )
 }

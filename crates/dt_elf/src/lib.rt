@@ -3,6 +3,11 @@
 
 mod elf;
 mod first_machine;
+mod header;
+pub mod layout;
+mod pages;
+mod stack;
 
 pub use elf::{Elf, ElfErr, Segment, read_elf};
 pub use first_machine::{StartErr, start};
+pub use stack::are_too_many;

@@ -8,8 +8,10 @@ use Rattle.dt_asm.specs.declared.error.AsmErr.{AsmErr}
 use Rattle.dt_asm.specs.Item.{GuestView}
 use Rattle.dt_asm.specs.File.{IsFileOf}
 use Rattle.dt_asm.specs.Accepted.{IsAccepted, IsRoom}
-use Rattle.dt_elf.specs.declared.elf.TheConstants.{MAGIC, CLASS}
-use Rattle.dt_elf.specs.Executable.{exe, number, e_phoff, e_phnum, e_phentsize, e_entry, e_type, e_machine, headers_from, program_header, program_headers, header_refusal, is_short, is_bad_header, is_load, is_interp, is_placed, only_segment, segment_at}
+use Rattle.dt_elf.specs.declared.layout.TheConstants.{MAGIC, CLASS}
+use Rattle.dt_elf.specs.Header.{number, e_phoff, e_phnum, e_phentsize, e_entry, e_type, e_machine, headers_from, program_header, program_headers, is_load, is_interp, loads, segment_of}
+use Rattle.dt_elf.specs.Executable.{exe, is_placed, all_placed, overlap}
+use Rattle.dt_elf.specs.inner.Refused.{is_short, is_bad_header}
 
 field : (k : ℕ) (file : List ℕ) (at n : ℕ) → field_at k file at ≡ Some n → number k file at ≡ n
 field k file at n is = ap (λ found. unwrap_or found 0) is
@@ -45,9 +47,6 @@ module _ (file : List ℕ) (long : 120 ≤ length file) (is : IsAccepted file) w
   header : is_bad_header file ≡ false
   header = rw (phentsize, phnum, entry) refl
 
-  unrefused : header_refusal file ≡ None
-  unrefused = rw (whole, magic, class, kind, machine, header) refl
-
   one_header : program_headers file ≡ program_header file 64 ∷ []
   unfolding headers_from
   one_header = rw (phoff, phnum) refl
@@ -69,26 +68,35 @@ module _ (file : List ℕ) (long : 120 ≤ length file) (is : IsAccepted file) w
     h_memsz : number 8 file 104 ≡ memory
     h_memsz = field 8 file 104 memory memsz
 
-    loads : is_load (program_header file 64) ≡ true
-    loads = let some : 0 < memory = omega (arith, long, room.holds) in rw (h_kind, h_memsz) (grind (arith, nat_tests))
+    is_loaded : is_load (program_header file 64) ≡ true
+    is_loaded = let some : 0 < memory = omega (arith, long, room.holds) in rw (h_kind, h_memsz) (grind (arith, nat_tests))
 
     asks : is_interp (program_header file 64) ≡ false
     asks = rw h_kind refl
 
-    placed : is_placed file (program_header file 64) ≡ true
+    placed : is_placed file (segment_of (program_header file 64)) ≡ true
     placed =
         let holds = room.holds in
         let ends = room.ends in
         rw (h_filesz, h_memsz, h_offset, h_vaddr) (grind (arith, nat_tests))
 
-    found : only_segment file ≡ Some (segment_at (program_header file 64))
-    found = rw (one_header, loads, placed) refl
+    one_segment : loads file ≡ segment_of (program_header file 64) ∷ []
+    unfolding loads
+    one_segment = rw (one_header, is_loaded) refl
+
+    well_placed : all_placed file (loads file) ≡ true
+    unfolding all_placed
+    well_placed = rw (one_segment, placed) refl
+
+    apart : overlap (loads file) ≡ false
+    unfolding overlap
+    apart = rw one_segment refl
 
     no_interp : list_any is_interp (program_headers file) ≡ false
     no_interp = rw (one_header, asks) refl
 
     is_executable : IsOk (exe file)
-    is_executable = rw (unrefused, found, no_interp) refl
+    is_executable = rw (whole, magic, class, kind, machine, header, well_placed, apart, no_interp) refl
 
   -- a file that is accepted by its fields is one that can be executed
   pub accepted-runs : IsOk (exe file)

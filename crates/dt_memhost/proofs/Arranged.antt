@@ -1,8 +1,8 @@
 -- The order that words choose, one entry at a time.
-use Rattle.std.proofs.Common.{◌≡◌, ℕ, suc, ◌+◌, ◌-◌, ◌%◌, ◌<◌, ◌≤◌, List, [], ◌∷◌, ◌++◌, length, map, take, drop, refl, sym, ap, subst, ◌∙◌, arith, append_assoc, length-append, length-drop}
+use Rattle.std.proofs.Common.{◌≡◌, ℕ, suc, ◌+◌, ◌-◌, ◌%◌, ◌<◌, List, [], ◌∷◌, ◌++◌, length, map, take, drop, refl, sym, ap, subst, ◌∙◌, append_assoc, append-nil, arith}
 use Rattle.std.specs.Prelude.{remove}
 use Rattle.std.specs.List.Sorted.{IsPermutation}
-use Rattle.std.proofs.lemmas.List.{take_at, drop_at, drop-drop, length-take-le, take-append-drop, take-map, drop-map, map-append, length-map}
+use Rattle.std.proofs.lemmas.List.{drop-drop, take-append-drop, take-map, drop-map, map-append, length-map}
 use Rattle.std.proofs.lemmas.List.Sorted.{IsPermutation-refl, IsPermutation-trans, IsPermutation-append_left, IsPermutation-append_right, IsPermutation-append_comm}
 use Rattle.dt_memhost.specs.Picks.{next_words, after_words}
 use Rattle.dt_memhost.specs.Script.{Script, picked, picked_all, word_of, words_of}
@@ -32,9 +32,6 @@ pub all_left : (n : ℕ) → n ≡ n - 0
 all_left n = omega arith
 
 module _ {A : Type 0} where
-  pub picked_order-start : (found : List A) (s : Script) → picked_order (words_of (length found) s) found ≡ take 0 found ++ picked_order (words_of (length found - 0) s) (drop 0 found)
-  picked_order-start found s = ap (λ n. picked_order (words_of n s) found) (all_left (length found))
-
   picked_order-cons : (word : ℕ) (words : List ℕ) (left : List A) → picked_order (word ∷ words) left ≡ take 1 (drop (word % length left) left) ++ picked_order words (remove left (word % length left))
   unfolding picked_order
   picked_order-cons word words left = refl
@@ -43,37 +40,26 @@ module _ {A : Type 0} where
   unfolding picked_order
   picked_order-nil left = refl
 
-  -- one entry more where it belongs
-  pub picked_order-more : (found prefix left moved : List A) (done at n : ℕ) (s : Script) → n ≡ length found → done < n → prefix ≡ take done found → left ≡ drop done found → at ≡ word_of s % length left → moved ≡ take 1 (drop at left) ++ remove left at → take done found ++ picked_order (words_of (n - done) s) (drop done found) ≡ take (done + 1) (prefix ++ moved) ++ picked_order (words_of (n - (done + 1)) (picked s)) (drop (done + 1) (prefix ++ moved))
-  picked_order-more found prefix left moved done at n s size here first last chosen goes =
+  -- one entry more, which the next word chose
+  pub picked_order-more : (moved left rest : List A) (entry : A) (done n : ℕ) (s : Script) → done < n → length left ≡ n - done → entry ∷ [] ≡ take 1 (drop (word_of s % (n - done)) left) → rest ≡ remove left (word_of s % (n - done)) → moved ++ picked_order (words_of (n - done) s) left ≡ (moved ++ entry ∷ []) ++ picked_order (words_of (n - (done + 1)) (picked s)) rest
+  picked_order-more moved left rest entry done n s here many chosen goes =
+      let at = word_of s % (n - done) in
       let words = words_of (n - (done + 1)) (picked s) in
-      let one = take 1 (drop at left) in
-      let rest = remove left at in
-      let many : length left ≡ n - done = ap length last ∙ omega (arith, length-drop done found) in
-      let within : at < length left = omega arith in
-      let single : length one ≡ 1 = length-take-le 1 (drop at left) (omega (arith, length-drop at left)) in
-      let front_size : length prefix ≡ done = ap length first ∙ length-take-le done found (omega arith) in
-      let head : length (prefix ++ one) ≡ done + 1 = omega (arith, length-append prefix one) in
-      let whole : prefix ++ moved ≡ (prefix ++ one) ++ rest = ap (λ xs. prefix ++ xs) goes ∙ sym (append_assoc prefix one rest) in
-      let begins : take (done + 1) (prefix ++ moved) ≡ prefix ++ one = ap (take (done + 1)) whole ∙ take_at (prefix ++ one) rest (done + 1) head in
-      let ends : drop (done + 1) (prefix ++ moved) ≡ rest = ap (drop (done + 1)) whole ∙ drop_at (prefix ++ one) rest (done + 1) head in
-      let step : picked_order (words_of (n - done) s) left ≡ one ++ picked_order words rest =
+      let step : picked_order (words_of (n - done) s) left ≡ (entry ∷ []) ++ picked_order words rest =
       ap (λ ws. picked_order ws left) (ap (λ m. words_of m s) (one_left done n here) ∙ words_of-suc (n - (done + 1)) s)
       ∙ picked_order-cons (word_of s) words left
-      ∙ ap (λ k. take 1 (drop k left) ++ picked_order words (remove left k)) (sym chosen) in
-      ap (λ xs. xs ++ picked_order (words_of (n - done) s) (drop done found)) (sym first)
-      ∙ ap (λ xs. prefix ++ picked_order (words_of (n - done) s) xs) (sym last)
-      ∙ ap (λ xs. prefix ++ xs) step
-      ∙ sym (append_assoc prefix one (picked_order words rest))
-      ∙ ap (λ xs. xs ++ picked_order words rest) (sym begins)
-      ∙ ap (λ xs. take (done + 1) (prefix ++ moved) ++ picked_order words xs) (sym ends)
+      ∙ ap (λ k. take 1 (drop k left) ++ picked_order words (remove left k)) (ap (λ k. word_of s % k) many)
+      ∙ ap (λ xs. xs ++ picked_order words (remove left at)) (sym chosen)
+      ∙ ap (λ xs. (entry ∷ []) ++ picked_order words xs) (sym goes) in
+      ap (λ xs. moved ++ xs) step ∙ sym (append_assoc moved (entry ∷ []) (picked_order words rest))
 
-  -- after the last they stand as they are
-  pub picked_order-end : (found : List A) (done n : ℕ) (s : Script) → n ≤ done → take done found ++ picked_order (words_of (n - done) s) (drop done found) ≡ found
-  picked_order-end found done n s h =
-      ap (λ words. take done found ++ picked_order words (drop done found)) (words_of-none s (n - done) (omega arith))
-      ∙ ap (λ xs. take done found ++ xs) (picked_order-nil (drop done found))
-      ∙ take-append-drop done found
+  -- where none is left, all were moved
+  pub picked_order-end : (moved left : List A) (n : ℕ) (s : Script) → n ≡ 0 → length left ≡ n → moved ++ picked_order (words_of n s) left ≡ moved
+  picked_order-end moved [] n s none _ =
+      ap (λ words. moved ++ picked_order words []) (words_of-none s n none)
+      ∙ ap (λ xs. moved ++ xs) (picked_order-nil [])
+      ∙ append-nil moved
+  picked_order-end moved (x ∷ left) n s none some = absurd (omega arith)
 
   -- one moved to the first index
   to_first : (left : List A) (at : ℕ) → IsPermutation left (take 1 (drop at left) ++ remove left at)

@@ -3,3 +3,4 @@ pub mod Dir
 pub mod Node
 pub mod Forest
 pub mod Codes
+pub mod EntryTree

@@ -126,9 +126,8 @@ impl Host for MemHost {
             (IsErrOf result HostErr.Failed) }
     {
         self.script.begin(false)?;
-        let mut found = self.forest.list(dir)?;
-        arrange(&mut found, &mut self.script);
-        Ok(found)
+        let found = self.forest.list(dir)?;
+        Ok(arrange(self.alloc, found, &mut self.script)?)
     }
 
     fn raw(&mut self, ino: u64) -> Result<RawStat, HostErr>

@@ -2,6 +2,7 @@
 #![tactic(auto)]
 
 mod dir;
+mod entry_tree;
 mod forest;
 mod host;
 mod node;

@@ -1,28 +1,48 @@
 // The order in which words name the entries of a directory.
-ghost use Rattle.std.specs.Prelude.{◌≡◌, ◌<◌, ◌++◌, length, take, drop, remove};
+ghost use Rattle.std.specs.Prelude.{◌≡◌, ◌%◌, ◌<◌, [], ◌∷◌, length, take, drop, remove, IfOk, OnOk, OnErr};
 ghost use Rattle.dt_memhost.specs.Order.{picked_order};
-ghost use Rattle.dt_memhost.specs.Script.{picked_all, words_of};
+ghost use Rattle.dt_memhost.specs.Script.{picked, picked_all, word_of, words_of};
+ghost use Rattle.dt_memhost.specs.inner.EntryTree.{entries, IsCounted};
 
+use crate::entry_tree::EntryTree;
 use crate::script::Script;
+use dt_base::NoMemory;
 use dt_host::HostEntry;
+use std::alloc::Global;
 
-/// Puts entries into the order that words choose, one word for each.
-pub(crate) fn arrange(found: &mut [HostEntry], script: &mut Script)
-    ensures order { found.new ≡ picked_order (words_of (length found.old) script.old) found.old }
-    ensures after { script.new ≡ picked_all (length found.old) script.old }
+/// Entries in the order that words choose, one word for each. All memory is taken before the first
+/// word. The time is n log n.
+pub(crate) fn arrange(
+    alloc: Global,
+    found: Vec<HostEntry>,
+    script: &mut Script,
+) -> Result<Vec<HostEntry>, NoMemory>
+    ensures order { IfOk result (λ arranged. arranged.items
+        ≡ picked_order (words_of (length found.items) script.old) found.items) }
+    ensures after { OnOk result (script.new ≡ picked_all (length found.items) script.old) }
+    ensures err { OnErr result (script.new ≡ script.old) }
 {
-    for done in 0..found.len() {
-        let (_, left) = found.split_at_mut(done);
-        let at = script.index(left.len());
-        to_first(left, at);
+    let count = found.len();
+    let mut arranged = Vec::with_capacity(alloc, count)?;
+    let mut left = EntryTree::new(alloc, found)?;
+    for done in 0..count {
+        let entry = pick(&mut left, count - done, script);
+        arranged.push(entry)?;
     }
+    Ok(arranged)
 }
 
-// Moves the entry at an index to the first; those before it move up by one.
-fn to_first(left: &mut [HostEntry], at: usize)
-    requires { at < length left.old }
-    ensures { left.new ≡ take 1 (drop at left.old) ++ remove left.old at }
+// Takes the entry that the next word chooses out of those that are left.
+fn pick(left: &mut EntryTree, count: usize, script: &mut Script) -> HostEntry
+    requires counted { IsCounted left.old }
+    requires count { length (entries left.old) ≡ count }
+    requires some { 0 < count }
+    ensures chosen { result ∷ []
+        ≡ take 1 (drop (word_of script.old % count) (entries left.old)) }
+    ensures left { entries left.new ≡ remove (entries left.old) (word_of script.old % count) }
+    ensures counted { IsCounted left.new }
+    ensures after { script.new ≡ picked script.old }
 {
-    let (prefix, _) = left.split_at_mut(at + 1);
-    prefix.rotate_right(1);
+    let at = script.index(count);
+    left.take(at)
 }

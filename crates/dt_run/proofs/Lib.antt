@@ -1,9 +1,7 @@
-pub mod TurnsRuns
-pub mod Walked
-pub mod Opened
+pub mod Turns
+pub mod Stops
 pub mod Holding
 pub mod Completed
 pub mod Wanting
 pub mod Failing
 pub mod Lines
-pub mod Parts

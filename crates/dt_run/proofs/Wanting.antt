@@ -2,17 +2,14 @@
 use Rattle.std.proofs.Common.{◌≡◌, ℕ, Bool, true, false, cond, List, Option, Some, None, Result, Ok, Err, refl, sym, ap, subst, eqb, inl, inr}
 use Rattle.std.specs.Prelude.{IsTrue, IsSome, IfSome, IfErr, IsErrAnd}
 use Rattle.dt_base.specs.declared.image.Entry.{Entry}
+use Rattle.dt_base.specs.declared.event.End.{End}
 use Rattle.dt_base.specs.declared.event.End.TheVariants.{Code, Signal}
-use Rattle.dt_base.specs.declared.errno.Errno.{Errno}
 use Rattle.dt_base.specs.declared.refusal.Refusal.{Refusal}
 use Rattle.dt_base.specs.declared.refusal.ImageErr.{ImageErr}
 use Rattle.dt_base.specs.declared.refusal.ImageErr.TheVariants.{Refused as ImageRefused, Store as StoreFailed, NoMemory as NoImageMemory}
-use Rattle.dt_base.specs.Command.{Words}
 use Rattle.dt_base.specs.Image.{IsImage}
 use Rattle.dt_host.specs.Store.{Files}
-use Rattle.dt_rv64.specs.declared.machine.Machine.{Machine}
-use Rattle.dt_tree.specs.FileTree.{FileTree}
-use Rattle.dt_tree.specs.ImageTree.{image_tree}
+use Rattle.dt_host.specs.World.{World}
 use Rattle.dt_options.specs.Options.{Request, request_of}
 use Rattle.dt_options.specs.declared.options.UsageErr.{UsageErr}
 use Rattle.dt_options.specs.declared.options.UsageErr.TheVariants.{Refused as WordsRefused, NoMemory as NoWordsMemory}
@@ -21,16 +18,10 @@ use Rattle.dt_run.specs.declared.error.RunErr.{RunErr}
 use Rattle.dt_run.specs.declared.error.RunErr.TheVariants.{Host as HostFailed, Sink as SinkFailed, NoMemory as NoRunMemory}
 use Rattle.dt_run.specs.declared.failure.Failure.{Failure}
 use Rattle.dt_run.specs.declared.failure.Failure.TheVariants.{Usage, Image}
-use Rattle.dt_run.specs.declared.process.Phase.{Phase}
-use Rattle.dt_run.specs.declared.process.Phase.TheVariants.{Owes, Ran, Zombie}
-use Rattle.dt_run.specs.Process.{status_of}
-use Rattle.dt_run.specs.TurnsRun.{run_turns}
-use Rattle.dt_run.specs.Launch.{launch}
-use Rattle.dt_run.specs.Turn.{first_state}
-use Rattle.dt_run.specs.Run.{Run, run_from, run_of}
+use Rattle.dt_run.specs.Run.{Run, status_by}
 use Rattle.dt_run.specs.Wanted.{run_on, run_or_refusal, wanted, wanted_by}
 use Rattle.dt_run.specs.SomeRun.{SomeRun, AddsReportPart}
-use Rattle.dt_run.specs.Statuses.{is_run_status}
+use Rattle.dt_run.specs.Statuses.{is_run_status, Completes}
 use Rattle.dt_run.specs.inner.Fails.{Fails}
 use Rattle.dt_run.specs.inner.Failures.{of_usage, of_image, of_run}
 
@@ -38,20 +29,14 @@ code_status : (b : Bool) → IsTrue (is_run_status (cond b 0 1))
 code_status true = refl
 code_status false = refl
 
-status_of-run : (phase : Phase) → IsTrue (is_run_status (status_of phase))
-status_of-run Owes = refl
-status_of-run (Ran seg) = refl
-status_of-run (Zombie (Code code)) = code_status (eqb code 0)
-status_of-run (Zombie (Signal signal)) = refl
-
-run_from-status : (t : FileTree) (budget : ℕ) (started : Result Machine Errno) → IsTrue (is_run_status (run_from t budget started).status)
-run_from-status t budget (Ok m) = let r = run_turns (first_state t m budget) in status_of-run r.last.process.phase
-run_from-status t budget (Err errno) = refl
+status_by-end : (end : Option End) → IsTrue (is_run_status (status_by end))
+status_by-end None = refl
+status_by-end (Some (Code code)) = code_status (eqb code 0)
+status_by-end (Some (Signal signal)) = refl
 
 -- the status of a run is 0, 1 or 10
-pub run_of-status : (entries : List Entry) (words : Words) (seed budget status : ℕ) → status ≡ (run_of entries words seed budget).status → IsTrue (is_run_status status)
-unfolding run_of
-run_of-status entries words seed budget status is = subst (λ s. IsTrue (is_run_status s)) (sym is) (run_from-status (image_tree entries) budget (launch (image_tree entries) words))
+pub completes-status : (run : Run) (status : ℕ) (old new : Option (List ℕ)) (w : World) → Completes run status old new w → IsTrue (is_run_status status)
+completes-status run status old new w c = subst (λ s. IsTrue (is_run_status s)) (sym c.status) (status_by-end run.last.process.end)
 
 -- what a request wants, for words that make it
 wanted-request : (told : Option Files) (words : List (List ℕ)) (request : Option Request) → request_of words ≡ request → wanted told words ≡ wanted_by request told

@@ -1,15 +1,7 @@
 pub mod Failure
 pub mod HoldsTree
-pub mod Descriptors
-pub mod Container
-pub mod Lookup
-pub mod Launch
-pub mod Served
-pub mod FileCalls
-pub mod Process
-pub mod Call
+pub mod Work
 pub mod Turn
-pub mod TurnsRun
 pub mod Run
 pub mod Wanted
 pub mod SomeRun

@@ -1,43 +1,72 @@
 -- A whole run: a function of the image, the command, the seed and the budget.
-use Rattle.std.specs.Prelude.{ℕ, List, [], Result, Ok, Err}
+use Rattle.std.specs.Prelude.{ℕ, zero, suc, ◌+◌, ◌==◌, List, [], ◌++◌, Option, Some, None, if◌then◌else◌}
 use Rattle.dt_base.specs.declared.image.Entry.{Entry}
+use Rattle.dt_base.specs.declared.event.End.{End}
+use Rattle.dt_base.specs.declared.event.End.TheVariants.{Code, Signal}
 use Rattle.dt_base.specs.declared.event.Event.{Event}
 use Rattle.dt_base.specs.declared.event.Verdict.{Verdict}
-use Rattle.dt_base.specs.declared.event.Verdict.TheVariants.{NoStart}
-use Rattle.dt_base.specs.declared.errno.Errno.{Errno}
+use Rattle.dt_base.specs.declared.event.Verdict.TheVariants as verdict
 use Rattle.dt_base.specs.Command.{Words}
-use Rattle.dt_rv64.specs.declared.machine.Machine.{Machine}
-use Rattle.dt_run.specs.declared.status.TheConstants.{NOT_ENDED}
-use Rattle.dt_run.specs.Process.{status_of}
-use Rattle.dt_run.specs.Turn.{first_state}
-use Rattle.dt_run.specs.TurnsRun.{run_turns}
-use Rattle.dt_run.specs.Launch.{launch}
-use Rattle.dt_tree.specs.FileTree.{FileTree}
 use Rattle.dt_tree.specs.ImageTree.{image_tree}
+use Rattle.dt_calls.specs.declared.container.Launch.{Launch}
+use Rattle.dt_calls.specs.declared.container.Launch.TheVariants.{Started, NoStart}
+use Rattle.dt_calls.specs.Container.{Shared, Container, first_container}
+use Rattle.dt_calls.specs.Launch.{launch}
 use Rattle.dt_image.specs.Report.{report}
+use Rattle.dt_run.specs.declared.status.TheConstants.{ENDED_ZERO, ENDED_OTHERWISE, NOT_ENDED}
+use Rattle.dt_run.specs.Turn.{State, Turn, first_state, turn}
 
--- what a run gives: its events, its verdict, its status and its last tree
+-- what a run gives: its events, its verdict, and what its processes shared at last
 pub record Run : Type 0 where
   pub events : List Event
   pub verdict : Verdict
-  pub status : ℕ
-  pub tree : FileTree
+  pub last : Shared
 
--- where the program is started it runs until a verdict, and else the run is over at once
-abbrev pub run_from : FileTree → ℕ → Result Machine Errno → Run
-run_from t budget (Ok m) =
-    let r = run_turns (first_state t m budget) in
-    record { events = r.events; verdict = r.verdict; status = status_of r.last.process.phase; tree = r.last.container.tree }
-run_from t budget (Err errno) = record { events = []; verdict = NoStart errno; status = NOT_ENDED; tree = t }
+-- the same with earlier events before it
+abbrev pub after : List Event → Run → Run
+after events r = record { events = events ++ r.events; verdict = r.verdict; last = r.last }
 
--- the run of a command on a tree
-abbrev pub run_on_tree : FileTree → Words → ℕ → Run
-run_on_tree t words budget = run_from t budget (launch t words)
+-- after a turn the run is over, or it goes on from the next state
+abbrev pub go_on : Turn → Option Verdict → (State → Run) → Run
+go_on t (Some verdict) rest = record { events = t.events; verdict = verdict; last = t.next.shared }
+go_on t None rest = after t.events (rest t.next)
 
--- the run of a command on an image: nothing in it is random yet, so that the seed has no effect
+-- at most so many turns; after them the budget is spent
+unfoldable pub run_at_most : ℕ → State → Run
+run_at_most zero s = record { events = []; verdict = verdict.Budget; last = s.shared }
+run_at_most (suc most) s = let t = turn s in go_on t t.verdict (run_at_most most)
+
+-- turns until a verdict: each costs at least 1, and one more than the budget finds it spent
+unfoldable pub run_turns : State → Run
+run_turns s = run_at_most (s.left + 1) s
+
+-- a program that was started runs until a verdict, and else the run is over at once
+abbrev pub run_from : ℕ → Container → Launch → Run
+run_from budget c Started = run_turns (first_state c budget)
+run_from budget c (NoStart errno) = record { events = []; verdict = verdict.NoStart errno; last = c.shared }
+
+-- the run of a command in a container
+abbrev pub run_in : ℕ → Container → Words → Run
+run_in budget c words = let l = launch c words in run_from budget l.container l.launch
+
+-- the run of a command on an image
 unfoldable pub run_of : List Entry → Words → ℕ → ℕ → Run
-run_of entries words seed budget = run_on_tree (image_tree entries) words budget
+run_of entries words seed budget = run_in budget (first_container (image_tree entries) seed) words
+
+-- the status of a run whose first process ended so
+abbrev pub ended_status : End → ℕ
+ended_status (Code code) = if code == 0 then ENDED_ZERO else ENDED_OTHERWISE
+ended_status (Signal signal) = ENDED_OTHERWISE
+
+-- the status of a run by its first process's end
+abbrev pub status_by : Option End → ℕ
+status_by None = NOT_ENDED
+status_by (Some end) = ended_status end
+
+-- the status of a run
+abbrev pub status_of : Run → ℕ
+status_of run = status_by run.last.process.end
 
 -- the report of a run
 abbrev pub report_of : Run → List ℕ
-report_of run = report run.events run.verdict run.tree
+report_of run = report run.events run.verdict run.last.tree

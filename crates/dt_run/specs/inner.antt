@@ -1,7 +1,5 @@
 -- Inner words: no public clause cites these.
-pub mod Asks
 pub mod Errors
 pub mod Failures
 pub mod Fails
 pub mod InCode
-pub mod Sound

@@ -4,16 +4,9 @@
 //! function of the image, the command, the seed and the budget, whatever the host chooses.
 #![tactic(auto)]
 
-mod call;
-mod container;
-mod descriptors;
 mod error;
 mod failure;
-mod launch;
-mod lookup;
-pub mod numbers;
-mod process;
-mod reading;
+mod phase;
 mod run;
 pub mod status;
 mod top;

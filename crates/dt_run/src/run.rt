@@ -1,32 +1,32 @@
 // A whole run of a command on an image.
-ghost use Rattle.std.specs.Prelude.{◌≡◌, ◌≤◌, ◌<◌, length, IfOk, IsErrOf};
+ghost use Rattle.std.specs.Prelude.{◌≡◌, ◌≤◌, IfOk, IsErrOf};
+ghost use Rattle.dt_host.specs.Asks.{Asks};
 ghost use Rattle.dt_host.specs.Cause.{HasCause};
 ghost use Rattle.dt_host.specs.Sink.{AddsPart};
 ghost use Rattle.dt_host.specs.World.{IsEmptyStart};
 ghost use Rattle.dt_tree.specs.Table.{Stands, tree_of};
+ghost use Rattle.dt_calls.specs.declared.numbers.TheConstants.{FIRST_PID};
+ghost use Rattle.dt_calls.specs.InCode.{IsHome, container_of};
+ghost use Rattle.dt_calls.specs.Sound.{IsSound};
 ghost use Rattle.dt_image.specs.Report.{report};
-ghost use Rattle.dt_run.specs.Launch.{argv0};
-ghost use Rattle.dt_run.specs.Run.{run_from, run_on_tree, run_of, report_of};
+ghost use Rattle.dt_run.specs.Run.{run_turns, run_from, run_of, status_by, report_of};
 ghost use Rattle.dt_run.specs.Statuses.{Completes};
-ghost use Rattle.dt_run.specs.inner.Asks.{Asks};
-ghost use Rattle.dt_run.specs.inner.InCode.{run_as};
+ghost use Rattle.dt_run.specs.inner.InCode.{state_of, run_as};
 
 use crate::error::RunErr;
-use crate::launch::launch;
-use crate::status::NOT_ENDED;
-use crate::turn::{State, run_turns};
-use dt_base::{Blob, Command, Errno, Event, Image, Verdict};
+use crate::status::{ENDED_OTHERWISE, ENDED_ZERO, NOT_ENDED};
+use crate::turn::State;
+use dt_base::{Command, End, Event, Image, Verdict};
+use dt_calls::numbers::FIRST_PID;
+use dt_calls::{Container, Launch};
 use dt_host::{Gate, Host, HostErr, Sink, sink_all};
 use dt_image::{events_text, header, tree_lines, verdict_text};
-use dt_rv64::Machine;
-use dt_tree::Tree;
 use std::alloc::Global;
 
 /// Runs a command on an image at a host that holds nothing, and writes the run's report to `out`. The answer is the
 /// status.
 ///
-/// `budget` is counted in steps. The command's further words are not put on its stack, nothing in it is random and one
-/// process takes no second worker, so those words, `seed`, `workers` and `gate` have no effect.
+/// `budget` is counted in steps. One process takes no second worker, so that `workers` and `gate` have no effect.
 pub fn run_container<H: Host + Send, O: Sink + Send, G: Gate + Sync>(
     alloc: Global,
     image: &Image,
@@ -48,93 +48,96 @@ pub fn run_container<H: Host + Send, O: Sink + Send, G: Gate + Sync>(
     ensures host { HasCause (H.count host.old) (H.count host.new) (IsErrOf result RunErr.Host) }
     ensures sink { HasCause (O.count out.old) (O.count out.new) (IsErrOf result RunErr.Sink) }
 {
-    let mut tree = Tree::new(alloc, host)?;
-    tree.install(host, image)?;
-    let run = run_program(alloc, host, tree, command, budget)?;
+    let mut container = Container::install(alloc, host, image, seed)?;
+    let launch = container.launch(alloc, host, command)?;
+    let run = run_from(alloc, host, container, budget, launch)?;
     let text = report_text(alloc, host, &run)?;
     sink_all(out, &text)?;
-    Ok(run.status)
+    Ok(status_by(run.last.end(FIRST_PID)))
 }
 
-/// A run that is over: what it showed, the verdict, the status, and its last tree.
+/// A run that is over: what it showed, the verdict, and the container at last.
 #[derive(Drop)]
 pub struct Run {
     pub events: Vec<Event>,
     pub verdict: Verdict,
-    pub status: u8,
-    pub tree: Tree,
-}
-
-// The run of a command on a tree.
-fn run_program<H: Host>(
-    alloc: Global,
-    host: &mut H,
-    tree: Tree,
-    command: &Command,
-    budget: u64,
-) -> Result<Run, HostErr>
-    requires { Stands tree (H.view host.old).forest }
-    ensures ok { IfOk result (λ run. run_on_tree (tree_of tree (H.view host.old).forest) command.now budget
-        ≡ run_as run (H.view host.new)) }
-    ensures stands { IfOk result (λ run. Stands run.tree (H.view host.new).forest) }
-    ensures cause { HasCause (H.count host.old) (H.count host.new) (IsErrOf result HostErr.Failed) }
-{
-    let started = launch(alloc, host, &tree, argv0(command.args()).as_slice())?;
-    finish(alloc, host, tree, started, budget)
-}
-
-// argv[0], which is the program's path.
-fn argv0(args: &[Blob]) -> &Blob
-    requires { 0 < length args.now }
-    ensures { result.now ≡ argv0 args.now }
-{
-    &args[0]
+    pub last: Container,
 }
 
 // The turns of a program that was started, or the end of a run whose program was not.
-fn finish<H: Host>(
+fn run_from<H: Host>(
     alloc: Global,
     host: &mut H,
-    tree: Tree,
-    started: Result<Machine, Errno>,
+    container: Container,
     budget: u64,
+    launch: Launch,
 ) -> Result<Run, HostErr>
-    requires { Stands tree (H.view host.old).forest }
-    ensures ok { IfOk result (λ run. run_from (tree_of tree (H.view host.old).forest) budget started
+    requires sound { IsSound container.shared (H.view host.old) }
+    requires home { launch ≡ Launch.Started → IsHome container FIRST_PID }
+    ensures ok { IfOk result (λ run. run_from budget (container_of container (H.view host.old)) launch
         ≡ run_as run (H.view host.new)) }
-    ensures stands { IfOk result (λ run. Stands run.tree (H.view host.new).forest) }
+    ensures sound { IfOk result (λ run. IsSound run.last.shared (H.view host.new)) }
     ensures cause { HasCause (H.count host.old) (H.count host.new) (IsErrOf result HostErr.Failed) }
 {
     let _before = host.faults();
-    match started {
-        Ok(machine) => {
-            let turns = run_turns(alloc, host, State::new(alloc, tree, machine, budget)?)?;
-            Ok(Run {
-                status: turns.last.process.phase.status(),
-                events: turns.events,
-                verdict: turns.verdict,
-                tree: turns.last.container.tree,
-            })
-        }
-        Err(errno) => Ok(Run {
+    match launch {
+        Launch::Started => run_turns(alloc, host, State::new(container, budget)),
+        Launch::NoStart(errno) => Ok(Run {
             events: Vec::new(alloc),
             verdict: Verdict::NoStart(errno),
-            status: NOT_ENDED,
-            tree,
+            last: container,
         }),
+    }
+}
+
+// Takes turns until a verdict.
+fn run_turns<H: Host>(alloc: Global, host: &mut H, mut state: State) -> Result<Run, HostErr>
+    requires sound { IsSound state.container.shared (H.view host.old) }
+    requires home { IsHome state.container FIRST_PID }
+    ensures ok { IfOk result
+        (λ run. run_turns (state_of state (H.view host.old)) ≡ run_as run (H.view host.new)) }
+    ensures sound { IfOk result (λ run. IsSound run.last.shared (H.view host.new)) }
+    ensures cause { HasCause (H.count host.old) (H.count host.new) (IsErrOf result HostErr.Failed) }
+{
+    let _before = host.faults();
+    let mut events = Vec::new(alloc);
+    loop {
+        let mut turn = state.turn(alloc, host)?;
+        events.append(&mut turn.events)?;
+        match turn.verdict {
+            None => {}
+            Some(verdict) => {
+                return Ok(Run {
+                    events,
+                    verdict,
+                    last: state.container,
+                });
+            }
+        }
+    }
+}
+
+// The status of a run by its first process's end.
+fn status_by(end: Option<End>) -> u8
+    ensures { result ≡ status_by end }
+{
+    match end {
+        Some(End::Code(0)) => ENDED_ZERO,
+        Some(_) => ENDED_OTHERWISE,
+        None => NOT_ENDED,
     }
 }
 
 // The report of a run that is over.
 fn report_text<H: Host>(alloc: Global, host: &mut H, run: &Run) -> Result<Vec<u8>, HostErr>
-    requires { Stands run.now.tree (H.view host.old).forest }
-    ensures ok { IfOk result (λ text. text.items
-        ≡ report run.now.events.items run.now.verdict (tree_of run.now.tree (H.view host.old).forest)) }
+    requires { Stands run.now.last.shared.tree (H.view host.old).forest }
+    ensures ok { IfOk result (λ text. text.items ≡ report run.now.events.items run.now.verdict
+        (tree_of run.now.last.shared.tree (H.view host.old).forest)) }
     ensures asks { Asks H.view H.count host.old host.new result }
 {
     let events = events_text(alloc, &run.events)?;
     let verdict = verdict_text(alloc, &run.verdict)?;
-    let tree = tree_lines(alloc, host, &run.tree)?;
+    let tree = tree_lines(alloc, host, run.last.tree())?;
     let mut text = Vec::from_slice(alloc, header())?;
     text.extend_from_slice(events.as_slice())?;
     text.extend_from_slice(verdict.as_slice())?;

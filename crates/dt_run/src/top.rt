@@ -1,5 +1,6 @@
 // The call that the program makes.
 ghost use Rattle.std.specs.Prelude.{◌≡◌, ◌≢◌, ◌≤◌, ◌⊎◌, Some, Err, map, string_bytes, IsTrue, IsOk, IfSome, IfOk, IfErr, IsErrOf};
+ghost use Rattle.dt_host.specs.Asks.{Asks};
 ghost use Rattle.dt_host.specs.Cause.{HasCause};
 ghost use Rattle.dt_host.specs.Sink.{AddsPart};
 ghost use Rattle.dt_host.specs.World.{IsEmptyStart};
@@ -9,7 +10,6 @@ ghost use Rattle.dt_run.specs.Failure.{failure_status, failure_line};
 ghost use Rattle.dt_run.specs.Wanted.{wanted};
 ghost use Rattle.dt_run.specs.SomeRun.{SomeRun, AddsReportPart};
 ghost use Rattle.dt_run.specs.Statuses.{is_status, is_run_status, precedes_run, fails_run, Stayed, Completes, RefusesImage, status_line, AddsLine, AddsSomeLine, AddsRefusal};
-ghost use Rattle.dt_run.specs.inner.Asks.{Asks};
 ghost use Rattle.dt_run.specs.inner.Fails.{Fails};
 
 use crate::error::RunErr;

@@ -1,27 +1,26 @@
-// One turn of a run, and turns until a verdict.
-ghost use Rattle.std.specs.Prelude.{◌≡◌, [], Some, IfOk, IsErrOf};
+// One turn of a run.
+ghost use Rattle.std.specs.Prelude.{◌≡◌, [], Some, None, IfOk, OnOk, IsErrOf};
 ghost use Rattle.dt_host.specs.Cause.{HasCause};
-ghost use Rattle.dt_run.specs.Call.{served};
-ghost use Rattle.dt_run.specs.Turn.{turn, billed, settled};
-ghost use Rattle.dt_run.specs.TurnsRun.{run_turns, HasCost};
-ghost use Rattle.dt_run.specs.inner.InCode.{container_of, state_of, start_in_code, turn_as, turns_as};
-ghost use Rattle.dt_run.specs.inner.Sound.{IsSound};
+ghost use Rattle.dt_host.specs.World.{World};
+ghost use Rattle.dt_calls.specs.declared.numbers.TheConstants.{FIRST_PID};
+ghost use Rattle.dt_calls.specs.InCode.{IsHome};
+ghost use Rattle.dt_calls.specs.Sound.{IsSound};
+ghost use Rattle.dt_run.specs.Turn.{turn, acted, ran, phase_after, verdict_after};
+ghost use Rattle.dt_run.specs.inner.InCode.{state_of, turn_as, served_in};
 
-use crate::call::{Outcome, serve};
-use crate::container::Container;
-use crate::numbers::FIRST_PID;
-use crate::process::{Phase, Process};
+use crate::phase::Phase;
 use dt_base::{Event, NoMemory, Verdict};
+use dt_calls::numbers::FIRST_PID;
+use dt_calls::{Container, Served};
 use dt_host::{Host, HostErr};
-use dt_rv64::{Machine, Stop};
-use dt_tree::Tree;
+use dt_rv64::{Stop, segment};
 use std::alloc::Global;
 
-/// A run between two turns: the container, its process, and the budget that is left, in steps.
+/// A run between two turns: the container, where its process stands, and the budget that is left, in steps.
 #[derive(Drop)]
 pub struct State {
     pub container: Container,
-    pub process: Process,
+    pub phase: Phase,
     pub left: u64,
 }
 
@@ -33,91 +32,111 @@ pub struct Turn {
 }
 
 impl State {
-    /// A run that begins on a tree.
-    pub fn new(alloc: Global, tree: Tree, machine: Machine, budget: u64) -> Result<Self, NoMemory>
-        ensures { IfOk result (λ s. s ≡ start_in_code tree machine budget) }
+    /// A run that begins.
+    pub fn new(container: Container, budget: u64) -> Self
+        ensures { result ≡ record { container = container; phase = Phase.Owes; left = budget } }
     {
-        Ok(State {
-            container: Container::new(alloc, tree)?,
-            process: Process {
-                machine,
-                phase: Phase::Owes,
-            },
+        State {
+            container,
+            phase: Phase::Owes,
             left: budget,
-        })
+        }
     }
 
     /// Takes one turn.
     #[tactic(auto, unfolding(crate::specs::Turn::turn))]
     pub fn turn<H: Host>(&mut self, alloc: Global, host: &mut H) -> Result<Turn, HostErr>
-        requires { IsSound self.old.container (H.view host.old) }
+        requires sound { IsSound self.old.container.shared (H.view host.old) }
+        requires home { IsHome self.old.container FIRST_PID }
         ensures ok { IfOk result (λ t. turn (state_of self.old (H.view host.old))
             ≡ turn_as (state_of self.new (H.view host.new)) t) }
-        ensures sound { IfOk result (λ _. IsSound self.new.container (H.view host.new)) }
+        ensures sound { IfOk result (λ _. IsSound self.new.container.shared (H.view host.new)) }
+        ensures home { IfOk result (λ t. t.verdict ≡ None → IsHome self.new.container FIRST_PID) }
         ensures cause { HasCause (H.count host.old) (H.count host.new) (IsErrOf result HostErr.Failed) }
     {
-        self.process.run_segment()?;
-        self.bill(alloc, host)
+        self.run_segment()?;
+        self.act(alloc, host)
     }
 
-    fn bill<H: Host>(&mut self, alloc: Global, host: &mut H) -> Result<Turn, HostErr>
-        requires { IsSound self.old.container (H.view host.old) }
-        ensures ok { IfOk result (λ t. billed (state_of self.old (H.view host.old))
+    // Runs the segment that the process owes, if it owes one.
+    #[tactic(auto, unfolding(crate::specs::Turn::ran, crate::specs::Work::with_segment))]
+    fn run_segment(&mut self) -> Result<(), NoMemory>
+        requires { IsHome self.old.container FIRST_PID }
+        ensures ran { (w : World) → OnOk result (state_of self.new w ≡ ran (state_of self.old w)) }
+        ensures shared { OnOk result (self.new.container.shared ≡ self.old.container.shared) }
+        ensures home { OnOk result (IsHome self.new.container FIRST_PID) }
+    {
+        match self.phase {
+            Phase::Owes => {
+                let mut machine = self.container.take_machine(FIRST_PID);
+                self.phase = Phase::Ran(segment(&mut machine)?);
+                self.container.give_machine(FIRST_PID, machine);
+            }
+            Phase::Ran(_) => {}
+        }
+        Ok(())
+    }
+
+    // Pays for the segment that was run, and serves its stop.
+    #[tactic(auto, unfolding(crate::specs::Turn::act))]
+    fn act<H: Host>(&mut self, alloc: Global, host: &mut H) -> Result<Turn, HostErr>
+        requires sound { IsSound self.old.container.shared (H.view host.old) }
+        requires home { IsHome self.old.container FIRST_PID }
+        ensures ok { IfOk result (λ t. (let s = state_of self.old (H.view host.old) in acted s s.own)
             ≡ turn_as (state_of self.new (H.view host.new)) t) }
-        ensures sound { IfOk result (λ _. IsSound self.new.container (H.view host.new)) }
+        ensures sound { IfOk result (λ _. IsSound self.new.container.shared (H.view host.new)) }
+        ensures home { IfOk result (λ t. t.verdict ≡ None → IsHome self.new.container FIRST_PID) }
         ensures cause { HasCause (H.count host.old) (H.count host.new) (IsErrOf result HostErr.Failed) }
     {
         let _before = host.faults();
-        let cost = self.process.phase.cost();
+        let cost = self.phase.cost();
         if self.left < cost {
             return Ok(over(alloc, Verdict::Budget));
         }
         self.left -= cost;
-        match self.process.phase {
-            Phase::Ran(seg) => self.settle(alloc, host, seg.stop),
-            Phase::Owes | Phase::Zombie(_) => Ok(over(alloc, Verdict::Ended)),
+        match self.phase {
+            Phase::Ran(seg) => self.serve(alloc, host, seg.stop),
+            Phase::Owes => Ok(over(alloc, Verdict::Deadlock)),
         }
     }
 
     // Serves the stop of the segment that was paid for.
-    fn settle<H: Host>(&mut self, alloc: Global, host: &mut H, stop: Stop) -> Result<Turn, HostErr>
-        requires { IsSound self.old.container (H.view host.old) }
-        ensures ok { IfOk result (λ t. (let s = served
-            (container_of self.old.container (H.view host.old)) self.old.process.machine stop
-            in settled (state_of self.old (H.view host.old)) s s.outcome)
-            ≡ turn_as (state_of self.new (H.view host.new)) t) }
-        ensures sound { IfOk result (λ _. IsSound self.new.container (H.view host.new)) }
+    fn serve<H: Host>(&mut self, alloc: Global, host: &mut H, stop: Stop) -> Result<Turn, HostErr>
+        requires sound { IsSound self.old.container.shared (H.view host.old) }
+        requires home { IsHome self.old.container FIRST_PID }
+        ensures ok { IfOk result (λ t. served_in (state_of self.old (H.view host.old)) stop
+            ≡ Some (turn_as (state_of self.new (H.view host.new)) t)) }
+        ensures sound { IfOk result (λ _. IsSound self.new.container.shared (H.view host.new)) }
+        ensures home { IfOk result (λ t. t.verdict ≡ None → IsHome self.new.container FIRST_PID) }
         ensures cause { HasCause (H.count host.old) (H.count host.new) (IsErrOf result HostErr.Failed) }
     {
-        let served = serve(
-            alloc,
-            host,
-            &mut self.container,
-            &mut self.process.machine,
-            stop,
-        )?;
-        let mut events = served.events;
-        match served.outcome {
-            Outcome::Done => {
-                self.process.phase = Phase::Owes;
-                Ok(Turn {
-                    events,
-                    verdict: None,
-                })
-            }
-            Outcome::Ends(end) => {
-                self.process.phase = Phase::Zombie(end);
-                self.container.files.close_all();
-                events.push(Event::Exit(FIRST_PID, end))?;
-                Ok(Turn {
-                    events,
-                    verdict: Some(Verdict::Ended),
-                })
-            }
-            Outcome::Unsupported(number) => {
-                Ok(over(alloc, Verdict::Unsupported(FIRST_PID, number)))
-            }
-        }
+        let served = self.container.serve(alloc, host, FIRST_PID, stop)?;
+        self.phase = phase_after(self.phase, served);
+        Ok(Turn {
+            events: self.container.take_events(),
+            verdict: verdict_after(served),
+        })
+    }
+}
+
+// Where a process stands after its stop was served.
+fn phase_after(phase: Phase, served: Served) -> Phase
+    ensures { result ≡ phase_after phase served }
+{
+    match served {
+        Served::Done => Phase::Owes,
+        Served::Ended | Served::Unsupported(_) => phase,
+    }
+}
+
+// Whether the run is over then.
+fn verdict_after(served: Served) -> Option<Verdict>
+    ensures { result ≡ verdict_after served }
+{
+    match served {
+        Served::Done => None,
+        Served::Ended => Some(Verdict::Ended),
+        Served::Unsupported(number) => Some(Verdict::Unsupported(FIRST_PID, number)),
     }
 }
 
@@ -128,44 +147,5 @@ fn over(alloc: Global, verdict: Verdict) -> Turn
     Turn {
         events: Vec::new(alloc),
         verdict: Some(verdict),
-    }
-}
-
-/// Turns until a verdict: what they showed, the verdict, and the last state.
-#[derive(Drop)]
-pub struct TurnsRun {
-    pub events: Vec<Event>,
-    pub verdict: Verdict,
-    pub last: State,
-}
-
-/// Takes turns until a verdict.
-pub fn run_turns<H: Host>(
-    alloc: Global,
-    host: &mut H,
-    mut state: State,
-) -> Result<TurnsRun, HostErr>
-    requires sound { IsSound state.container (H.view host.old) }
-    requires cost { HasCost state.process.phase }
-    ensures ok { IfOk result
-        (λ r. run_turns (state_of state (H.view host.old)) ≡ turns_as r (H.view host.new)) }
-    ensures sound { IfOk result (λ r. IsSound r.last.container (H.view host.new)) }
-    ensures cause { HasCause (H.count host.old) (H.count host.new) (IsErrOf result HostErr.Failed) }
-{
-    let _before = host.faults();
-    let mut events = Vec::new(alloc);
-    loop {
-        let mut turn = state.turn(alloc, host)?;
-        events.append(&mut turn.events)?;
-        match turn.verdict {
-            None => {}
-            Some(verdict) => {
-                return Ok(TurnsRun {
-                    events,
-                    verdict,
-                    last: state,
-                });
-            }
-        }
     }
 }

@@ -9,3 +9,4 @@ pub mod Following
 pub mod Texts
 pub mod Mapped
 pub mod Found
+pub mod Runs

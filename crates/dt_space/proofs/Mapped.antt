@@ -1,10 +1,10 @@
 -- Lists of pages that are parts of others, joined, filtered, or given other rights.
-use Rattle.std.proofs.Common.{◌≡◌, ◌≢◌, ℕ, zero, suc, ◌<◌, ◌≤◌, ◌+◌, ◌^◌, inl, inr, List, [], ◌∷◌, ◌++◌, length, get_or, take, drop, map, Bool, true, false, eqb, eq-eqb, ltb, leb, set, ◌||◌, Option, Some, None, is_some, refl, sym, ap, ◌∙◌, arith}
+use Rattle.std.proofs.Common.{◌≡◌, ◌≢◌, ℕ, zero, suc, ◌<◌, ◌≤◌, ◌+◌, ◌^◌, inl, inr, List, [], ◌∷◌, ◌++◌, length, get_or, take, drop, map, Bool, true, false, eqb, eq-eqb, ltb, leb, set, ◌||◌, Some, is_some, refl, sym, ap, ◌∙◌, arith}
 use Rattle.std.specs.List.{filter, list_any}
 use Rattle.std.specs.List.Sorted.{IsNonDecreasingBy, IsPartitionPoint}
 use Rattle.std.proofs.lemmas.Bool.{cases_lt}
 use Rattle.std.proofs.lemmas.Bool.Decides.{nat_tests}
-use Rattle.std.proofs.lemmas.List.{length-append, length-take-le, length-drop, length-map, get_or-take, get_or-drop, get_or_default, get_or_at, set_at, take_more, drop_more, take_all, drop_all, append-nil, map-append, append_assoc}
+use Rattle.std.proofs.lemmas.List.{length-append, length-take-le, length-drop, length-map, get_or-take, get_or-drop, get_or_default, get_or_at, set_at, take_more, drop_more, map-append, append_assoc}
 use Rattle.std.proofs.lemmas.List.Elements.{All-nil}
 use Rattle.std.proofs.lemmas.List.Folds.{list_any_at, list_any_none}
 use Rattle.std.proofs.lemmas.List.Sorted.{IsNonDecreasingBy-from_default}
@@ -12,8 +12,8 @@ use Rattle.dt_base.specs.declared.limits.TheConstants.{PAGE_LIMIT}
 use Rattle.dt_space.specs.declared.refusal.MapErr.TheVariants.{Busy, Full}
 use Rattle.dt_space.specs.Space.{PageView, granted, IsSpace, page_at}
 use Rattle.dt_space.specs.Pages.{pages_from, EndsBelow}
-use Rattle.dt_space.specs.Ranges.{is_in, map_refusal, mapped, first_missing}
-use Rattle.dt_space.specs.inner.Index.{number_at, IsIndexOf}
+use Rattle.dt_space.specs.Ranges.{is_in, map_refusal, mapped}
+use Rattle.dt_space.specs.inner.Index.{number_at}
 use Rattle.dt_space.specs.inner.Gap.{IsLower, IsGap}
 use Rattle.dt_space.proofs.Rights.{granted-granted}
 use Rattle.dt_space.proofs.Spaces.{BeginsAt, IsSpace-take, IsSpace-drop, IsSpace-append}
@@ -37,48 +37,51 @@ lower-parted pages number index within parted =
     let above : (i : ℕ) → index ≤ i → i < length pages → number ≤ number_at pages i = λ i le lt. let test = parted.1 i none le lt in grind (arith, nat_tests) in
     record { within = within; below = below; above = above }
 
+-- where every page is below a range or above it, none is in it
+pub free : (pages : List PageView) (first count index : ℕ) → IsLower pages first index → (index < length pages → first + count ≤ number_at pages index) → IsSpace pages → (i : ℕ) → index ≤ i → i < length pages → first + count ≤ number_at pages i
+free pages first count index lower clear space i le lt = elim (cases_lt index i) [
+  | inl after ↦ omega (arith, clear (omega arith), space.rising index i none after lt)
+  | inr here ↦ let same : i ≡ index = omega arith in rw same (clear (omega arith))
+]
+
+pub not_busy : (pages : List PageView) (first count index : ℕ) → IsLower pages first index → ((i : ℕ) → index ≤ i → i < length pages → first + count ≤ number_at pages i) → list_any (λ (page : PageView). is_in first count page.number) pages ≡ false
+not_busy pages first count index lower above = list_any_none (λ (page : PageView). is_in first count page.number) pages (λ i d lt. ap (λ (page : PageView). is_in first count page.number) (get_or_default pages i d none lt) ∙ out i lt)
+  where
+    out : (i : ℕ) → i < length pages → is_in first count (number_at pages i) ≡ false
+    out i lt = elim (cases_lt i index) [
+      | inl under ↦ let below = lower.below i under in grind (arith, nat_tests)
+      | inr over ↦ let past = above i over lt in grind (arith, nat_tests)
+    ]
+
+-- where one is in it, it is busy
+pub busy-at : (pages : List PageView) (first count index : ℕ) → index < length pages → first ≤ number_at pages index → number_at pages index < first + count → list_any (λ (page : PageView). is_in first count page.number) pages ≡ true
+busy-at pages first count index lt from to =
+    let here : is_in first count (number_at pages index) ≡ true = grind (arith, nat_tests) in
+    list_any_at (λ (page : PageView). is_in first count page.number) pages index none lt here
+
 -- the refusals of a mapping
 module _ (pages : List PageView) (first count : ℕ) (some : count ≢ 0) (low : first + count ≤ 2 ^ 26) where
   in_range : (eqb count 0 || ltb (2 ^ 26) (first + count)) ≡ false
   in_range = grind (arith, nat_tests)
 
   pub refusal-busy : (index : ℕ) → index < length pages → first ≤ number_at pages index → number_at pages index < first + count → map_refusal pages first count ≡ Some Busy
-  refusal-busy index lt from to =
-      let here : is_in first count (number_at pages index) ≡ true = grind (arith, nat_tests) in
-      let busy : list_any (λ (page : PageView). is_in first count page.number) pages ≡ true = list_any_at (λ (page : PageView). is_in first count page.number) pages index none lt here in
-      rw (in_range, busy) refl
-
-  -- where every page is below the range or above it, none is in it
-  free : (index : ℕ) → IsLower pages first index → (index < length pages → first + count ≤ number_at pages index) → IsSpace pages → (i : ℕ) → index ≤ i → i < length pages → first + count ≤ number_at pages i
-  free index lower clear space i le lt = elim (cases_lt index i) [
-    | inl after ↦ omega (arith, clear (omega arith), space.rising index i none after lt)
-    | inr here ↦ let same : i ≡ index = omega arith in rw same (clear (omega arith))
-  ]
-
-  not_busy : (index : ℕ) → IsLower pages first index → ((i : ℕ) → index ≤ i → i < length pages → first + count ≤ number_at pages i) → list_any (λ (page : PageView). is_in first count page.number) pages ≡ false
-  not_busy index lower above = list_any_none (λ (page : PageView). is_in first count page.number) pages (λ i d lt. ap (λ (page : PageView). is_in first count page.number) (get_or_default pages i d none lt) ∙ out i lt)
-    where
-      out : (i : ℕ) → i < length pages → is_in first count (number_at pages i) ≡ false
-      out i lt = elim (cases_lt i index) [
-        | inl under ↦ let below = lower.below i under in grind (arith, nat_tests)
-        | inr over ↦ let past = above i over lt in grind (arith, nat_tests)
-      ]
+  refusal-busy index lt from to = rw (in_range, busy-at pages first count index lt from to) refl
 
   pub refusal-full : (index : ℕ) → IsLower pages first index → (index < length pages → first + count ≤ number_at pages index) → IsSpace pages → PAGE_LIMIT < length pages + count → map_refusal pages first count ≡ Some Full
   refusal-full index lower clear space full =
       let test : ltb PAGE_LIMIT (length pages + count) ≡ true = grind (arith, nat_tests) in
-      rw (in_range, not_busy index lower (free index lower clear space), test) refl
+      rw (in_range, not_busy pages first count index lower (free pages first count index lower clear space), test) refl
 
   pub refusal-none : (index : ℕ) → IsLower pages first index → (index < length pages → first + count ≤ number_at pages index) → IsSpace pages → length pages + count ≤ PAGE_LIMIT → IsGap pages first count index
   refusal-none index lower clear space few =
       let test : ltb PAGE_LIMIT (length pages + count) ≡ false = grind (arith, nat_tests) in
       record {
-        allowed = rw (in_range, not_busy index lower (free index lower clear space), test) refl;
+        allowed = rw (in_range, not_busy pages first count index lower (free pages first count index lower clear space), test) refl;
         low = low;
         few = few;
         within = lower.within;
         below = lower.below;
-        above = free index lower clear space;
+        above = free pages first count index lower clear space;
       }
 
 some-other : (x : PageView) (pages : List PageView) (number : ℕ) (b : Bool) → eqb x.number number ≡ b → is_some (page_at pages number) ≡ true → is_some (page_at (x ∷ pages) number) ≡ true
@@ -86,29 +89,10 @@ some-other x pages number true is rest = rw is refl
 some-other x pages number false is rest = rw is rest
 
 -- a number that a page has is found
-some-index : (pages : List PageView) (number index : ℕ) → index < length pages → number_at pages index ≡ number → is_some (page_at pages number) ≡ true
+pub some-index : (pages : List PageView) (number index : ℕ) → index < length pages → number_at pages index ≡ number → is_some (page_at pages number) ≡ true
 some-index [] number index lt here = absurd (omega (arith, lt))
 some-index (x ∷ pages) number zero lt here = rw (eq-eqb x.number number here) refl
 some-index (x ∷ pages) number (suc index) lt here = some-other x pages number (eqb x.number number) refl (some-index pages number index (omega (arith, lt)) here)
-
--- a page of a range is there, or it is the first that isn't
-pub missing-more : (pages : List PageView) (first count left : ℕ) (index : Option ℕ) → left ≡ suc count → IsIndexOf pages first index → is_some index ≡ true → first_missing pages first left ≡ first_missing pages (first + 1) count
-unfolding first_missing
-missing-more pages first count left None is found some = absurd cc
-missing-more pages first count left (Some index) is found some = rw (is, some-index pages first index found.within found.here) refl
-
-pub missing-low : (pages : List PageView) (first : ℕ) (index : Option ℕ) → IsIndexOf pages first index → is_some index ≡ true → first < 2 ^ 26
-missing-low pages first None found some = absurd cc
-missing-low pages first (Some index) found some = found.low
-
-pub missing-here : (pages : List PageView) (first count left : ℕ) (index : Option ℕ) → left ≡ suc count → IsIndexOf pages first index → is_some index ≡ false → first_missing pages first left ≡ Some first
-unfolding first_missing
-missing-here pages first count left None is found none = rw (is, found) refl
-missing-here pages first count left (Some index) is found none = absurd cc
-
-pub missing-none : (pages : List PageView) (first left : ℕ) → left ≡ 0 → first_missing pages first left ≡ None
-unfolding first_missing
-missing-none pages first left is = rw is refl
 
 -- one page more of those that are given rights
 pub protected-more : (f : PageView → PageView) (pages now : List PageView) (i : ℕ) (page : PageView) → now ≡ map f (take i pages) ++ drop i pages → i < length pages → page ≡ get_or now i page → set now i (f page) ≡ map f (take (i + 1) pages) ++ drop (i + 1) pages
@@ -120,9 +104,6 @@ protected-more f pages now i page is lt read =
     let mapped : map f (take (i + 1) pages) ≡ map f (take i pages) ++ f page ∷ [] = ap (map f) (take_more pages i page lt) ∙ map-append f (take i pages) (get_or pages i page ∷ []) ∙ rw (← here) refl in
     ap (λ (l : List PageView). set l i (f page)) prefix_is ∙ set_at (map f (take i pages)) (get_or pages i page) (drop (i + 1) pages) (f page) i long ∙ rw (mapped, append_assoc) refl
 
-pub protected-all : (f : PageView → PageView) (pages now : List PageView) (i : ℕ) → now ≡ map f (take i pages) ++ drop i pages → length pages ≤ i → now ≡ map f pages
-protected-all f pages now i is all = is ∙ rw (take_all i pages all, drop_all i pages all) (append-nil (map f pages))
-
 -- the first and the last elements of a list, as what a test keeps of it
 filter-prefix : (test : PageView → Bool) (pages : List PageView) (index : ℕ) → ((i : ℕ) → i < index → i < length pages → test (get_or pages i none) ≡ true) → ((i : ℕ) → index ≤ i → i < length pages → test (get_or pages i none) ≡ false) → filter test pages ≡ take index pages
 filter-prefix test [] zero hit out = refl
@@ -130,7 +111,7 @@ filter-prefix test [] (suc index) hit out = refl
 filter-prefix test (x ∷ pages) zero hit out = rw (out 0 (omega arith) (omega arith)) (filter-prefix test pages zero (λ i lt within. hit (suc i) (omega (arith, lt)) (omega (arith, within))) (λ i le within. out (suc i) (omega arith) (omega (arith, within))))
 filter-prefix test (x ∷ pages) (suc index) hit out = rw (hit 0 (omega arith) (omega arith)) (ap (λ (rest : List PageView). x ∷ rest) (filter-prefix test pages index (λ i lt within. hit (suc i) (omega (arith, lt)) (omega (arith, within))) (λ i le within. out (suc i) (omega (arith, le)) (omega (arith, within)))))
 
-filter-back : (test : PageView → Bool) (pages : List PageView) (index : ℕ) → ((i : ℕ) → i < index → i < length pages → test (get_or pages i none) ≡ false) → ((i : ℕ) → index ≤ i → i < length pages → test (get_or pages i none) ≡ true) → filter test pages ≡ drop index pages
+pub filter-back : (test : PageView → Bool) (pages : List PageView) (index : ℕ) → ((i : ℕ) → i < index → i < length pages → test (get_or pages i none) ≡ false) → ((i : ℕ) → index ≤ i → i < length pages → test (get_or pages i none) ≡ true) → filter test pages ≡ drop index pages
 filter-back test [] zero out hit = refl
 filter-back test [] (suc index) out hit = refl
 filter-back test (x ∷ pages) zero out hit = rw (hit 0 (omega arith) (omega arith)) (ap (λ (rest : List PageView). x ∷ rest) (filter-back test pages zero (λ i lt within. out (suc i) (omega (arith, lt)) (omega (arith, within))) (λ i le within. hit (suc i) (omega arith) (omega (arith, within)))))

@@ -7,4 +7,5 @@ pub mod Text
 pub mod MapErr
 pub mod Ranges
 pub mod RangeLaws
+pub mod Gaps
 pub mod inner

@@ -2,7 +2,6 @@
 ghost use Rattle.std.specs.Prelude.{◌≡◌, ◌+◌, ◌<◌, ◌≤◌, IfOk, false, length, MatchOption};
 ghost use Rattle.dt_space.specs.Space.{has};
 ghost use Rattle.dt_space.specs.Pages.{zero_padded};
-ghost use Rattle.dt_space.specs.Ranges.{is_in, with_rights};
 ghost use Rattle.dt_space.specs.inner.Piece.{IsRest};
 ghost use Rattle.dt_base.specs.Bytes.{overwritten};
 
@@ -58,20 +57,11 @@ impl Page {
         }
     }
 
-    /// Whether the page is one of a range's.
-    pub fn lies_in(&self, first: u64, count: u64) -> bool
-        ensures { result ≡ is_in first count self.now.number }
+    /// Gives the page these rights and no others.
+    pub fn protect(&mut self, rights: u8)
+        ensures { self.new ≡ record self.old { rights = rights } }
     {
-        self.number >= first && self.number - first < count
-    }
-
-    /// Gives the page these rights and no others, where it is one of a range's.
-    pub fn protect(&mut self, first: u64, count: u64, rights: u8)
-        ensures { self.new ≡ with_rights first count rights self.old }
-    {
-        if self.lies_in(first, count) {
-            self.rights = rights;
-        }
+        self.rights = rights;
     }
 
     /// An equal page, in memory of its own.

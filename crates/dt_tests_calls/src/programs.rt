@@ -11,6 +11,8 @@ const WRITE: u32 = 64;
 
 const EXIT: u32 = 93;
 
+const EXIT_GROUP: u32 = 94;
+
 const SOCKET: u32 = 198;
 
 // Where a program lies, its ELF header first.
@@ -47,9 +49,14 @@ fn shown(alloc: Global, file: &[u8]) -> Result<(u8, Vec<u8>), Fail> {
 fn programs_end_with_codes(rt: HostRuntime) -> Result<(), Fail> {
     let alloc = rt.alloc();
     // Registers are empty at the start, and of a code the low 8 bits count.
-    let rows: [(&[i64], u8, &str); 3] = [(&[], 0, "0"), (&[3], 1, "3"), (&[256], 0, "0")];
-    for (arguments, status, code) in rows {
-        let (came, before) = shown(alloc, &calling(alloc, arguments, &[EXIT])?)?;
+    let rows: [(&[i64], u32, u8, &str); 4] = [
+        (&[], EXIT, 0, "0"),
+        (&[3], EXIT, 1, "3"),
+        (&[256], EXIT, 0, "0"),
+        (&[4], EXIT_GROUP, 1, "4"),
+    ];
+    for (arguments, call, status, code) in rows {
+        let (came, before) = shown(alloc, &calling(alloc, arguments, &[call])?)?;
         let want = format!(in alloc; "dettrace 1\nexit 1 code {code}\nverdict ended")?;
         assert_eq!(rt; before.as_slice(), want.as_bytes());
         assert_eq!(rt; came, status, "{code}");
@@ -98,10 +105,10 @@ fn faults_end_programs_by_their_signals(rt: HostRuntime) -> Result<(), Fail> {
 #[test]
 fn pages_of_a_program_within_their_limit(rt: HostRuntime) -> Result<(), Fail> {
     let alloc = rt.alloc();
-    // With the 256 pages of the stack there are 16,384, and then one more.
+    // With the 256 pages of the stack and that of the trampoline there are 16,384, and then one more.
     let rows = [
-        (16_128 * 4_096, "exit 1 code 0\nverdict ended"),
-        (16_128 * 4_096 + 1, "verdict nostart 7"),
+        (16_127 * 4_096, "exit 1 code 0\nverdict ended"),
+        (16_127 * 4_096 + 1, "verdict nostart 7"),
     ];
     for (size, want) in rows {
         let mut guest = Guest::new(alloc);

@@ -50,6 +50,18 @@ fn host_keeps_what_was_written(rt: HostRuntime) -> Result<(), Fail> {
     Ok(())
 }
 
+#[test]
+fn a_word_chooses_among_16384_numbers(rt: HostRuntime) -> Result<(), Fail> {
+    let alloc = rt.alloc();
+    // The root has 1, so the word that comes round to it gives the next.
+    let picker = Picker::new(vec![in alloc; 16_383, 16_384, 16_383]?, 0);
+    let mut host = MemHost::new(alloc, picker, Vec::new(alloc))?;
+    for number in [16_384, 2, 3] {
+        assert_eq!(rt; host.make(NodeKind::File)?, number);
+    }
+    Ok(())
+}
+
 // Names a directory in itself, where it has no such name yet.
 fn bind_itself(host: &mut MemHost, dir: u64, name: &[u8]) -> Result<(), HostErr>
     requires { IsDir host.old.view.forest dir }

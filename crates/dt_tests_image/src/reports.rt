@@ -42,22 +42,34 @@ fn verdicts_as_text(rt: HostRuntime) -> Result<(), Fail> {
     Ok(())
 }
 
+// The words of the stream of a number.
+fn stream(alloc: Global, number: u64) -> Picker {
+    Picker::new(Vec::new(alloc), number)
+}
+
+// Words of 0, more than a host takes for a small tree.
+fn zeros(alloc: Global) -> Result<Picker, Fail> {
+    Ok(Picker::new(vec![in alloc; 0; 1_000]?, 1))
+}
+
 // The lines of the tree of an image, whose host chooses by that picker. Blobs are `abc`, `empty` and `big`.
-fn lines_of(alloc: Global, line: &str, seed: u64) -> Result<Blob, Fail> {
+fn lines_of(alloc: Global, line: &str, picker: Picker) -> Result<Blob, Fail> {
     let mut store = MemStore::new(alloc, Picker::new(Vec::new(alloc), 1), Vec::new(alloc))?;
     store.put("img/image.json", index(alloc, line)?.as_bytes())?;
     store.put("img/abc", b"abc")?;
     store.put("img/empty", b"")?;
     store.put("img/big", &vec![in alloc; b'x'; 16_777_216]?)?;
     let image = read_image(alloc, &mut store, "img")?;
-    let mut host = MemHost::new(alloc, Picker::new(Vec::new(alloc), seed), Vec::new(alloc))?;
+    let mut host = MemHost::new(alloc, picker, Vec::new(alloc))?;
     let mut tree = Tree::new(alloc, &mut host)?;
     tree.install(&mut host, &image)?;
     Ok(tree_lines(alloc, &mut host, &tree)?)
 }
 
 #[test]
-fn lines_stand_in_order_of_whole_paths(rt: HostRuntime) -> Result<(), Fail> {
+fn lines_stand_in_order_of_whole_paths_whatever_the_host_chooses(
+    rt: HostRuntime,
+) -> Result<(), Fail> {
     let line = "file:/a.b:420:abc,file:/a b:420:abc,dir:/a:493:,file:/a/b:420:empty,link:/l:0:a/b";
     let want: &[u8] = b"tree 5\n\
         dir 2 0755 0 /a\n\
@@ -65,8 +77,13 @@ fn lines_stand_in_order_of_whole_paths(rt: HostRuntime) -> Result<(), Fail> {
         file 4 0644 0 3 ba7816bf8f01cfea414140de5dae2223b00361a396177a9cb410ff61f20015ad /a.b\n\
         file 5 0644 0 0 e3b0c44298fc1c149afbf4c8996fb92427ae41e4649b934ca495991b7852b855 /a/b\n\
         link 6 0 /l a/b\n";
-    for seed in [1, 2, 3] {
-        assert_eq!(rt; lines_of(rt.alloc(), line, seed)?.as_slice(), want);
+    let alloc = rt.alloc();
+    assert_eq!(rt; lines_of(alloc, line, zeros(alloc)?)?.as_slice(), want);
+    for number in [0, 1, 2, 3, u64::MAX] {
+        assert_eq!(rt;
+            lines_of(alloc, line, stream(alloc, number))?.as_slice(),
+            want
+        );
     }
     Ok(())
 }
@@ -78,7 +95,8 @@ fn paths_and_targets_are_escaped(rt: HostRuntime) -> Result<(), Fail> {
         dir 2 0007 0 /%25~\n\
         dir 3 7777 0 /%25~/%C3%A9\n\
         link 4 0 /%25~/%C3%A9/%7F a%20b%25%C3%A9\n";
-    assert_eq!(rt; lines_of(rt.alloc(), line, 1)?.as_slice(), want);
+    let alloc = rt.alloc();
+    assert_eq!(rt; lines_of(alloc, line, stream(alloc, 1))?.as_slice(), want);
     Ok(())
 }
 
@@ -86,7 +104,8 @@ fn paths_and_targets_are_escaped(rt: HostRuntime) -> Result<(), Fail> {
 fn the_longest_file_has_its_line(rt: HostRuntime) -> Result<(), Fail> {
     let want: &[u8] = b"tree 1\nfile 2 0644 0 16777216 \
         a06c26cbac8b80704f420222dae5658b88ff2da96702d12ef7a4223e9361f7c1 /big\n";
-    let lines = lines_of(rt.alloc(), "file:/big:420:big", 1)?;
+    let alloc = rt.alloc();
+    let lines = lines_of(alloc, "file:/big:420:big", stream(alloc, 1))?;
     assert_eq!(rt; lines.as_slice(), want);
     Ok(())
 }

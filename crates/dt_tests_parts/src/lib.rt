@@ -1,7 +1,7 @@
-//! Tests of calls below the run: copies of plain values, and a guest from its file to its calls by hand.
+//! Tests of calls below the run: copies of plain values, and numbers.
 #![tactic(auto)]
 
 #[cfg(test)]
 mod copies;
 #[cfg(test)]
-mod loading;
+mod numbers;

@@ -4,6 +4,8 @@
 #[cfg(test)]
 mod clocks;
 #[cfg(test)]
+mod ranges;
+#[cfg(test)]
 mod spaces;
 #[cfg(test)]
 mod standards;

@@ -1,15 +1,18 @@
 // A small image, a host in memory, and the tree of the image over it.
-ghost use Rattle.std.specs.Prelude.{◌≡◌, IfOk};
-ghost use Rattle.dt_host.specs.World.{IsEmptyStart};
-ghost use Rattle.dt_tree.specs.Table.{Stands};
+ghost use Rattle.std.specs.Prelude.{◌≡◌, IfOk, IfSome};
+ghost use Rattle.dt_host.specs.World.{IsEmptyStart, IsFile};
+ghost use Rattle.dt_tree.specs.Table.{Stands, shape_of};
 
 use dt_base::{Blob, Entry, Image, NoMemory, What};
 use dt_host::HostErr;
 use dt_memhost::{MemHost, Picker};
-use dt_tree::Tree;
+use dt_tree::{ROOT, Tree};
 use std::alloc::Global;
 
-// A host that chooses by the stream of a number, and fails at one call, or at none where that is 0.
+// The words that a bytewise host has at least.
+const ZEROS: usize = 1_000;
+
+/// A host that chooses by the stream of a number, and fails at one call, or at none where that is 0.
 pub fn host(alloc: Global, stream: u64, failing: u64) -> Result<MemHost, NoMemory>
     ensures { IfOk result (λ host. IsEmptyStart host.view) }
 {
@@ -20,7 +23,14 @@ pub fn host(alloc: Global, stream: u64, failing: u64) -> Result<MemHost, NoMemor
     )
 }
 
-// The tree of the image over a host that is new.
+/// A host that chooses by words of 0, so that it moves one byte a call, and fails at these calls.
+pub fn bytewise(alloc: Global, fails: Vec<u64>) -> Result<MemHost, NoMemory>
+    ensures { IfOk result (λ host. IsEmptyStart host.view) }
+{
+    MemHost::new(alloc, Picker::new(vec![in alloc; 0; ZEROS]?, 1), fails)
+}
+
+/// The tree of the image over a host that is new.
 pub fn load(alloc: Global, host: &mut MemHost) -> Result<Tree, HostErr>
     requires { IsEmptyStart host.old.view }
     ensures { IfOk result (λ tree. Stands tree host.new.view.forest) }
@@ -29,6 +39,21 @@ pub fn load(alloc: Global, host: &mut MemHost) -> Result<Tree, HostErr>
     let mut tree = Tree::new(alloc, host)?;
     tree.install(host, &image)?;
     Ok(tree)
+}
+
+/// The inode of a file in the root; None where it has no file of that name.
+pub fn file_in_root(host: &mut MemHost, tree: &Tree, name: &[u8]) -> Result<Option<u64>, HostErr>
+    requires { Stands tree.now host.old.view.forest }
+    ensures stands { Stands tree.now host.new.view.forest }
+    ensures file { IfOk result (λ found. IfSome found (IsFile (shape_of tree.now host.new.view.forest))) }
+{
+    let Some(inode) = tree.find(host, ROOT, name)? else {
+        return Ok(None);
+    };
+    if tree.is_dir(inode) || tree.is_link(inode) {
+        return Ok(None);
+    }
+    Ok(Some(inode))
 }
 
 // The image: a directory `/d` with a file and a link, a file, and links.

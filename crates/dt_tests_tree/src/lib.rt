@@ -2,10 +2,16 @@
 #![tactic(auto)]
 
 #[cfg(test)]
+mod failures;
+#[cfg(test)]
 mod fixture;
+#[cfg(test)]
+mod held;
 #[cfg(test)]
 mod listings;
 #[cfg(test)]
 mod nodes;
+#[cfg(test)]
+mod reads;
 #[cfg(test)]
 mod walks;

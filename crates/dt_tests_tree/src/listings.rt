@@ -7,8 +7,8 @@ use dt_memhost::MemHost;
 use dt_tree::{DT_DIR, DT_LNK, DT_REG, Listed, ROOT, Tree};
 use std::test::Fail;
 
-// A listing of a directory from a name on; empty where it is none, or removed.
-fn list(
+/// A listing of a directory from a name on; empty where it is none, or removed.
+pub fn list(
     host: &mut MemHost,
     tree: &Tree,
     dir: u64,

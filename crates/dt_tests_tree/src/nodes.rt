@@ -26,8 +26,8 @@ fn told(
     }
 }
 
-// The target of a link in the root; none where there is no such link.
-fn target_of(host: &mut MemHost, tree: &Tree, name: &[u8]) -> Result<Option<Blob>, HostErr>
+/// The target of a link in the root; none where there is no such link.
+pub fn target_of(host: &mut MemHost, tree: &Tree, name: &[u8]) -> Result<Option<Blob>, HostErr>
     requires { Stands tree.now host.old.view.forest }
     ensures { Stands tree.now host.new.view.forest }
 {

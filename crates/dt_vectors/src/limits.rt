@@ -1,6 +1,6 @@
-// The numbers that code and definitions share, each tried beside its neighbours: the limits of executables, the first
-// stack, and the steps of a segment.
-use dt_elf::{ElfErr, read_elf, start};
+// The numbers that code and definitions share, each tried beside its neighbours: the limits of executables, and the
+// steps of a segment.
+use dt_elf::{ElfErr, read_elf};
 use dt_rv64::{Machine, Seg, Stop, segment};
 use dt_space::Space;
 use std::alloc::{AllocError, Global};
@@ -53,26 +53,15 @@ fn limits_of_an_executable(rt: HostRuntime) -> Result<(), Fail> {
     ] {
         let file = executable(rt.alloc(), entry, headers, vaddr, memsz)?;
         assert_eq!(rt;
-            (entry, headers, vaddr, memsz, read_elf(&file).err()),
+            (
+                entry,
+                headers,
+                vaddr,
+                memsz,
+                read_elf(rt.alloc(), &file).err()
+            ),
             (entry, headers, vaddr, memsz, refusal)
         );
-    }
-    Ok(())
-}
-
-#[test]
-fn first_stack(rt: HostRuntime) -> Result<(), Fail> {
-    let file = executable(rt.alloc(), ENTRY, 1, BASE, 1)?;
-    let mut machine = start(rt.alloc(), &read_elf(&file)?, &file)?;
-    assert_eq!(rt; machine.reg(2), 0x3f_ffff_e000);
-    for (at, there) in [
-        (0x3f_ffef_dfff, false),
-        (0x3f_ffef_e000, true),
-        (0x3f_ffff_dfff, true),
-        (0x3f_ffff_e000, false),
-    ] {
-        assert_eq!(rt; (at, machine.space.load1(at).is_ok()), (at, there));
-        assert_eq!(rt; (at, machine.space.store1(at, 1).is_ok()), (at, there));
     }
     Ok(())
 }

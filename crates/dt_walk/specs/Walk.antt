@@ -6,7 +6,7 @@ use Rattle.std.specs.Str.{bytes_eq}
 use Rattle.dt_base.specs.declared.errno.Errno.{Errno}
 use Rattle.dt_base.specs.declared.errno.Errno.TheVariants.{NoEnt, NotDir, NameTooLong, Loop}
 use Rattle.dt_base.specs.declared.limits.TheConstants.{NAME_LIMIT}
-use Rattle.dt_base.specs.Path.{is_slash, components_of}
+use Rattle.dt_base.specs.Path.{is_slash_there, begins_with_slash, components_of}
 use Rattle.dt_host.specs.World.{Forest, target_at, entry}
 use Rattle.dt_tree.specs.declared.limits.TheConstants.{ROOT}
 use Rattle.dt_tree.specs.Above.{dot_dot}
@@ -68,16 +68,7 @@ step_in_dir v keep last slash at name =
 unfoldable pub step_of : Forest → (keep last slash : Bool) → ℕ → List ℕ → Step
 step_of v keep last slash at name = if is_dir v at then step_in_dir v keep last slash at name else Refused NotDir
 
--- whether there is a `/`
-abbrev pub is_slash_there : Option ℕ → Bool
-is_slash_there None = false
-is_slash_there (Some b) = is_slash b
-
--- the text begins with a `/`
-abbrev pub begins_with_slash : List ℕ → Bool
-begins_with_slash text = is_slash_there (slice_get text 0)
-
--- it ends in one
+-- the text ends in a `/`
 abbrev pub ends_in_slash : List ℕ → Bool
 ends_in_slash text = is_slash_there (slice_get text (length text - 1))
 

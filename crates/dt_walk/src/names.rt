@@ -1,21 +1,11 @@
 // The names of a path.
 ghost use Rattle.std.specs.Prelude.{◌≡◌, [], ◌∷◌, ◌++◌, not, reverse, IfOk, OnOk};
 ghost use Rattle.std.specs.List.{filter};
-ghost use Rattle.dt_walk.specs.Walk.{is_nil, path_names, begins_with_slash, ends_in_slash, start_of};
+ghost use Rattle.dt_walk.specs.Walk.{is_nil, path_names, ends_in_slash, start_of};
 
-use dt_base::{Blob, NoMemory};
+use dt_base::{Blob, NoMemory, begins_with_slash};
 use dt_tree::ROOT;
 use std::alloc::Global;
-
-// Whether a text begins with a slash.
-fn begins_with_slash(text: &[u8]) -> bool
-    ensures { result ≡ begins_with_slash text.now }
-{
-    match text.first() {
-        Some(b) => *b == b'/',
-        None => false,
-    }
-}
 
 /// Whether a text ends in a slash.
 pub(crate) fn ends_in_slash(text: &[u8]) -> bool

@@ -1,9 +1,10 @@
 // Ranges of pages: mapped, unmapped, or given other rights.
 ghost use Rattle.std.specs.Prelude.{◌≡◌, ◌+◌, ◌^◌, ◌≤◌, ◌++◌, length, take, drop, [], None, Some, IfOk, OnOk, OnErr, IfErr, MatchResult};
+ghost use Rattle.dt_space.specs.Space.{IsSpace};
 ghost use Rattle.dt_space.specs.Pages.{pages_from};
 ghost use Rattle.dt_space.specs.Ranges.{map_refusal, IsMapErr, mapped, unmapped, first_missing, protected};
 ghost use Rattle.dt_space.specs.RangeLaws.{KeepsOthers, HasZeros, HasNone, HasRights};
-ghost use Rattle.dt_space.specs.inner.Gap.{IsLower, IsGap};
+ghost use Rattle.dt_space.specs.inner.Gap.{IsLower, IsGap, IsRun, IsWholeRun};
 
 use super::Space;
 use crate::access::granted_of;
@@ -13,7 +14,7 @@ use dt_base::{NoMemory, PAGE_LIMIT};
 use std::alloc::{AllocError, Global};
 
 // How many page numbers there are.
-const PAGE_NUMBERS: u64 = 1 << 26;
+pub(super) const PAGE_NUMBERS: u64 = 1 << 26;
 
 impl Space {
     /// Maps `count` pages of zeros from the number `first` on. `rights` are cut to their lowest three bits, and the
@@ -25,6 +26,7 @@ impl Space {
         ensures others { OnOk result (KeepsOthers self.old first count self.new) }
         ensures error { IfErr result (IsMapErr (map_refusal self.old first count)) }
         ensures kept { OnErr result (self.new ≡ self.old) }
+        ensures sound { IsSpace self.new }
     {
         let index = self.gap(first, count)?;
         let alloc = *self.pages.allocator();
@@ -38,8 +40,10 @@ impl Space {
         ensures unmapped { self.new ≡ unmapped self.old first count }
         ensures none { HasNone self.new first count }
         ensures others { KeepsOthers self.old first count self.new }
+        ensures sound { IsSpace self.new }
     {
-        self.pages.retain(|page| !page.lies_in(first, count));
+        let (start, end) = self.run(first, count);
+        self.pages.drain(start..end);
     }
 
     /// Gives the pages of a range these rights, cut and completed as those of `map`. Where a page is not there,
@@ -52,27 +56,32 @@ impl Space {
         ensures rights { OnOk result (HasRights self.old first count rights self.new) }
         ensures others { OnOk result (KeepsOthers self.old first count self.new) }
         ensures kept { OnErr result (self.new ≡ self.old) }
+        ensures sound { IsSpace self.new }
     {
-        self.look_for(first, count)?;
+        let (start, end) = self.whole_run(first, count)?;
         let given = granted_of(rights);
-        for index in 0..self.pages.len() {
-            self.pages[index].protect(first, count, given);
+        for index in start..end {
+            self.pages[index].protect(given);
         }
         Ok(())
     }
 
-    // Whether each page of a range is there.
-    fn look_for(&self, first: u64, count: u64) -> Result<(), Unmapped>
+    // Where the pages of a range stand, all of which are there, or else the first that isn't.
+    fn whole_run(&self, first: u64, count: u64) -> Result<(usize, usize), Unmapped>
         ensures { MatchResult result
-            (λ _. first_missing self.now first count ≡ None)
+            (λ run. IsWholeRun self.now first count run.0 run.1)
             (λ error. first_missing self.now first count ≡ Some error.page) }
     {
+        let start = self.lower(first);
+        let mut end = start;
         for done in 0..count {
-            if self.index_of(first + done).is_none() {
-                return Err(Unmapped { page: first + done });
+            let number = first + done;
+            if end == self.pages.len() || self.pages[end].number != number {
+                return Err(Unmapped { page: number });
             }
+            end += 1;
         }
-        Ok(())
+        Ok((start, end))
     }
 
     // The index where the pages of a range go, or why they can't be mapped.
@@ -94,8 +103,19 @@ impl Space {
         Ok(index)
     }
 
+    // The indices between which the pages of a range stand that are there.
+    pub(super) fn run(&self, first: u64, count: u64) -> (usize, usize)
+        ensures { IsRun self.now first count result.0 result.1 }
+    {
+        let start = self.lower(first);
+        match first.checked_add(count) {
+            Some(behind) => (start, self.lower(behind)),
+            None => (start, self.pages.len()),
+        }
+    }
+
     // The index of the first page whose number is not below this one.
-    fn lower(&self, number: u64) -> usize
+    pub(super) fn lower(&self, number: u64) -> usize
         ensures { IsLower self.now number result }
     {
         self.pages.partition_point(|page| page.number < number)

@@ -1,28 +1,13 @@
-use Rattle.std.proofs.Common.{ap, ◌∙◌, arith, Err}
-use Rattle.std.proofs.lemmas.Result.{err_from_is_err_and}
-use Rattle.dt_elf.proofs.Placed.{exe-placed, exe-entry}
-use Rattle.dt_elf.proofs.Starts.{not-too-big, page_count-bound, first-is_machine}
-use Rattle.dt_elf.specs.Executable.{IsPlaced}
+use Rattle.std.proofs.Common.{arith}
+use Rattle.dt_elf.specs.Executable.{executable}
+use Rattle.dt_elf.proofs.Refusals.{read-placed, read-low, read-entry}
 use Rattle.dt_elf.proofs.first_machine.start.Goals as goal
 
-pub pages-requires : goal.pages-requires
-pages-requires c = let placed : IsPlaced c.args.bytes.now c.args.elf.now.segment = exe-placed c.args.bytes.now c.args.elf.now c.requires in placed.below
+pub is_too_big-requires : goal.is_too_big-requires
+is_too_big-requires c = read-low c.args.bytes.now (executable c.args.elf.now) c.requires.read
 
-pub overflow_add-pages : goal.overflow_add-pages
-overflow_add-pages c =
-    let bound = page_count-bound c.args.bytes.now c.args.elf.now.segment (exe-placed c.args.bytes.now c.args.elf.now c.requires) in
-    omega (arith, bound)
+pub make-requires-clause-placed : goal.make-requires-clause-placed
+make-requires-clause-placed c = read-placed c.args.bytes.now (executable c.args.elf.now) c.requires.read
 
-pub load-requires-clause-placed : goal.load-requires-clause-placed
-load-requires-clause-placed c = exe-placed c.args.bytes.now c.args.elf.now c.requires
-
-pub returns-in_err-space-clause-too_big : goal.returns-in_err-space-clause-too_big
-returns-in_err-space-clause-too_big c =
-    let p = err_from_is_err_and c.from_residual.result c.from_residual.ensures.1 in
-    not-too-big c.args.elf.now c.args.bytes.now c.pages.result _ (p.1 ∙ ap Err p.2) c.pages.ensures c.if-pages-gt-PAGE_LIMIT.false
-
--- its space is the one that was loaded
-pub returns-clause-sound : goal.returns-clause-sound
-returns-clause-sound c =
-    let low = exe-entry c.args.bytes.now c.args.elf.now c.requires in
-    rw (c.from.ensures, c.in_ok-space.ensures.pages) (first-is_machine c.args.bytes.now c.args.elf.now (omega (arith, low)) (rw c.in_ok-space.ensures.pages at c.in_ok-space.ensures.sound))
+pub make-requires-clause-entry : goal.make-requires-clause-entry
+make-requires-clause-entry c = let low = read-entry c.args.bytes.now (executable c.args.elf.now) c.requires.read in omega (arith, low)

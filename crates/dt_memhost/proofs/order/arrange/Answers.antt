@@ -1,36 +1,47 @@
-use Rattle.std.proofs.Common.{◌+◌, ◌-◌, ◌++◌, length, take, drop, sym, ap, ◌∙◌, arith}
+use Rattle.std.proofs.Common.{◌≡◌, ◌+◌, ◌-◌, ◌%◌, ◌<◌, ◌++◌, length, take, drop, remove, sym, ap, ◌∙◌, arith}
+use Rattle.std.proofs.Math.Nat.{mod-lt}
+use Rattle.std.proofs.lemmas.List.Edits.{length-remove}
 use Rattle.dt_memhost.specs.Order.{picked_order}
-use Rattle.dt_memhost.specs.Script.{picked_all, words_of}
-use Rattle.dt_memhost.proofs.Arranged.{picked_order-start, picked_order-more, picked_order-end, picked_all-suc, picked_all-none, one_left, all_left}
+use Rattle.dt_memhost.specs.Script.{picked, picked_all, word_of, words_of}
+use Rattle.dt_memhost.specs.inner.EntryTree.{entries}
+use Rattle.dt_memhost.proofs.Arranged.{picked_order-more, picked_order-end, picked_all-suc, picked_all-none, one_left}
 use Rattle.dt_memhost.proofs.order.arrange.Goals as goal
-
-pub loop-done-init : goal.loop-done-init
-loop-done-init c = record {
-  order = picked_order-start c.args.found.now c.args.script.now;
-  after = ap (λ n. picked_all n c.args.script.now) (all_left (length c.args.found.now));
-}
 
 pub loop-done-preserved : goal.loop-done-preserved
 loop-done-preserved c =
-    let found = c.loop-done.found in
-    let n = length c.args.found.now in
-    let split = c.split_at_mut-left in
-    let rest = n - (c.loop-done.done + 1) in
+    let n = length c.args.found.items in
+    let done = c.loop-done.done in
+    let before = c.loop-done.script in
+    let left = entries c.loop-done.left in
+    let rest = entries c.pick-entry.new.left in
+    let more = n - (done + 1) in
+    let count : c.len-count.result - done ≡ n - done = omega arith in
+    let some : 0 < n - done = omega arith in
+    let at = word_of before % (n - done) in
+    let below : at < n - done = mod-lt (word_of before) some in
+    let chosen = c.pick-entry.ensures.chosen ∙ ap (λ k. take 1 (drop (word_of before % k) left)) count in
+    let goes = c.pick-entry.ensures.left ∙ ap (λ k. remove left (word_of before % k)) count in
+    let gone : length rest ≡ length (remove left at) = ap length goes in
     record {
       order =
           c.loop-done.invariant.order
-          ∙ picked_order-more found split.result.0.now split.result.1.now c.to_first.new.left c.loop-done.done c.index-at.result n c.loop-done.script (sym c.loop-done.auto.found) c.loop-done-test.true split.ensures.front split.ensures.back c.index-at.ensures.word c.to_first.ensures
-          ∙ ap (λ s. take (c.loop-done.done + 1) (split.result.0.now ++ c.to_first.new.left) ++ picked_order (words_of rest s) (drop (c.loop-done.done + 1) (split.result.0.now ++ c.to_first.new.left))) (sym c.index-at.ensures.after);
+          ∙ picked_order-more c.loop-done.arranged.items left rest c.pick-entry.result done n before (omega arith) c.loop-done.invariant.left chosen goes
+          ∙ ap (λ xs. xs ++ picked_order (words_of more (picked before)) rest) (sym c.in_ok-push.ensures.items)
+          ∙ ap (λ s. c.push.new.self.items ++ picked_order (words_of more s) rest) (sym c.pick-entry.ensures.after);
       after =
           c.loop-done.invariant.after
-          ∙ ap (λ k. picked_all k c.loop-done.script) (one_left c.loop-done.done n c.loop-done-test.true)
-          ∙ picked_all-suc rest c.loop-done.script
-          ∙ ap (picked_all rest) (sym c.index-at.ensures.after);
+          ∙ ap (λ k. picked_all k before) (one_left done n (omega arith))
+          ∙ picked_all-suc more before
+          ∙ ap (picked_all more) (sym c.pick-entry.ensures.after);
+      counted = c.pick-entry.ensures.counted;
+      left = omega (arith, length-remove left at (omega arith));
+      moved = c.in_ok-push.ensures.len ∙ ap (λ k. k + 1) c.loop-done.invariant.moved;
+      room = omega arith;
     }
 
 pub returns-clause-order : goal.returns-clause-order
 returns-clause-order c =
-    sym (c.loop-done.invariant.order ∙ picked_order-end c.loop-done.found c.loop-done.done (length c.args.found.now) c.loop-done.script (omega arith))
+    sym (c.loop-done.invariant.order ∙ picked_order-end c.loop-done.arranged.items (entries c.loop-done.left) _ c.loop-done.script (omega arith) c.loop-done.invariant.left)
 
 pub returns-clause-after : goal.returns-clause-after
 returns-clause-after c = sym (c.loop-done.invariant.after ∙ picked_all-none c.loop-done.script _ (omega arith))

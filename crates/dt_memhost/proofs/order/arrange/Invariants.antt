@@ -1,10 +1,16 @@
-use Rattle.std.proofs.Common.{◌≡◌, ◌-◌, ◌++◌, length, take, drop}
+use Rattle.std.proofs.Common.{◌≡◌, ◌-◌, ◌≤◌, ◌++◌, length}
+use Rattle.std.specs.Prelude.{vec_len, vec_capacity}
 use Rattle.dt_memhost.specs.Order.{picked_order}
 use Rattle.dt_memhost.specs.Script.{picked_all, words_of}
+use Rattle.dt_memhost.specs.inner.EntryTree.{entries, IsCounted}
 use Rattle.dt_memhost.proofs.order.arrange.Given as goal
 
 abbrev pub invariant-loop-done : goal.invariant-loop-done
 invariant-loop-done l = record {
-  order : picked_order (words_of (length l.fn.found) l.fn.script) l.fn.found ≡ take l.done l.found ++ picked_order (words_of (length l.fn.found - l.done) l.script) (drop l.done l.found);
-  after : picked_all (length l.fn.found) l.fn.script ≡ picked_all (length l.fn.found - l.done) l.script;
+  order : picked_order (words_of (length l.fn.found.items) l.fn.script) l.fn.found.items ≡ l.arranged.items ++ picked_order (words_of (length l.fn.found.items - l.done) l.script) (entries l.left);
+  after : picked_all (length l.fn.found.items) l.fn.script ≡ picked_all (length l.fn.found.items - l.done) l.script;
+  counted : IsCounted l.left;
+  left : length (entries l.left) ≡ length l.fn.found.items - l.done;
+  moved : vec_len l.arranged ≡ l.done;
+  room : length l.fn.found.items ≤ vec_capacity l.arranged;
 }

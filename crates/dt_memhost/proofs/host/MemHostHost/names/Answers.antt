@@ -1,8 +1,8 @@
-use Rattle.std.proofs.Common.{◌≡◌, ◌||◌, ℕ, List, ◌++◌, Bool, true, false, map, length, take, drop, arith, append-nil, sym, ap, subst, ◌∙◌}
+use Rattle.std.proofs.Common.{◌≡◌, ◌||◌, ℕ, List, Bool, true, false, map, length, sym, ap, subst, ◌∙◌}
 use Rattle.std.specs.Prelude.{MatchBool}
 use Rattle.std.specs.List.Sorted.{IsPermutation}
 use Rattle.std.specs.FinMap.{entries}
-use Rattle.std.proofs.lemmas.List.{drop_all, take_all, length-map}
+use Rattle.std.proofs.lemmas.List.{length-map}
 use Rattle.std.proofs.lemmas.List.Sorted.{IsPermutation-trans}
 use Rattle.dt_host.specs.declared.entry.HostEntry.{HostEntry}
 use Rattle.dt_host.specs.World.{names_at}
@@ -12,13 +12,6 @@ use Rattle.dt_memhost.specs.Order.{order_at, picked_order}
 use Rattle.dt_memhost.specs.Host.{HostState, ListsBy}
 use Rattle.dt_memhost.proofs.Arranged.{map-picked_order, IsPermutation-picked_order}
 use Rattle.dt_memhost.proofs.host.MemHostHost.names.Goals as goal
-
--- a vector whose items were all written over has the new ones
-written_over : {A : Type 0} (new items : List A) (len : ℕ) → len ≡ length items → length new ≡ length items → take len (new ++ drop (length new) items) ≡ new
-written_over new items len size same =
-    ap (λ xs. take len (new ++ xs)) (drop_all (length new) items (omega arith))
-    ∙ ap (take len) (append-nil new)
-    ∙ take_all len new (omega arith)
 
 -- the entries in the order of the words, where they were found in that of their binding
 lists : (old : HostState) (d : ℕ) (found arranged : List HostEntry) (before after : Script) → map named found ≡ order_at old.orders d → before ≡ counted old.script → arranged ≡ picked_order (words_of (length found) before) found → after ≡ picked_all (length found) before → ListsBy old d (record old { script = after }) arranged
@@ -42,26 +35,19 @@ unlisted F L false h said = said
 
 pub returns-clause-exact : goal.returns-clause-exact
 returns-clause-exact c =
-    let found = c.in_ok-found.found in
     let inside = c.self.inside in
-    let first = c.deref_mut.ensures.value in
     let old : HostState = record { view = record { forest = inside.forest.forest }; orders = inside.forest.orders; script = inside.script } in
     let new : HostState = record { view = record { forest = inside.forest.forest }; orders = inside.forest.orders; script = c.arrange.new.script } in
-    let said : ListsBy old c.args.dir new c.arrange.new.found =
-    lists old c.args.dir found.items c.arrange.new.found c.begin.new.self c.arrange.new.script c.in_ok-found.ensures.order
-    c.in_ok-begin.ensures.ok
-    (c.arrange.ensures.order ∙ ap (λ xs. picked_order (words_of (length xs) c.begin.new.self) xs) first)
-    (c.arrange.ensures.after ∙ ap (λ xs. picked_all (length xs) c.begin.new.self) first) in
-    let whole = written_over c.arrange.new.found found.items found.len (sym c.deref_mut.ensures.len ∙ ap length first) (c.arrange.auto.found ∙ ap length first) in
-    rw (← c.self.view_is) (unlisted _ _ (fails_next inside.script) c.in_ok-begin.ensures.unlisted (subst (ListsBy old c.args.dir new) (sym whole) said))
+    let arranged = c.in_ok-arrange.ensures in
+    let said : ListsBy old c.args.dir new c.in_ok-arrange.field-0.items =
+    lists old c.args.dir c.in_ok-found.found.items c.in_ok-arrange.field-0.items c.begin.new.self c.arrange.new.script c.in_ok-found.ensures.order c.in_ok-begin.ensures.ok arranged.order arranged.after in
+    rw (← c.self.view_is) (unlisted _ _ (fails_next inside.script) c.in_ok-begin.ensures.unlisted said)
 
 pub returns-clause-ok : goal.returns-clause-ok
 returns-clause-ok c =
     let found = c.in_ok-found.found in
-    let first = c.deref_mut.ensures.value in
-    let words = words_of (length c.deref_mut.result.now) c.begin.new.self in
-    let whole = written_over c.arrange.new.found found.items found.len (sym c.deref_mut.ensures.len ∙ ap length first) (c.arrange.auto.found ∙ ap length first) in
-    let turned : map named (take found.len (c.arrange.new.found ++ drop (length c.arrange.new.found) found.items)) ≡ picked_order words (map named found.items) =
-    ap (map named) (whole ∙ c.arrange.ensures.order ∙ ap (picked_order words) first) ∙ map-picked_order named words found.items in
+    let words = words_of (length found.items) c.begin.new.self in
+    let turned : map named c.in_ok-arrange.field-0.items ≡ picked_order words (map named found.items) =
+    ap (map named) c.in_ok-arrange.ensures.order ∙ map-picked_order named words found.items in
     rw (← c.self.view_is) (subst (IsPermutation (entries (names_at c.self.inside.forest.forest c.args.dir))) (sym turned)
     (IsPermutation-trans _ _ _ c.in_ok-found.ensures.each (IsPermutation-picked_order words (map named found.items))))

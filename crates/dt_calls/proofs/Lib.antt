@@ -1,0 +1,4 @@
+pub mod Walked
+pub mod Opened
+pub mod Parts
+pub mod Processes

@@ -1,0 +1,46 @@
+-- A container with one process.
+use Rattle.std.specs.Prelude.{ℕ, List, [], Option, None}
+use Rattle.dt_base.specs.declared.event.Event.{Event}
+use Rattle.dt_rv64.specs.declared.machine.Machine.{Machine}
+use Rattle.dt_tree.specs.FileTree.{FileTree}
+use Rattle.dt_virt.specs.Words.{Seeded, seeded_by}
+use Rattle.dt_mcalls.specs.declared.program_break.Break.{Break}
+use Rattle.dt_calls.specs.declared.shared.Process.{Process}
+use Rattle.dt_calls.specs.Descriptors.{Table, first_table}
+
+-- all of a container but its machines: the file tree, the open files of the one process, its break and its end, the logical
+-- time, and the seed's words
+pub record Shared : Type 0 where
+  pub tree : FileTree
+  pub files : Table
+  pub process : Process
+  pub clock : ℕ
+  pub rand : Seeded
+
+-- what is shared, the process's machine while it is at home, and what the last turn showed
+pub record Container : Type 0 where
+  pub shared : Shared
+  pub machine : Option Machine
+  pub events : List Event
+
+-- the process with another break
+abbrev pub with_break : Shared → Break → Shared
+with_break c program_break = record c { process = record c.process { program_break = program_break } }
+
+-- a process that has no program yet: it has no data, and has not ended
+abbrev pub first_process : Process
+first_process = record { program_break = record { start = 0; end = 0 }; end = None }
+
+-- what a process finds that starts on a tree: no time has passed
+abbrev pub first_shared : FileTree → ℕ → Shared
+first_shared t seed = record {
+  tree = t;
+  files = first_table;
+  process = first_process;
+  clock = 0;
+  rand = seeded_by seed;
+}
+
+-- a container whose process has no program yet
+abbrev pub first_container : FileTree → ℕ → Container
+first_container t seed = record { shared = first_shared t seed; machine = None; events = [] }

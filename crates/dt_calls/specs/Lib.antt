@@ -1,0 +1,11 @@
+pub mod Descriptors
+pub mod Container
+pub mod Lookup
+pub mod Launch
+pub mod Effect
+pub mod FileCalls
+pub mod MemoryCalls
+pub mod Call
+pub mod Settle
+pub mod InCode
+pub mod Sound

@@ -1,0 +1,45 @@
+-- The system calls on a process's memory: brk(2), mmap(2), munmap(2), mprotect(2).
+use Rattle.std.specs.Prelude.{ℕ}
+use Rattle.dt_base.specs.declared.abi.TheConstants.{A0, A1, A2, A3, MMAP, MUNMAP, MPROTECT}
+use Rattle.dt_base.specs.declared.answer.Answer.{Answer}
+use Rattle.dt_base.specs.declared.answer.Answer.TheVariants as answer
+use Rattle.dt_rv64.specs.declared.machine.Machine.{Machine}
+use Rattle.dt_rv64.specs.Effects.{register}
+use Rattle.dt_mcalls.specs.Called.{Called}
+use Rattle.dt_mcalls.specs.Brk.{Moved, brk_of}
+use Rattle.dt_mcalls.specs.Mmap.{mmap_of}
+use Rattle.dt_mcalls.specs.Munmap.{munmap_of}
+use Rattle.dt_mcalls.specs.Mprotect.{mprotect_of}
+use Rattle.dt_calls.specs.declared.call.effect.Outcome.TheVariants.{Unsupported}
+use Rattle.dt_calls.specs.Container.{Shared, with_break}
+use Rattle.dt_calls.specs.Effect.{Effect, quiet, done, refused}
+
+-- a call of this number gives its answer
+abbrev pub answers : Shared → Machine → ℕ → Answer → Effect
+answers c m number (answer.Value value) = done c m value
+answers c m number (answer.Refused errno) = refused c m errno
+answers c m number answer.Unsupported = quiet c m (Unsupported number)
+
+-- a call of this number leaves the process's pages so, and gives its answer
+abbrev pub called : Shared → Machine → ℕ → Called → Effect
+called c m number r = answers c (record m { space = r.pages }) number r.answer
+
+-- the break and the pages are these, and the break is the answer
+abbrev pub moved_break : Shared → Machine → Moved → Effect
+moved_break c m r = done (with_break c r.program_break) (record m { space = r.pages }) r.program_break.end
+
+-- brk(2)
+unfoldable pub brk_call : Shared → Machine → Effect
+brk_call c m = moved_break c m (brk_of c.process.program_break m.space (register m A0))
+
+-- munmap(2)
+unfoldable pub munmap_call : Shared → Machine → Effect
+munmap_call c m = called c m MUNMAP (munmap_of m.space (register m A0) (register m A1))
+
+-- mmap(2), of zeros: which file and which part of it is not looked at
+unfoldable pub mmap_call : Shared → Machine → Effect
+mmap_call c m = called c m MMAP (mmap_of m.space (register m A0) (register m A1) (register m A2) (register m A3))
+
+-- mprotect(2)
+unfoldable pub mprotect_call : Shared → Machine → Effect
+mprotect_call c m = called c m MPROTECT (mprotect_of m.space (register m A0) (register m A1) (register m A2))

@@ -1,0 +1,58 @@
+// What a stop that is served does.
+ghost use Rattle.std.specs.Prelude.{◌≡◌, ◌-◌, ◌^◌, []};
+ghost use Rattle.dt_base.specs.Errno.{errno_number};
+ghost use Rattle.dt_rv64.specs.Effects.{answered};
+
+use dt_base::{End, Errno, Event};
+use dt_rv64::Machine;
+use std::alloc::Global;
+
+/// What becomes of a process whose stop was served.
+#[derive(Clone, Copy, Debug)]
+pub enum Outcome {
+    /// It goes on.
+    Done,
+    /// It ends.
+    Ends(End),
+    /// Its call, by its number, isn't supported.
+    Unsupported(u64),
+}
+
+/// What serving a stop showed outside, and what becomes of the process.
+#[derive(Drop)]
+pub struct Effect {
+    pub events: Vec<Event>,
+    pub outcome: Outcome,
+}
+
+impl Effect {
+    /// Nothing shows.
+    pub fn quiet(alloc: Global, outcome: Outcome) -> Self
+        ensures events { result.events.items ≡ [] }
+        ensures outcome { result.outcome ≡ outcome }
+    {
+        Effect {
+            events: Vec::new(alloc),
+            outcome,
+        }
+    }
+
+    /// The call is done, and answers a number.
+    pub fn done(alloc: Global, machine: &mut Machine, value: u64) -> Self
+        ensures machine { machine.new ≡ answered machine.old value }
+        ensures events { result.events.items ≡ [] }
+        ensures outcome { result.outcome ≡ Outcome.Done }
+    {
+        machine.answer(value);
+        Effect::quiet(alloc, Outcome::Done)
+    }
+
+    /// The call is refused: its answer is minus the errno.
+    pub fn refused(alloc: Global, machine: &mut Machine, errno: Errno) -> Self
+        ensures machine { machine.new ≡ answered machine.old (2 ^ 64 - errno_number errno) }
+        ensures events { result.events.items ≡ [] }
+        ensures outcome { result.outcome ≡ Outcome.Done }
+    {
+        Effect::done(alloc, machine, u64::from(errno.number()).wrapping_neg())
+    }
+}

@@ -1,0 +1,68 @@
+// Calls on a process's memory.
+ghost use Rattle.std.specs.Prelude.{◌≡◌, IfOk};
+ghost use Rattle.dt_host.specs.World.{World};
+ghost use Rattle.dt_calls.specs.MemoryCalls.{answers, brk_call, munmap_call, mmap_call, mprotect_call};
+ghost use Rattle.dt_calls.specs.InCode.{shared_of, effect_as};
+ghost use Rattle.dt_calls.specs.Sound.{IsSound};
+
+use super::{Effect, Outcome};
+use crate::shared::Shared;
+use dt_base::abi::{A0, A1, A2, A3, MMAP, MPROTECT, MUNMAP};
+use dt_base::{Answer, NoMemory};
+use dt_rv64::Machine;
+use std::alloc::Global;
+
+/// brk(2)
+#[tactic(auto, unfolding(crate::specs::MemoryCalls::brk_call))]
+pub fn brk(alloc: Global, shared: &mut Shared, machine: &mut Machine) -> Result<Effect, NoMemory>
+    ensures served { (w : World) → IfOk result (λ e. brk_call (shared_of shared.old w) machine.old
+        ≡ effect_as (shared_of shared.new w) machine.new e) }
+    ensures sound { (w : World) → IsSound shared.old w → IfOk result (λ _. IsSound shared.new w) }
+{
+    let address = machine.reg(A0);
+    let program_break = &mut shared.process.program_break;
+    let end = dt_mcalls::brk(program_break, &mut machine.space, address)?;
+    Ok(Effect::done(alloc, machine, end))
+}
+
+/// munmap(2)
+#[tactic(auto, unfolding(crate::specs::MemoryCalls::munmap_call))]
+pub fn munmap(alloc: Global, machine: &mut Machine) -> Effect
+    ensures { (c : _) → munmap_call c machine.old ≡ effect_as c machine.new result }
+{
+    let (address, len) = (machine.reg(A0), machine.reg(A1));
+    let answer = dt_mcalls::munmap(&mut machine.space, address, len);
+    answered(alloc, machine, MUNMAP, answer)
+}
+
+/// mmap(2)
+#[tactic(auto, unfolding(crate::specs::MemoryCalls::mmap_call))]
+pub fn mmap(alloc: Global, machine: &mut Machine) -> Result<Effect, NoMemory>
+    ensures { (c : _) → IfOk result (λ e. mmap_call c machine.old ≡ effect_as c machine.new e) }
+{
+    let (address, len) = (machine.reg(A0), machine.reg(A1));
+    let (prot, flags) = (machine.reg(A2), machine.reg(A3));
+    let answer = dt_mcalls::mmap(&mut machine.space, address, len, prot, flags)?;
+    Ok(answered(alloc, machine, MMAP, answer))
+}
+
+/// mprotect(2)
+#[tactic(auto, unfolding(crate::specs::MemoryCalls::mprotect_call))]
+pub fn mprotect(alloc: Global, machine: &mut Machine) -> Effect
+    ensures { (c : _) → mprotect_call c machine.old ≡ effect_as c machine.new result }
+{
+    let (address, len, prot) = (machine.reg(A0), machine.reg(A1), machine.reg(A2));
+    let answer = dt_mcalls::mprotect(&mut machine.space, address, len, prot);
+    answered(alloc, machine, MPROTECT, answer)
+}
+
+// Gives the answer of a call of this number.
+fn answered(alloc: Global, machine: &mut Machine, number: u64, answer: Answer) -> Effect
+    ensures { (c : _) → answers c machine.old number answer ≡ effect_as c machine.new result }
+{
+    match answer {
+        Answer::Value(value) => Effect::done(alloc, machine, value),
+        Answer::Refused(errno) => Effect::refused(alloc, machine, errno),
+        Answer::Unsupported => Effect::quiet(alloc, Outcome::Unsupported(number)),
+    }
+}

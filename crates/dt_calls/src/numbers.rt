@@ -1,0 +1,7 @@
+//! The first process's number, and how many descriptors a process may have.
+
+/// The virtual pid of a run's first process (pid_namespaces(7)).
+pub const FIRST_PID: u32 = 1;
+
+/// How many descriptors a process may have open (getrlimit(2), RLIMIT_NOFILE).
+pub const DESCRIPTOR_LIMIT: usize = 64;

@@ -1,0 +1,26 @@
+use Rattle.std.proofs.Common.{◌<◌, ◌≤◌, ◌∙◌, sym, append-nil, arith}
+use Rattle.dt_elf.specs.Header.{e_phnum}
+use Rattle.dt_elf.proofs.Headers.{loads-start, loads-next, loads-passed, loads-end, table-keep}
+use Rattle.dt_elf.proofs.elf.read_segments.Goals as goal
+use Rattle.dt_elf.proofs.elf.read_segments.Goals.{then-loads, else-loads}
+
+pub loop-index-init : goal.loop-index-init
+loop-index-init c = (omega arith, omega arith, loads-start c.args.bytes.now)
+
+pub loop-index-preserved : goal.loop-index-preserved
+loop-index-preserved c =
+    let lt : c.loop-index.index < e_phnum c.args.bytes.now = rw (← c.phnum-index-end.ensures) c.loop-index-test.true in
+    let bytes = c.args.bytes.now in
+    elim c.if-loads.branch [
+      | then-loads w ↦
+          let next = loads-next bytes c.loop-index.index c.read_header-header.result lt c.read_header-header.ensures (sym c.loads.ensures ∙ w.if-loads.true) in
+          (c.if-loads.array_long, omega (arith, w.count-is), rw (w.table-is, w.count-is, w.segment.ensures) (table-keep c.loop-index.table c.loop-index.count _ _ _ _ (omega arith) c.loop-index.invariant.2 next))
+      | else-loads w ↦
+          let next = loads-passed bytes c.loop-index.index c.read_header-header.result lt c.read_header-header.ensures (sym c.loads.ensures ∙ w.if-loads.false) in
+          (c.if-loads.array_long, omega (arith, w.count-is), rw (w.table-is, w.count-is) (rw next at c.loop-index.invariant.2))
+    ]
+
+pub returns-clause-loaded : goal.returns-clause-loaded
+returns-clause-loaded c =
+    let all : e_phnum c.args.bytes.now ≤ c.loop-index.index = rw (← c.phnum-index-end.ensures) c.loop-index-test.false in
+    sym (append-nil _) ∙ (rw (loads-end c.args.bytes.now c.loop-index.index all) at c.loop-index.invariant.2)

@@ -1,0 +1,27 @@
+// Whole pages, of which each call changes some.
+ghost use Rattle.std.specs.Prelude.{◌≡◌};
+ghost use Rattle.dt_mcalls.specs.Lengths.{is_page_start, whole_pages, ends_past};
+
+use dt_base::{ADDRESS_LIMIT, PAGE_SIZE};
+
+/// Whether an address is that of a page.
+pub fn is_page_start(address: u64) -> bool
+    ensures { result ≡ is_page_start address }
+{
+    address % PAGE_SIZE == 0
+}
+
+/// How many whole pages so many bytes take.
+pub fn whole_pages(bytes: u64) -> u64
+    ensures { result ≡ whole_pages bytes }
+{
+    bytes.div_ceil(PAGE_SIZE)
+}
+
+/// Whether a range of pages ends past all that a process can have.
+pub fn ends_past(first: u64, count: u64) -> bool
+    ensures { result ≡ ends_past first count }
+{
+    const PAGE_NUMBERS: u64 = ADDRESS_LIMIT / PAGE_SIZE;
+    count > PAGE_NUMBERS || first > PAGE_NUMBERS - count
+}
