@@ -11,5 +11,5 @@ bench:
 	mkdir -p bench/out
 	rustc --edition 2024 -O -o bench/out/plain bench/plain.rs
 	sh bench/compare.sh crates/dt_bench/out/dt_bench bench/out/plain
-	sh bench/best.sh crates/dt_bench_tree/out/dt_bench_tree 3
+	sh bench/best.sh crates/dt_bench_tree/out/dt_bench_tree 7
 	sh bench/best.sh crates/dt_bench_memory/out/dt_bench_memory 5

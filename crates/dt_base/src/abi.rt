@@ -28,7 +28,31 @@ pub const A5: u8 = 15;
 /// The register of a call's number, a7.
 pub const A7: u8 = 17;
 
-/// openat(2), by its number (asm-generic/unistd.h, as all numbers of calls here).
+/// getcwd(2), by its number (asm-generic/unistd.h, as all numbers of calls here).
+pub const GETCWD: u64 = 17;
+
+/// mkdirat(2)
+pub const MKDIRAT: u64 = 34;
+
+/// unlinkat(2)
+pub const UNLINKAT: u64 = 35;
+
+/// symlinkat(2)
+pub const SYMLINKAT: u64 = 36;
+
+/// linkat(2)
+pub const LINKAT: u64 = 37;
+
+/// faccessat(2)
+pub const FACCESSAT: u64 = 48;
+
+/// chdir(2)
+pub const CHDIR: u64 = 49;
+
+/// fchmodat(2)
+pub const FCHMODAT: u64 = 53;
+
+/// openat(2)
 pub const OPENAT: u64 = 56;
 
 /// close(2)
@@ -40,11 +64,20 @@ pub const READ: u64 = 63;
 /// write(2)
 pub const WRITE: u64 = 64;
 
+/// readlinkat(2)
+pub const READLINKAT: u64 = 78;
+
+/// newfstatat(2)
+pub const NEWFSTATAT: u64 = 79;
+
 /// exit(2)
 pub const EXIT: u64 = 93;
 
 /// exit_group(2)
 pub const EXIT_GROUP: u64 = 94;
+
+/// umask(2)
+pub const UMASK: u64 = 166;
 
 /// brk(2)
 pub const BRK: u64 = 214;
@@ -57,6 +90,9 @@ pub const MMAP: u64 = 222;
 
 /// mprotect(2)
 pub const MPROTECT: u64 = 226;
+
+/// renameat2(2)
+pub const RENAMEAT2: u64 = 276;
 
 /// All rights that a page may be asked for: PROT_READ, PROT_WRITE and PROT_EXEC (mmap(2)).
 pub const PROT_ALL: u32 = 7;
@@ -78,6 +114,27 @@ pub const MAP_STACK: u64 = 0x2_0000;
 
 /// The dirfd that stands for the working directory (openat(2)).
 pub const AT_FDCWD: i32 = -100;
+
+/// A link that is the last name is not followed (fcntl.h, as all flags that begin with AT).
+pub const AT_SYMLINK_NOFOLLOW: u32 = 0x100;
+
+/// A directory is removed, and nothing else (unlinkat(2)).
+pub const AT_REMOVEDIR: u32 = 0x200;
+
+/// A link that is the last name is followed (linkat(2)).
+pub const AT_SYMLINK_FOLLOW: u32 = 0x400;
+
+/// No file system is mounted at the end of the path (there is none to be mounted).
+pub const AT_NO_AUTOMOUNT: u32 = 0x800;
+
+/// An empty path stands for the dirfd itself.
+pub const AT_EMPTY_PATH: u32 = 0x1000;
+
+/// Nothing may have the new name (renameat2(2)).
+pub const RENAME_NOREPLACE: u32 = 1;
+
+/// All that access may be asked for: R_OK, W_OK and X_OK (faccessat(2)).
+pub const ACCESS_ALL: u32 = 7;
 
 /// An illegal instruction (signal(7), as all numbers of signals here).
 pub const SIGILL: u8 = 4;

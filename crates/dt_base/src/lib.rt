@@ -4,6 +4,7 @@
 pub mod abi;
 mod answer;
 mod blob;
+mod caller;
 mod command;
 mod errno;
 mod event;
@@ -16,6 +17,7 @@ mod refusal;
 
 pub use answer::Answer;
 pub use blob::{Blob, Text};
+pub use caller::Caller;
 pub use command::Command;
 pub use errno::Errno;
 pub use event::{End, Event, Verdict};

@@ -6,11 +6,12 @@ pub const PAGE_SIZE: u64 = 4096;
 /// Pages of a process.
 pub const PAGE_LIMIT: u64 = 16_384;
 
-/// The first address past those that a process can have: they have 38 bits, the user half of Sv39 (RISC-V privileged
-/// specification, "Sv39").
+/// The first address past those that a process can have: they have 38 bits, the user half of Sv39
+/// (RISC-V privileged specification, "Sv39").
 pub const ADDRESS_LIMIT: u64 = 0x40_0000_0000;
 
-/// The first address at which a mapping may be put that asks for none (mmap(2)); the segments of a program end below it.
+/// The first address at which a mapping may be put that asks for none (mmap(2)); the segments of a program end at it or
+/// below.
 pub const MMAP_START: u64 = 0x20_0000_0000;
 
 /// Steps of a segment, the stopping step included.

@@ -3,7 +3,7 @@ ghost use Rattle.std.specs.Prelude.{◌≡◌, ◌≤◌, ◌<◌};
 
 use crate::done;
 use crate::image::image;
-use crate::timed::{install, listing, walking};
+use crate::timed::{install, listing, making, removing, renaming, unlinking, walking};
 use dt_base::{ENTRY_LIMIT, Image, NoMemory};
 use dt_walk::LINK_LIMIT;
 use std::alloc::Global;
@@ -21,6 +21,14 @@ pub enum Figure {
     Listing,
     /// A walk through so many links.
     Walk,
+    /// So many files of a directory that are made, one by one.
+    Making,
+    /// So many files of a directory that get other names.
+    Renaming,
+    /// So many files of a directory that go.
+    Removing,
+    /// The last of so many directories that goes, each in the one before.
+    Unlinking,
 }
 
 impl Figure {
@@ -30,10 +38,14 @@ impl Figure {
             Figure::Install => "install of files",
             Figure::Listing => "listing of names",
             Figure::Walk => "walk of links",
+            Figure::Making => "making of files",
+            Figure::Renaming => "renaming of files",
+            Figure::Removing => "removal of files",
+            Figure::Unlinking => "unlink below directories",
         }
     }
 
-    // A size, and about four times as much.
+    // A size, and about four times or twice as much.
     fn sizes(self) -> (u64, u64)
         ensures small { result.0 ≤ ENTRY_LIMIT }
         ensures large { result.1 ≤ ENTRY_LIMIT }
@@ -42,6 +54,8 @@ impl Figure {
             Figure::Install => (1_023, ENTRY_LIMIT),
             Figure::Listing => (1_000, 4_000),
             Figure::Walk => (10, u64::from(LINK_LIMIT)),
+            Figure::Making | Figure::Renaming | Figure::Removing => (2_000, 4_000),
+            Figure::Unlinking => (500, 1_000),
         }
     }
 
@@ -50,6 +64,8 @@ impl Figure {
         match self {
             Figure::Install | Figure::Listing => "4.80",
             Figure::Walk => "6.41",
+            Figure::Making | Figure::Renaming | Figure::Removing => "2.18",
+            Figure::Unlinking => "2.22",
         }
     }
 
@@ -60,15 +76,22 @@ impl Figure {
         match self {
             Figure::Install | Figure::Listing => image(alloc, size, 0),
             Figure::Walk => image(alloc, size.min(u64::from(LINK_LIMIT)) + 1, size),
+            _ => image(alloc, 0, 0),
         }
     }
 
     // The time of one run, in nanoseconds.
-    fn time(self, rt: &HostRuntime, image: &Image) -> io::Result<u128> {
+    fn time(self, rt: &HostRuntime, image: &Image, size: u64) -> io::Result<u128>
+        requires { size ≤ ENTRY_LIMIT }
+    {
         match self {
             Figure::Install => install(rt, image),
             Figure::Listing => listing(rt, image),
             Figure::Walk => walking(rt, image),
+            Figure::Making => making(rt, size),
+            Figure::Renaming => renaming(rt, size),
+            Figure::Removing => removing(rt, size),
+            Figure::Unlinking => unlinking(rt, size),
         }
     }
 
@@ -79,7 +102,7 @@ impl Figure {
         let image = done(self.image(rt.alloc(), size))?;
         let mut best = u128::MAX;
         for _ in 0..RUNS {
-            best = best.min(self.time(rt, &image)?);
+            best = best.min(self.time(rt, &image, size)?);
         }
         Ok(best)
     }

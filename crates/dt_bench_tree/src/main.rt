@@ -1,8 +1,9 @@
-//! Measures how the times of a tree grow: an install, a listing and a walk, each at two sizes.
+//! Measures how the times of a tree grow: an install, a listing, a walk and changes, each at two sizes.
 #![tactic(auto)]
 
 ghost use Rattle.std.specs.Prelude.{◌≡◌, Ok, IsErr, MatchResult};
 
+mod change;
 mod figure;
 mod image;
 mod timed;
@@ -27,7 +28,11 @@ fn main(rt: HostRuntime) -> io::Result<()> {
 fn measure(rt: &HostRuntime) -> io::Result<()> {
     print(rt, Figure::Install)?;
     print(rt, Figure::Listing)?;
-    print(rt, Figure::Walk)
+    print(rt, Figure::Walk)?;
+    print(rt, Figure::Making)?;
+    print(rt, Figure::Renaming)?;
+    print(rt, Figure::Removing)?;
+    print(rt, Figure::Unlinking)
 }
 
 // What a call comes to that fails: its host fails at none, so memory was short.

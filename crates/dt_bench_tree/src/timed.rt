@@ -1,11 +1,12 @@
 // One run of what is timed, in nanoseconds.
-ghost use Rattle.std.specs.Prelude.{◌↔◌, IfOk, IsOk, IsTrue};
+ghost use Rattle.std.specs.Prelude.{◌↔◌, ◌≤◌, IfOk, IsOk, IsTrue};
 ghost use Rattle.dt_host.specs.World.{IsEmptyStart};
 ghost use Rattle.dt_tree.specs.Table.{Stands};
 
+use crate::change::{make_depth, make_files, remove, remove_files, rename_files};
 use crate::done;
 use crate::image::numbered;
-use dt_base::{Image, NoMemory};
+use dt_base::{ENTRY_LIMIT, Image, NoMemory};
 use dt_host::{CallErr, HostErr};
 use dt_memhost::{MemHost, Picker};
 use dt_tree::{ROOT, Tree};
@@ -51,6 +52,66 @@ pub fn walking(rt: &HostRuntime, image: &Image) -> io::Result<u128> {
     let nanos = start.elapsed(rt)?.as_nanos();
     expect(node == Some(ROOT + image.entries().len() as u64))?;
     Ok(nanos / u128::from(WALKS))
+}
+
+/// The time in which so many files are made.
+pub fn making(rt: &HostRuntime, size: u64) -> io::Result<u128>
+    requires { size ≤ ENTRY_LIMIT }
+{
+    let alloc = rt.alloc();
+    let mut host = done(host(alloc))?;
+    let mut tree = done(Tree::new(alloc, &mut host))?;
+    let start = Instant::now(rt)?;
+    done(make_files(alloc, &mut host, &mut tree, size))?;
+    Ok(start.elapsed(rt)?.as_nanos())
+}
+
+/// The time in which so many files get other names.
+pub fn renaming(rt: &HostRuntime, size: u64) -> io::Result<u128>
+    requires { size ≤ ENTRY_LIMIT }
+{
+    let alloc = rt.alloc();
+    let mut host = done(host(alloc))?;
+    let mut tree = done(Tree::new(alloc, &mut host))?;
+    done(make_files(alloc, &mut host, &mut tree, size))?;
+    let start = Instant::now(rt)?;
+    done(rename_files(alloc, &mut host, &mut tree, size))?;
+    Ok(start.elapsed(rt)?.as_nanos())
+}
+
+/// The time in which so many files go.
+pub fn removing(rt: &HostRuntime, size: u64) -> io::Result<u128>
+    requires { size ≤ ENTRY_LIMIT }
+{
+    let alloc = rt.alloc();
+    let mut host = done(host(alloc))?;
+    let mut tree = done(Tree::new(alloc, &mut host))?;
+    done(make_files(alloc, &mut host, &mut tree, size))?;
+    let start = Instant::now(rt)?;
+    done(remove_files(alloc, &mut host, &mut tree, size))?;
+    Ok(start.elapsed(rt)?.as_nanos())
+}
+
+/// The time in which the last of so many directories goes, each of which stands in the one before.
+pub fn unlinking(rt: &HostRuntime, depth: u64) -> io::Result<u128> {
+    let alloc = rt.alloc();
+    let mut host = done(host(alloc))?;
+    let mut tree = done(Tree::new(alloc, &mut host))?;
+    done(make_depth(alloc, &mut host, &mut tree, depth))?;
+    let path = done(deep_path(alloc, depth))?;
+    let start = Instant::now(rt)?;
+    done(remove(alloc, &mut host, &mut tree, path.as_slice()))?;
+    Ok(start.elapsed(rt)?.as_nanos())
+}
+
+// The path of the last of so many directories.
+fn deep_path(alloc: Global, depth: u64) -> Result<Vec<u8>, NoMemory> {
+    let mut path = Vec::new(alloc);
+    for _ in 0..depth {
+        path.push(b'/')?;
+        path.push(b'd')?;
+    }
+    Ok(path)
 }
 
 // A host that chooses by a stream of words, and fails at no call.

@@ -11,7 +11,8 @@ use Rattle.dt_calls.specs.declared.descriptors.Description.{Description}
 use Rattle.dt_calls.specs.declared.descriptors.Description.TheVariants.{File, Directory}
 use Rattle.dt_calls.specs.Container.{Shared}
 use Rattle.dt_calls.specs.Descriptors.{Table, description_at, lowest_free, is_full, opened, with_description}
-use Rattle.dt_calls.specs.FileCalls.{start_dir, opened_node, opened_at, opened_from, opened_path}
+use Rattle.dt_calls.specs.FileCalls.{opened_node, opened_at, opened_from, opened_path}
+use Rattle.dt_fcalls.specs.Arguments.{start_of}
 use Rattle.dt_calls.specs.Launch.{executed, program_of}
 use Rattle.dt_calls.specs.Lookup.{lookup}
 use Rattle.dt_calls.specs.declared.shared.Shared.{Shared as SharedInCode}
@@ -72,7 +73,9 @@ opened_node-in v n None d at is = cc
 opened_node-in v n (Some (file bytes)) d at is =
     let same : File n 0 ≡ d = cc in
     subst (λ x. IsIn v (Some x)) same (subst (λ found. IsSome (option_and_then file_bytes found)) (sym at) refl)
-opened_node-in v n (Some (dir names)) d at is = let same : Directory n ≡ d = cc in subst (λ x. IsIn v (Some x)) same tt
+opened_node-in v n (Some (dir names)) d at is =
+    let same : Directory n ≡ d = cc in
+    subst (λ x. IsIn v (Some x)) same (subst (λ found. IsSome (option_and_then dir_names found)) (sym at) refl)
 opened_node-in v n (Some (link target)) d at is = cc
 
 opened_at-in : (v : Forest) (found : Result (Option ℕ) Errno) (d : Description) → opened_at v found ≡ Ok d → IsIn v (Some d)
@@ -89,9 +92,9 @@ pub opened_path-in : (c : Shared) (dirfd : ℕ) (path : Result (List ℕ) Errno)
 opened_path-in c dirfd (Err errno) d is = cc
 opened_path-in c dirfd (Ok path) d is = by_full (is_full c.files) is
   where
-    by_full : (b : Bool) → cond b (Err MFile) (opened_from c.tree.shape path (start_dir dirfd path)) ≡ Ok d → IsIn c.tree.shape (Some d)
+    by_full : (b : Bool) → cond b (Err MFile) (opened_from c.tree.shape path (start_of c.process.caller.cwd dirfd path)) ≡ Ok d → IsIn c.tree.shape (Some d)
     by_full true is = cc
-    by_full false is = opened_from-in c.tree.shape path (start_dir dirfd path) d is
+    by_full false is = opened_from-in c.tree.shape path (start_of c.process.caller.cwd dirfd path) d is
 
 module _ (v : Forest) where
   -- a table of which all is in the tree, with one that is at some index
@@ -122,10 +125,6 @@ module _ (v : Forest) where
   -- an open file is one of the tree
   pub file-at : (table : Table) (i n offset : ℕ) → AllIn v table → description_at table i ≡ Some (File n offset) → IsFile v n
   file-at table i n offset all is = in-at table i (File n offset) all is
-
--- with other open files that are in the tree, and a host that is as it was
-pub sound-files : (c : SharedInCode) (files : Table) (w now : World) → now ≡ w → IsSound c w → AllIn (shape_of c.tree w.forest) files → IsSound (record c { files = files }) now
-sound-files c files w now same sound all = subst (IsSound (record c { files = files })) (sym same) (record { stands = sound.stands; opens = all })
 
 -- the first machine of a node that is a file
 pub executed-file : (v : Forest) (n : ℕ) (given : Invocation) → IsFile v n → program_of given (content v n) ≡ executed given (file_at v n)

@@ -24,7 +24,11 @@ use Rattle.dt_calls.specs.declared.descriptors.Description.TheVariants.{Input, S
 use Rattle.dt_calls.specs.Container.{Shared}
 use Rattle.dt_calls.specs.Descriptors.{description_at}
 use Rattle.dt_calls.specs.Effect.{Effect, quiet}
-use Rattle.dt_calls.specs.FileCalls.{descriptor, path_at, opened_path, opens, open_call, closes, close_call, received, reads, read_call, stream_written, writes, write_call}
+use Rattle.dt_calls.specs.FileCalls.{descriptor, opened_path, opens, open_call, closes, close_call, received, reads, read_call, stream_written, writes, write_call}
+use Rattle.dt_fcalls.specs.Arguments.{path_argument}
+use Rattle.dt_fcalls.specs.Calls.{file_row}
+use Rattle.dt_fcalls.specs.Scene.{Scene}
+use Rattle.dt_calls.specs.TreeCalls.{arguments, scene_of, with_scene, tree_call}
 use Rattle.dt_calls.specs.MemoryCalls.{answers, brk_call, munmap_call, mmap_call, mprotect_call}
 use Rattle.dt_calls.specs.Call.{exit_call, call_of, served}
 
@@ -45,7 +49,7 @@ module _ (c : Shared) (m : Machine) where
   unfolding open_call
   open_call-keeps =
       keeps_if (low_word (register m A2) == 0) _ (quiet c m (Unsupported OPENAT))
-      (opens-keeps (opened_path c (register m A0) (path_at m.space (register m A1)))) refl
+      (opens-keeps (opened_path c (register m A0) (path_argument m.space (register m A1)))) refl
 
   closes-keeps : (found : Option Description) → Keeps (closes c m found)
   closes-keeps None = refl
@@ -96,6 +100,11 @@ module _ (c : Shared) (m : Machine) where
   answers-keeps n number (answer.Refused errno) = refl
   answers-keeps n number answer.Unsupported = refl
 
+  left-keeps : (number : ℕ) (s : Scene) (found : Answer) → (let r = answers (with_scene c s) (record m { space = s.space }) number found in r.shared.process.end) ≡ c.process.end
+  left-keeps number s (answer.Value value) = refl
+  left-keeps number s (answer.Refused errno) = refl
+  left-keeps number s answer.Unsupported = refl
+
   munmap_call-keeps : Keeps (munmap_call c m)
   unfolding munmap_call
   munmap_call-keeps = let r = munmap_of m.space (register m A0) (register m A1) in answers-keeps (record m { space = r.pages }) MUNMAP r.answer
@@ -112,6 +121,12 @@ module _ (c : Shared) (m : Machine) where
       let r = mprotect_of m.space (register m A0) (register m A1) (register m A2) in
       answers-keeps (record m { space = r.pages }) MPROTECT r.answer
 
+  tree_call-keeps : (number : ℕ) → Keeps (tree_call number c m)
+  unfolding tree_call
+  tree_call-keeps number =
+      let r = file_row number (arguments m) (scene_of c m) in
+      left-keeps number r.next r.answer
+
   call_of-keeps : (number : ℕ) → Keeps (call_of number c m)
   unfolding call_of exit_call
   call_of-keeps number =
@@ -123,7 +138,7 @@ module _ (c : Shared) (m : Machine) where
       (keeps_if (number == BRK) (brk_call c m) _ brk_call-keeps
       (keeps_if (number == MUNMAP) (munmap_call c m) _ munmap_call-keeps
       (keeps_if (number == MMAP) (mmap_call c m) _ mmap_call-keeps
-      (keeps_if (number == MPROTECT) (mprotect_call c m) (quiet c m (Unsupported number)) mprotect_call-keeps refl))))))))
+      (keeps_if (number == MPROTECT) (mprotect_call c m) _ mprotect_call-keeps (tree_call-keeps number)))))))))
 
   pub served-keeps : (stop : Stop) → Keeps (served c m stop)
   unfolding served

@@ -7,10 +7,11 @@ use Rattle.dt_rv64.specs.declared.machine.Machine.{Machine}
 use Rattle.dt_rv64.specs.declared.segments.Stop.{Stop}
 use Rattle.dt_rv64.specs.declared.segments.Stop.TheVariants.{Call, Counter, Slice, Fault}
 use Rattle.dt_rv64.specs.Effects.{register}
-use Rattle.dt_calls.specs.declared.call.effect.Outcome.TheVariants.{Done, Ends, Unsupported}
+use Rattle.dt_calls.specs.declared.call.effect.Outcome.TheVariants.{Done, Ends}
 use Rattle.dt_calls.specs.Container.{Shared}
 use Rattle.dt_calls.specs.Effect.{Effect, quiet, reads_counter}
 use Rattle.dt_calls.specs.FileCalls.{open_call, close_call, read_call, write_call}
+use Rattle.dt_calls.specs.TreeCalls.{tree_call}
 use Rattle.dt_calls.specs.MemoryCalls.{brk_call, munmap_call, mmap_call, mprotect_call}
 
 -- exit(2) and exit_group(2): the process ends with a code
@@ -29,7 +30,7 @@ call_of number c m =
     else if number == MUNMAP then munmap_call c m
     else if number == MMAP then mmap_call c m
     else if number == MPROTECT then mprotect_call c m
-    else quiet c m (Unsupported number)
+    else tree_call number c m
 
 -- a call is served by its number, a counter is read, a fault's signal ends the process, and at the end of a slice it goes on
 unfoldable pub served : Shared → Machine → Stop → Effect

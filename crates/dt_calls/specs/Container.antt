@@ -2,13 +2,16 @@
 use Rattle.std.specs.Prelude.{ℕ, List, [], Option, None}
 use Rattle.dt_base.specs.declared.event.Event.{Event}
 use Rattle.dt_rv64.specs.declared.machine.Machine.{Machine}
+use Rattle.dt_tree.specs.declared.limits.TheConstants.{ROOT}
 use Rattle.dt_tree.specs.FileTree.{FileTree}
+use Rattle.dt_tree.specs.Changes.{held}
 use Rattle.dt_virt.specs.Words.{Seeded, seeded_by}
 use Rattle.dt_mcalls.specs.declared.program_break.Break.{Break}
+use Rattle.dt_calls.specs.declared.numbers.TheConstants.{FIRST_UMASK}
 use Rattle.dt_calls.specs.declared.shared.Process.{Process}
 use Rattle.dt_calls.specs.Descriptors.{Table, first_table}
 
--- all of a container but its machines: the file tree, the open files of the one process, its break and its end, the logical
+-- all of a container but its machines: the file tree, the open files of the one process, what others see of it, the logical
 -- time, and the seed's words
 pub record Shared : Type 0 where
   pub tree : FileTree
@@ -27,14 +30,18 @@ pub record Container : Type 0 where
 abbrev pub with_break : Shared → Break → Shared
 with_break c program_break = record c { process = record c.process { program_break = program_break } }
 
--- a process that has no program yet: it has no data, and has not ended
+-- a process that has no program yet: its working directory is the root, it has no data, and has not ended
 abbrev pub first_process : Process
-first_process = record { program_break = record { start = 0; end = 0 }; end = None }
+first_process = record {
+  caller = record { cwd = ROOT; umask = FIRST_UMASK };
+  program_break = record { start = 0; end = 0 };
+  end = None;
+}
 
--- what a process finds that starts on a tree: no time has passed
+-- what a process finds that starts on a tree: it holds its working directory, and no time has passed
 abbrev pub first_shared : FileTree → ℕ → Shared
 first_shared t seed = record {
-  tree = t;
+  tree = held t ROOT;
   files = first_table;
   process = first_process;
   clock = 0;

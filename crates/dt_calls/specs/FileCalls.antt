@@ -1,51 +1,31 @@
 -- The system calls on files: openat(2), close(2), read(2), write(2).
-use Rattle.std.specs.Prelude.{ℕ, ◌+◌, ◌==◌, ◌||◌, suc, List, [], ◌∷◌, length, take, drop, Option, Some, None, Result, Ok, Err, if◌then◌else◌}
-use Rattle.std.specs.Ordering.{int_eq}
-use Rattle.dt_base.specs.declared.abi.TheConstants.{A0, A1, A2, OPENAT, AT_FDCWD}
-use Rattle.dt_base.specs.declared.limits.TheConstants.{PATH_LIMIT}
-use Rattle.dt_base.specs.Abi.{low_word, signed_word, byte_count}
+use Rattle.std.specs.Prelude.{ℕ, ◌+◌, ◌==◌, List, [], ◌∷◌, length, take, drop, Option, Some, None, Result, Ok, Err, if◌then◌else◌}
+use Rattle.dt_base.specs.declared.abi.TheConstants.{A0, A1, A2, OPENAT}
+use Rattle.dt_base.specs.Abi.{low_word, byte_count}
 use Rattle.dt_base.specs.declared.errno.Errno.{Errno}
-use Rattle.dt_base.specs.declared.errno.Errno.TheVariants.{NoEnt, BadF, MFile, IsDir, NameTooLong, Loop, Fault as BadAddress}
+use Rattle.dt_base.specs.declared.errno.Errno.TheVariants.{NoEnt, BadF, MFile, IsDir, Loop, Fault as BadAddress}
 use Rattle.dt_base.specs.declared.event.Event.{Event}
 use Rattle.dt_base.specs.declared.event.Event.TheVariants.{Out}
 use Rattle.dt_host.specs.World.{Forest, Node, file, dir, link, node_at, content}
-use Rattle.dt_tree.specs.declared.limits.TheConstants.{ROOT}
-use Rattle.dt_base.specs.Path.{begins_with_slash}
 use Rattle.dt_rv64.specs.declared.machine.Machine.{Machine}
 use Rattle.dt_rv64.specs.Effects.{register, answered}
 use Rattle.dt_space.specs.declared.access.Miss.{Miss}
 use Rattle.dt_space.specs.declared.access.TheConstants.{READ}
 use Rattle.dt_space.specs.Space.{PageView, load}
 use Rattle.dt_space.specs.Write.{stored}
-use Rattle.dt_space.specs.declared.access.TextErr.{TextErr}
-use Rattle.dt_space.specs.declared.access.TextErr.TheVariants as text_err
-use Rattle.dt_space.specs.Text.{text_at}
 use Rattle.dt_calls.specs.declared.call.effect.Outcome.TheVariants.{Done, Unsupported}
 use Rattle.dt_calls.specs.Container.{Shared}
 use Rattle.dt_calls.specs.declared.descriptors.Description.{Description}
 use Rattle.dt_calls.specs.declared.descriptors.Description.TheVariants.{Input, Stream, File, Directory}
 use Rattle.dt_calls.specs.Descriptors.{description_at, lowest_free, is_full, with_description, opened}
+use Rattle.dt_fcalls.specs.Arguments.{path_argument, start_of}
+use Rattle.dt_calls.specs.Holds.{node_of, with_hold, without_hold}
 use Rattle.dt_calls.specs.Lookup.{lookup}
 use Rattle.dt_calls.specs.Effect.{Effect, quiet, done, refused}
 
 -- the descriptor that a call is about
 abbrev pub descriptor : Machine → ℕ
 descriptor m = low_word (register m A0)
-
--- a path that was read from memory, or why there is none: it may not be empty. Without a miss the only error of a text is its length
-abbrev pub path_of : Result (List ℕ) TextErr → Result (List ℕ) Errno
-path_of (Ok []) = Err NoEnt
-path_of (Ok (byte ∷ bytes)) = Ok (byte ∷ bytes)
-path_of (Err (text_err.Miss miss)) = Err BadAddress
-path_of (Err error) = Err NameTooLong
-
--- the path that a call is handed: 4,095 bytes at most
-abbrev pub path_at : List PageView → ℕ → Result (List ℕ) Errno
-path_at pages address = path_of (text_at pages address (suc PATH_LIMIT))
-
--- where a path is looked up that doesn't begin with `/`: in the working directory, which is the root. No other directory is one yet
-abbrev pub start_dir : ℕ → List ℕ → Result ℕ Errno
-start_dir dirfd path = if begins_with_slash path || int_eq (signed_word dirfd) AT_FDCWD then Ok ROOT else Err BadF
 
 -- what a node is opened as: a file, which is read from its start, or a directory; a link that was not followed is refused
 abbrev pub opened_node : ℕ → Option Node → Result Description Errno
@@ -68,24 +48,40 @@ opened_from v path (Ok start) = opened_at v (lookup v start path)
 -- what a path is opened as, where a descriptor is free
 abbrev pub opened_path : Shared → ℕ → Result (List ℕ) Errno → Result Description Errno
 opened_path c dirfd (Err errno) = Err errno
-opened_path c dirfd (Ok path) = if is_full c.files then Err MFile else opened_from c.tree.shape path (start_dir dirfd path)
+opened_path c dirfd (Ok path) =
+    if is_full c.files then Err MFile
+    else opened_from c.tree.shape path (start_of c.process.caller.cwd dirfd path)
 
--- a description comes under the lowest free descriptor, whose number is the answer
+-- with a description under the lowest free descriptor, which holds its node
+abbrev pub with_opened : Shared → Description → Shared
+with_opened c description = record c {
+  tree = with_hold c.tree (node_of (Some description));
+  files = opened c.files description;
+}
+
+-- a description is opened, and its descriptor is the answer
 abbrev pub opens : Shared → Machine → Result Description Errno → Effect
 opens c m (Err errno) = refused c m errno
-opens c m (Ok description) = done (record c { files = opened c.files description }) m (lowest_free c.files)
+opens c m (Ok description) = done (with_opened c description) m (lowest_free c.files)
 
 -- openat(2) without flags, of what is there
 unfoldable pub open_call : Shared → Machine → Effect
 open_call c m =
     if low_word (register m A2) == 0
-    then opens c m (opened_path c (register m A0) (path_at m.space (register m A1)))
+    then opens c m (opened_path c (register m A0) (path_argument m.space (register m A1)))
     else quiet c m (Unsupported OPENAT)
+
+-- without the description of an open descriptor, which holds its node no longer
+abbrev pub without_opened : Shared → ℕ → Description → Shared
+without_opened c n description = record c {
+  tree = without_hold c.tree (node_of (Some description));
+  files = with_description c.files n None;
+}
 
 -- a descriptor that is open is closed
 abbrev pub closes : Shared → Machine → Option Description → Effect
 closes c m None = refused c m BadF
-closes c m (Some description) = done (record c { files = with_description c.files (descriptor m) None }) m 0
+closes c m (Some description) = done (without_opened c (descriptor m) description) m 0
 
 -- close(2)
 unfoldable pub close_call : Shared → Machine → Effect

@@ -23,7 +23,13 @@ pub record ContainerView : Type 0 where
 
 -- what is shared
 abbrev pub shared_of : SharedInCode → World → Shared
-shared_of c w = record { tree = tree_of c.tree w.forest; files = c.files; process = c.process; clock = c.clock; rand = c.rand }
+shared_of c w = record {
+  tree = tree_of c.fs.tree w.forest;
+  files = c.files;
+  process = c.process;
+  clock = c.fs.clock;
+  rand = c.rand;
+}
 
 -- a container
 abbrev pub container_of : ContainerView → World → Container

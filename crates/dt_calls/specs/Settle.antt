@@ -9,7 +9,9 @@ use Rattle.dt_calls.specs.declared.call.effect.Outcome.TheVariants as outcome
 use Rattle.dt_calls.specs.declared.container.Served.{Served}
 use Rattle.dt_calls.specs.declared.container.Served.TheVariants.{Done, Ended, Unsupported}
 use Rattle.dt_calls.specs.Container.{Shared, Container}
+use Rattle.dt_tree.specs.Changes.{released}
 use Rattle.dt_calls.specs.Descriptors.{last_table}
+use Rattle.dt_calls.specs.Holds.{without_holds}
 use Rattle.dt_calls.specs.Effect.{Effect}
 use Rattle.dt_calls.specs.Call.{served}
 
@@ -18,9 +20,16 @@ pub record Settled : Type 0 where
   pub container : Container
   pub served : Served
 
--- a process that ended has nothing open, and its end is kept
+-- all descriptors of a process are closed
+abbrev pub closed : Shared → Shared
+closed c = record c { tree = without_holds c.tree c.files; files = last_table }
+
+-- a process that ended has nothing open, holds its working directory no longer, and its end is kept
 abbrev pub ended : Shared → End → Shared
-ended c end = record c { files = last_table; process = record c.process { end = Some end } }
+ended c end = let left = closed c in record left {
+  tree = released left.tree left.process.caller.cwd;
+  process = record left.process { end = Some end };
+}
 
 -- a process goes on with its machine; or it ends, which shows, and its machine goes; or it stays at a call that isn't supported
 abbrev pub settle : ℕ → Effect → Outcome → Settled

@@ -1,26 +1,43 @@
 -- What is shared in code, where its host's nodes fit it.
-use Rattle.std.specs.Prelude.{[], ◌∷◌, Option, Some, None}
-use Rattle.dt_host.specs.World.{World, Forest, IsFile}
-use Rattle.dt_tree.specs.Table.{Stands, shape_of}
+use Rattle.std.specs.Prelude.{◌≡◌, ℕ, ◌+◌, [], ◌∷◌, Option, Some, None}
+use Rattle.dt_base.specs.declared.event.End.{End}
+use Rattle.dt_host.specs.World.{World, Forest, IsFile, IsDir}
+use Rattle.dt_tree.specs.FileTree.{holds_of}
+use Rattle.dt_tree.specs.Shape.{one_for}
+use Rattle.dt_tree.specs.Table.{Stands, shape_of, tree_of}
+use Rattle.dt_calls.specs.declared.shared.Process.{Process}
 use Rattle.dt_calls.specs.declared.shared.Shared.{Shared}
 use Rattle.dt_calls.specs.declared.descriptors.Description.{Description}
 use Rattle.dt_calls.specs.declared.descriptors.Description.TheVariants.{Input, Stream, File, Directory}
 use Rattle.dt_calls.specs.Descriptors.{Table}
+use Rattle.dt_calls.specs.Holds.{holds_in}
 
--- a description that names a file names one of the tree
+-- a description that names a file or a directory names one of the tree
 abbrev pub IsIn : Forest → Option Description → Type 0
 IsIn v None = Unit {0}
 IsIn v (Some Input) = Unit {0}
 IsIn v (Some (Stream stream)) = Unit {0}
 IsIn v (Some (File n offset)) = IsFile v n
-IsIn v (Some (Directory n)) = Unit {0}
+IsIn v (Some (Directory n)) = IsDir v n
 
 -- so does each description of a table
 abbrev pub AllIn : Forest → Table → Type 0
 AllIn v [] = Unit {0}
 AllIn v (found ∷ table) = IsIn v found × AllIn v table
 
--- the table of the tree stands for it, with the host's nodes, and what is open is in it
+-- how often a directory is held by a process of this end whose working directory it is: once while that lives
+abbrev pub held_while : Option End → ℕ → ℕ → ℕ
+held_while None cwd n = one_for cwd n
+held_while (Some end) cwd n = 0
+
+-- how often a process holds a node as its working directory
+abbrev pub cwd_holds : Process → ℕ → ℕ
+cwd_holds process n = held_while process.end process.caller.cwd n
+
+-- the table of the tree stands for it, with the host's nodes; what is open is in it, the working directory of a process that
+-- lives is a directory of it, and each node is held once for each description and each working directory that names it
 pub record IsSound (c : Shared) (w : World) : Type 0 where
-  pub stands : Stands c.tree w.forest
-  pub opens : AllIn (shape_of c.tree w.forest) c.files
+  pub stands : Stands c.fs.tree w.forest
+  pub opens : AllIn (shape_of c.fs.tree w.forest) c.files
+  pub cwd : c.process.end ≡ None → IsDir (shape_of c.fs.tree w.forest) c.process.caller.cwd
+  pub holds : (n : ℕ) → holds_of (tree_of c.fs.tree w.forest) n ≡ holds_in n c.files + cwd_holds c.process n

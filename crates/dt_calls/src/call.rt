@@ -1,5 +1,5 @@
 // The system calls, by their numbers.
-ghost use Rattle.std.specs.Prelude.{◌≡◌, IfOk, IsErrOf};
+ghost use Rattle.std.specs.Prelude.{◌≡◌, None, IfOk, IsErrOf};
 ghost use Rattle.dt_rv64.specs.Effects.{register};
 ghost use Rattle.dt_host.specs.Cause.{HasCause};
 ghost use Rattle.dt_host.specs.World.{World};
@@ -12,6 +12,7 @@ mod effect;
 mod files;
 mod memory;
 mod output;
+mod tree;
 
 use crate::shared::Shared;
 use dt_base::End;
@@ -33,7 +34,8 @@ pub fn serve<H: Host>(
     machine: &mut Machine,
     stop: Stop,
 ) -> Result<Effect, HostErr>
-    requires { IsSound shared.old (H.view host.old) }
+    requires sound { IsSound shared.old (H.view host.old) }
+    requires lives { shared.old.process.end ≡ None }
     ensures served { IfOk result (λ s. served (shared_of shared.old (H.view host.old)) machine.old stop
         ≡ effect_as (shared_of shared.new (H.view host.new)) machine.new s) }
     ensures sound { IfOk result (λ _. IsSound shared.new (H.view host.new)) }
@@ -55,7 +57,8 @@ fn call<H: Host>(
     shared: &mut Shared,
     machine: &mut Machine,
 ) -> Result<Effect, HostErr>
-    requires { IsSound shared.old (H.view host.old) }
+    requires sound { IsSound shared.old (H.view host.old) }
+    requires lives { shared.old.process.end ≡ None }
     ensures served { IfOk result (λ s. call_of (register machine.old A7)
         (shared_of shared.old (H.view host.old)) machine.old
         ≡ effect_as (shared_of shared.new (H.view host.new)) machine.new s) }
@@ -65,7 +68,7 @@ fn call<H: Host>(
     let _before = host.faults();
     match machine.reg(A7) {
         OPENAT => files::openat(alloc, host, shared, machine),
-        CLOSE => Ok(files::close(alloc, shared, machine)),
+        CLOSE => files::close(alloc, host, shared, machine),
         READ => files::read(alloc, host, shared, machine),
         WRITE => Ok(output::write(alloc, shared, machine)?),
         EXIT | EXIT_GROUP => Ok(exit(alloc, machine)),
@@ -73,7 +76,7 @@ fn call<H: Host>(
         MUNMAP => Ok(memory::munmap(alloc, machine)),
         MMAP => Ok(memory::mmap(alloc, machine)?),
         MPROTECT => Ok(memory::mprotect(alloc, machine)),
-        number => Ok(Effect::quiet(alloc, Outcome::Unsupported(number))),
+        number => tree::call(alloc, host, shared, machine, number),
     }
 }
 
@@ -83,7 +86,7 @@ fn read_counter(alloc: Global, shared: &mut Shared, machine: &mut Machine, rd: u
         ≡ effect_as (shared_of shared.new w) machine.new result }
     ensures sound { (w : World) → IsSound shared.old w → IsSound shared.new w }
 {
-    let ticks = shared.clock.read();
+    let ticks = shared.fs.clock.read();
     machine.read_counter(rd, ticks);
     Effect::quiet(alloc, Outcome::Done)
 }

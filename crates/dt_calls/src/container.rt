@@ -1,7 +1,7 @@
 // A container, with one process.
 ghost use Rattle.std.specs.Prelude.{◌≡◌, ◌≢◌, None, Some, [], IfOk, IsErrOf};
 ghost use Rattle.dt_host.specs.Cause.{HasCause};
-ghost use Rattle.dt_host.specs.World.{IsEmptyStart, World};
+ghost use Rattle.dt_host.specs.World.{IsEmptyStart};
 ghost use Rattle.dt_tree.specs.ImageTree.{image_tree};
 ghost use Rattle.dt_calls.specs.declared.numbers.TheConstants.{FIRST_PID};
 ghost use Rattle.dt_calls.specs.Container.{first_container};
@@ -14,11 +14,11 @@ use crate::call::{Effect, Outcome, serve};
 use crate::launch::program_at;
 use crate::numbers::FIRST_PID;
 use crate::shared::Shared;
-use dt_base::{Command, End, Errno, Event, Image, NoMemory};
+use dt_base::{Command, End, Errno, Event, Image};
 use dt_host::{Host, HostErr};
 use dt_mcalls::Break;
 use dt_rv64::{Machine, Stop};
-use dt_tree::Tree;
+use dt_tree::{ROOT, Tree};
 use std::alloc::Global;
 use std::marker::Model;
 use std::mem;
@@ -81,6 +81,7 @@ impl Container {
     {
         let mut tree = Tree::new(alloc, host)?;
         tree.install(host, image)?;
+        tree.hold(host, ROOT)?;
         Ok(Container {
             shared: Shared::new(alloc, tree, seed)?,
             machine: None,
@@ -105,7 +106,7 @@ impl Container {
         ensures cause { HasCause (H.count host.old) (H.count host.new) (IsErrOf result HostErr.Failed) }
     {
         let random = self.shared.rand.start16();
-        match program_at(alloc, host, &self.shared.tree, command, &random)? {
+        match program_at(alloc, host, &self.shared.fs.tree, command, &random)? {
             Ok(program) => {
                 self.shared.process.program_break = Break {
                     start: program.break_start,
@@ -158,19 +159,29 @@ impl Container {
     {
         let mut machine = self.take_machine(vpid);
         let effect = serve(alloc, host, &mut self.shared, &mut machine, stop)?;
-        Ok(self.settle(vpid, machine, effect)?)
+        self.settle(host, vpid, machine, effect)
     }
 
     // Settles what becomes of a process whose stop was served.
-    fn settle(&mut self, vpid: u32, machine: Machine, effect: Effect) -> Result<Served, NoMemory>
-        requires { self.old.machine ≡ None }
-        ensures ok { (w : World) → IfOk result (λ s.
-            settle vpid (effect_as (shared_of self.old.shared w) machine effect) effect.outcome
-            ≡ settled_as (container_of self.new w) s) }
-        ensures sound { (w : World) → IsSound self.old.shared w → IfOk result (λ _. IsSound self.new.shared w) }
+    fn settle<H: Host>(
+        &mut self,
+        host: &mut H,
+        vpid: u32,
+        machine: Machine,
+        effect: Effect,
+    ) -> Result<Served, HostErr>
+        requires away { self.old.machine ≡ None }
+        requires sound { IsSound self.old.shared (H.view host.old) }
+        requires lives { self.old.shared.process.end ≡ None }
+        ensures ok { IfOk result (λ s.
+            settle vpid (effect_as (shared_of self.old.shared (H.view host.old)) machine effect) effect.outcome
+            ≡ settled_as (container_of self.new (H.view host.new)) s) }
+        ensures sound { IfOk result (λ _. IsSound self.new.shared (H.view host.new)) }
         ensures home { Lives self.old.shared.process vpid
             → IfOk result (λ s. s ≢ Served.Ended → IsHome self.new vpid) }
+        ensures cause { HasCause (H.count host.old) (H.count host.new) (IsErrOf result HostErr.Failed) }
     {
+        let _before = host.faults();
         self.events = effect.events;
         match effect.outcome {
             Outcome::Done => {
@@ -179,7 +190,7 @@ impl Container {
             }
             Outcome::Ends(end) => {
                 self.events.push(Event::Exit(vpid, end))?;
-                self.shared.end(end);
+                self.shared.end(host, end)?;
                 Ok(Served::Ended)
             }
             Outcome::Unsupported(number) => {
@@ -207,9 +218,9 @@ impl Container {
 
     /// The file tree.
     pub fn tree(&self) -> &Tree
-        ensures { result.now ≡ self.now.shared.tree }
+        ensures { result.now ≡ self.now.shared.fs.tree }
     {
-        &self.shared.tree
+        &self.shared.fs.tree
     }
 
     /// How a process ended, if it has.

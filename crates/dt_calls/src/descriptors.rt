@@ -1,8 +1,8 @@
 // The open files of a process.
-ghost use Rattle.std.specs.Prelude.{◌≡◌, ◌<◌, ◌≤◌, length, Some, None, IfOk, IfSome, OnOk, IsSome, false};
-ghost use Rattle.std.specs.Option.{option_copied, is_none};
+ghost use Rattle.std.specs.Prelude.{◌≡◌, ◌<◌, ◌≤◌, ◌++◌, [], length, Some, None, IfOk, IfSome, OnOk, IsSome, false};
+ghost use Rattle.std.specs.Option.{option_copied, option_to_list, is_none};
 ghost use Rattle.std.specs.List.{position};
-ghost use Rattle.dt_calls.specs.Descriptors.{first_table, last_table, lowest_free, is_full, description_at, opened, with_description};
+ghost use Rattle.dt_calls.specs.Descriptors.{first_table, lowest_free, is_full, description_at, opened, with_description};
 
 use crate::numbers::DESCRIPTOR_LIMIT;
 use dt_base::NoMemory;
@@ -100,11 +100,12 @@ impl Descriptors {
         self.table[descriptor as usize] = None;
     }
 
-    /// Closes all descriptors, as the end of a process does.
-    pub fn close_all(&mut self)
-        ensures { self.new ≡ last_table }
+    /// Takes the last entry of the table off, where there is one.
+    pub fn pop(&mut self) -> Option<Option<Description>>
+        ensures taken { self.old ≡ self.new ++ option_to_list result }
+        ensures none { result ≡ None → self.old ≡ [] }
     {
-        self.table.clear();
+        self.table.pop()
     }
 
     // The lowest free descriptor.

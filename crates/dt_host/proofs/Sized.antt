@@ -1,14 +1,14 @@
 -- A forest whose numbers have 64 bits, and what keeps it so.
 use Rattle.std.proofs.Common.{arith, ◌≡◌, ℕ, ◌+◌, ◌^◌, ◌<◌, ◌≤◌, List, [], ◌++◌, length, take, drop, Option, Some, None, refl, sym, subst, length-append, length-drop}
 use Rattle.std.specs.Prelude.{IsSome, option_and_then, unwrap_or}
-use Rattle.std.proofs.lemmas.List.{length-take-le}
+use Rattle.std.proofs.lemmas.List.{length-take, length-take-le}
 use Rattle.std.specs.Cmp.{nat_cmp_total}
 use Rattle.std.specs.FinMap.{empty, get-empty, nat_cmp-IsAntisymmetric}
 use Rattle.std.specs.Ordering.{nat_cmp}
-use Rattle.dt_host.specs.World.{Forest, Node, dir, file_bytes, node_at, content, with_node, with_entry, with_bytes, empty_forest, IsDir, IsFile, IsSized}
-use Rattle.dt_host.proofs.Maps.{at_insert}
+use Rattle.dt_host.specs.World.{Forest, Node, dir, file_bytes, node_at, content, with_node, without_node, with_entry, without_entry, with_bytes, empty_forest, IsDir, IsFile, IsSized}
+use Rattle.dt_host.proofs.Maps.{at_insert, at_remove}
 use Rattle.dt_host.proofs.Spots.{at_node, IsLive-IsDir}
-use Rattle.dt_base.specs.Bytes.{overwritten}
+use Rattle.dt_base.specs.Bytes.{overwritten, padded, resized}
 
 -- one node more, under a number of 64 bits
 pub IsSized-with_node : (v : Forest) (n : ℕ) (node : Node) → IsSized v → n < 2 ^ 64 → length (unwrap_or (file_bytes node) []) < 2 ^ 64 → IsSized (with_node v n node)
@@ -24,6 +24,20 @@ pub IsSized-with_entry : (v : Forest) (d : ℕ) (name : List ℕ) (n : ℕ) → 
 unfolding with_entry
 IsSized-with_entry v d name n kept is = IsSized-with_node v d _ kept (kept.numbers d (IsLive-IsDir v d is)) (omega arith)
 
+-- one node fewer
+pub IsSized-without_node : (v : Forest) (n : ℕ) → IsSized v → IsSized (without_node v n)
+unfolding content
+IsSized-without_node v n kept = record {
+  numbers = λ q. at_remove nat_cmp_total nat_cmp-IsAntisymmetric (λ found. IsSome found → q < 2 ^ 64) v.nodes n q (λ _ live. cc) (λ _. kept.numbers q);
+  root = kept.root;
+  files = λ q. at_remove nat_cmp_total nat_cmp-IsAntisymmetric (λ found. length (unwrap_or (option_and_then file_bytes found) []) < 2 ^ 64) v.nodes n q (λ _. omega arith) (λ _. kept.files q);
+}
+
+-- one entry fewer in a directory
+pub IsSized-without_entry : (v : Forest) (d : ℕ) (name : List ℕ) → IsSized v → IsDir v d → IsSized (without_entry v d name)
+unfolding without_entry
+IsSized-without_entry v d name kept is = IsSized-with_node v d _ kept (kept.numbers d (IsLive-IsDir v d is)) (omega arith)
+
 -- other bytes as a file, of a size of 64 bits
 pub IsSized-with_bytes : (v : Forest) (n : ℕ) (bytes : List ℕ) → IsSized v → IsFile v n → length bytes < 2 ^ 64 → IsSized (with_bytes v n bytes)
 unfolding with_bytes
@@ -37,6 +51,10 @@ IsSized-with_bytes v n bytes kept is short = IsSized-with_node v n _ kept (kept.
 pub short_overwritten : (old : List ℕ) (off : ℕ) (bytes : List ℕ) → off ≤ length old → length old < 2 ^ 64 → off + length bytes < 2 ^ 64 → length (overwritten old off bytes) < 2 ^ 64
 short_overwritten old off bytes joined short fits =
     omega (arith, length-take-le off old joined, length-append (take off old) bytes, length-append (take off old ++ bytes) (drop (off + length bytes) old), length-drop (off + length bytes) old)
+
+-- bytes cut to a length of 64 bits, or with zeros up to it
+pub short_resized : (old : List ℕ) (len : ℕ) → len < 2 ^ 64 → length (resized old len) < 2 ^ 64
+short_resized old len fits = omega (arith, length-take len (padded old len))
 
 -- nothing but a root without entries
 pub IsSized-empty_forest : (root : ℕ) → root < 2 ^ 64 → IsSized (empty_forest root)

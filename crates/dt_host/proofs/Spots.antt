@@ -6,7 +6,7 @@ use Rattle.std.specs.Cmp.{nat_cmp_total}
 use Rattle.std.specs.Cmp.Lexicographic.{slice_cmp, nat_list_cmp_total}
 use Rattle.std.specs.Ordering.{nat_cmp}
 use Rattle.std.specs.FinMap.{empty, len, len-insert, get, insert, get-empty, nat_cmp-IsAntisymmetric}
-use Rattle.dt_host.specs.World.{Forest, Node, file, dir, link, node_at, dir_names, names_at, entry, with_node, with_entry, IsDir, IsLive}
+use Rattle.dt_host.specs.World.{Forest, Node, file, dir, link, node_at, file_bytes, dir_names, names_at, entry, with_node, with_entry, IsDir, IsFile, IsLive}
 use Rattle.dt_host.proofs.Maps.{at_insert, names_tie}
 use Rattle.dt_host.proofs.Worlds.{node_at-with_node, node_at-with_node_other}
 use Rattle.dt_host.proofs.Changes.{entry_alike}
@@ -90,6 +90,13 @@ module _ (v : Forest) (n : ℕ) (node : Node) (free : node_at v n ≡ None) (non
 
   pub IsDir-from_with_new : (q : ℕ) → q ≢ n → IsDir (with_node v n node) q → IsDir v q
   IsDir-from_with_new q apart = at_node v n node (λ found. IsSome (option_and_then dir_names found) → IsDir v q) q (λ same _. absurd (apart same)) (λ _ h. h)
+
+  pub IsFile-with_new : (q : ℕ) → IsFile v q → IsFile (with_node v n node) q
+  IsFile-with_new q h = at_node v n node (λ found. IsSome (option_and_then file_bytes found)) q (λ same. absurd (gone (node_at v q) h (ap (node_at v) same ∙ free))) (λ _. h)
+    where
+      gone : (found : Option Node) → IsSome (option_and_then file_bytes found) → found ≡ None → ⊥
+      gone None a b = cc
+      gone (Some x) a b = cc
 
   pub IsLive-with_new : (q : ℕ) → IsLive v q → IsLive (with_node v n node) q
   IsLive-with_new q h = at_node v n node (λ found. IsSome found) q (λ _. refl) (λ _. h)

@@ -74,7 +74,7 @@ module _ {K X : Type 0} {R : K → K → Ordering} (o : IsTotalOrder R) (g : X �
       no_entries (e ∷ es) h = absurd (omega arith)
 
   module _ (same : IsAntisymmetric R) where
-    put_again : (m : FinMap R X) (k : K) (v : X) → get m k ≡ Some v → insert (remove m k) k v ≡ m
+    pub put_again : (m : FinMap R X) (k : K) (v : X) → get m k ≡ Some v → insert (remove m k) k v ≡ m
     put_again m k v e = same_map o same _ _ (λ q.
         at_insert o same (λ found. found ≡ get m q) (remove m k) k v q
         (λ is. sym (ap (get m) is ∙ e))

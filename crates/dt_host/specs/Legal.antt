@@ -6,8 +6,8 @@ use Rattle.dt_host.specs.declared.entry.HostEntry.{HostEntry}
 use Rattle.dt_host.specs.declared.kind.NodeKind.{NodeKind}
 use Rattle.dt_host.specs.declared.kind.NodeKind.TheVariants.{File, Dir, Link}
 use Rattle.dt_host.specs.Sink.{MovesSome}
-use Rattle.dt_host.specs.World.{World, Node, file, dir, link, node_at, with_node, with_forest, with_entry, with_bytes, content}
-use Rattle.dt_base.specs.Bytes.{overwritten}
+use Rattle.dt_host.specs.World.{World, Node, file, dir, link, node_at, with_node, with_forest, with_entry, without_entry, without_node, with_bytes, content}
+use Rattle.dt_base.specs.Bytes.{overwritten, resized}
 
 -- a new node of that kind
 abbrev pub new_node : NodeKind → Node
@@ -29,6 +29,16 @@ Makes old kind result new = MatchResult result (MadeAt old kind new) (λ _. new 
 abbrev pub Binds : {A E : Type 0} → World → ℕ → List ℕ → ℕ → Result A E → World → Type 0
 Binds old d name n result new =
     MatchResult result (λ _. new ≡ with_forest old (with_entry old.forest d name n)) (λ _. new ≡ old)
+
+-- the answers of `unbind`
+abbrev pub Unbinds : {A E : Type 0} → World → ℕ → List ℕ → Result A E → World → Type 0
+Unbinds old d name result new =
+    MatchResult result (λ _. new ≡ with_forest old (without_entry old.forest d name)) (λ _. new ≡ old)
+
+-- the answers of `forget`
+abbrev pub Forgets : {A E : Type 0} → World → ℕ → Result A E → World → Type 0
+Forgets old n result new =
+    MatchResult result (λ _. new ≡ with_forest old (without_node old.forest n)) (λ _. new ≡ old)
 
 -- an entry that `names` found, as its name and its number
 abbrev pub named : HostEntry → List ℕ × ℕ
@@ -63,3 +73,11 @@ Writes old n off bytes result new =
 abbrev pub WritesAll : {A E : Type 0} → World → ℕ → ℕ → List ℕ → Result A E → World → Type 0
 WritesAll old n off bytes result new =
     MatchResult result (λ _. new ≡ with_write old n off bytes) (λ _. WritesPart old n off bytes new)
+
+-- the world with a file of another size: cut, or with zeros behind its bytes
+abbrev pub with_size : World → ℕ → ℕ → World
+with_size w n len = with_forest w (with_bytes w.forest n (resized (content w.forest n) len))
+
+-- the answers of `cut`
+abbrev pub Cuts : {A E : Type 0} → World → ℕ → ℕ → Result A E → World → Type 0
+Cuts old n len result new = MatchResult result (λ _. new ≡ with_size old n len) (λ _. new ≡ old)

@@ -1,8 +1,8 @@
 -- What a host keeps: the nodes of a tree by number, and which of them is the root.
-use Rattle.std.specs.Prelude.{◌≡◌, ℕ, ◌^◌, ◌<◌, List, [], length, Option, None, Some, option_and_then, unwrap_or, IsSome}
+use Rattle.std.specs.Prelude.{◌≡◌, ◌≢◌, ℕ, ◌^◌, ◌<◌, List, [], length, Option, None, Some, option_and_then, unwrap_or, IsSome}
 use Rattle.std.specs.Ordering.{nat_cmp}
 use Rattle.std.specs.Cmp.Lexicographic.{slice_cmp}
-use Rattle.std.specs.FinMap.{FinMap, empty, get, insert}
+use Rattle.std.specs.FinMap.{FinMap, empty, get, insert, remove}
 
 -- the entries of a directory: a node's number by the bytes of its name
 abbrev pub Names : Type 0
@@ -102,6 +102,22 @@ with_bytes v n bytes = with_node v n (file bytes)
 -- the forest with one entry more in that directory
 unfoldable pub with_entry : Forest → ℕ → List ℕ → ℕ → Forest
 with_entry v d name n = with_node v d (dir (insert (names_at v d) name n))
+
+-- the forest with one entry fewer in that directory
+unfoldable pub without_entry : Forest → ℕ → List ℕ → Forest
+without_entry v d name = with_node v d (dir (remove (names_at v d) name))
+
+-- the forest without the node of that number
+abbrev pub without_node : Forest → ℕ → Forest
+without_node v n = record v { nodes = remove v.nodes n }
+
+-- no directory has an entry for that number
+abbrev pub IsNameless : Forest → ℕ → Type 0
+IsNameless v n = (d : ℕ) (name : List ℕ) → entry v d name ≢ Some n
+
+-- that number has no entries
+abbrev pub IsBare : Forest → ℕ → Type 0
+IsBare v d = (name : List ℕ) → entry v d name ≡ None
 
 -- the world with this forest
 abbrev pub with_forest : World → Forest → World

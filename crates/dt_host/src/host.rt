@@ -1,10 +1,10 @@
 // What keeps the nodes of a container, and what each of its calls may answer.
-ghost use Rattle.std.specs.Prelude.{◌≡◌, ℕ, ◌+◌, ◌<◌, ◌≤◌, ◌^◌, None, Some, length, map, IfOk, IfSome, IsErrOf};
+ghost use Rattle.std.specs.Prelude.{◌≡◌, ◌≢◌, ℕ, ◌+◌, ◌<◌, ◌≤◌, ◌^◌, None, Some, length, map, IfOk, IfSome, IsErrOf, IsSome};
 ghost use Rattle.std.specs.List.Sorted.{IsPermutation};
 ghost use Rattle.std.specs.FinMap.{entries};
 ghost use Rattle.dt_host.specs.Cause.{HasCause};
-ghost use Rattle.dt_host.specs.World.{World, IsLive, IsFile, IsDir, IsLink, IsSized, file_at, target_at, names_at, entry, content};
-ghost use Rattle.dt_host.specs.Legal.{Makes, Binds, named, Reads, Writes};
+ghost use Rattle.dt_host.specs.World.{World, IsLive, IsFile, IsDir, IsLink, IsSized, IsNameless, IsBare, file_at, target_at, names_at, entry, content};
+ghost use Rattle.dt_host.specs.Legal.{Makes, Binds, Unbinds, Forgets, named, Reads, Writes, Cuts};
 
 use crate::entry::HostEntry;
 use crate::error::HostErr;
@@ -43,6 +43,24 @@ pub trait Host {
         requires unnamed { entry (view self.old).forest dir name.now ≡ None }
         requires live { IsLive (view self.old).forest ino }
         ensures legal { Binds (view self.old) dir name.now ino result (view self.new) }
+        ensures cause { HasCause (count self.old) (count self.new)
+            (IsErrOf result HostErr.Failed) };
+
+    /// Takes the entry of that name out of the directory `dir`.
+    fn unbind(&mut self, dir: u64, name: &[u8]) -> Result<(), HostErr>
+        requires directory { IsDir (view self.old).forest dir }
+        requires named { IsSome (entry (view self.old).forest dir name.now) }
+        ensures legal { Unbinds (view self.old) dir name.now result (view self.new) }
+        ensures cause { HasCause (count self.old) (count self.new)
+            (IsErrOf result HostErr.Failed) };
+
+    /// Lets a node go that no directory names and that has no entries. It is not the root.
+    fn forget(&mut self, ino: u64) -> Result<(), HostErr>
+        requires live { IsLive (view self.old).forest ino }
+        requires nameless { IsNameless (view self.old).forest ino }
+        requires not_root { ino ≢ (view self.old).forest.root }
+        requires bare { IsBare (view self.old).forest ino }
+        ensures legal { Forgets (view self.old) ino result (view self.new) }
         ensures cause { HasCause (count self.old) (count self.new)
             (IsErrOf result HostErr.Failed) };
 
@@ -99,6 +117,14 @@ pub trait Host {
         requires some { 0 < length bytes.now }
         requires fits { off + length bytes.now ≤ FILE_LIMIT }
         ensures legal { Writes (view self.old) ino off bytes.now result (view self.new) }
+        ensures cause { HasCause (count self.old) (count self.new)
+            (IsErrOf result HostErr.Failed) };
+
+    /// Cuts a file to a length, or puts zeros behind its bytes up to it.
+    fn cut(&mut self, ino: u64, len: u64) -> Result<(), HostErr>
+        requires file { IsFile (view self.old).forest ino }
+        requires fits { len ≤ FILE_LIMIT }
+        ensures legal { Cuts (view self.old) ino len result (view self.new) }
         ensures cause { HasCause (count self.old) (count self.new)
             (IsErrOf result HostErr.Failed) };
 

@@ -1,21 +1,20 @@
 -- The nodes of a tree by number, as a forest with its orders: what stands there, and what a change of one makes of all.
-use Rattle.std.proofs.Common.{◌≡◌, ◌≢◌, ℕ, List, [], ◌∷◌, ◌++◌, Option, Some, None, refl, sym, ap, subst, ◌∙◌, inl, inr}
+use Rattle.std.proofs.Common.{◌≡◌, ◌≢◌, ℕ, List, [], Option, Some, None, refl, sym, ap, subst, ◌∙◌, inl, inr}
 use Rattle.std.proofs.lemmas.Bool.{cases_eq}
 use Rattle.std.specs.Prelude.{IsSome, IfSome, OnOk, OnErr, Result, Ok, Err, option_map, option_and_then, unwrap_or}
 use Rattle.std.specs.Ordering.{nat_cmp}
 use Rattle.std.specs.Cmp.{nat_cmp_total}
 use Rattle.std.specs.BTreeMap as tree
 use Rattle.std.specs.BTreeMap.{BTreeMap}
-use Rattle.std.specs.FinMap.{get, insert, empty, get-empty, same_map, nat_cmp-IsAntisymmetric}
+use Rattle.std.specs.FinMap.{get, insert, remove, empty, get-empty, same_map, nat_cmp-IsAntisymmetric}
 use Rattle.std.specs.Cmp.Lexicographic.{slice_cmp}
 use Rattle.dt_host.specs.Entries.{map_of}
-use Rattle.dt_host.specs.World.{Forest, Node, Names, file, dir, file_at, dir_at, target_at, file_bytes, dir_names, link_target, IsFile, IsDir, content, names_at, entry, with_node, with_bytes, with_entry}
-use Rattle.dt_base.specs.Bytes.{overwritten}
-use Rattle.dt_host.proofs.Maps.{at_insert}
+use Rattle.dt_host.specs.World.{Forest, Node, Names, file, dir, file_at, dir_at, target_at, file_bytes, dir_names, link_target, IsFile, IsDir, content, names_at, entry, with_node, without_node, with_bytes, with_entry, without_entry}
+use Rattle.dt_host.proofs.Maps.{at_insert, at_remove}
 use Rattle.dt_host.proofs.MapOf.{get-map_of}
 use Rattle.dt_memhost.specs.declared.node.MemNode.{MemNode}
 use Rattle.dt_memhost.specs.inner.Node.{node_of, node_in, nodes_of, entries_of, order_in, orders_of}
-use Rattle.dt_memhost.specs.Order.{Order, with_last}
+use Rattle.dt_memhost.specs.Order.{Order, order_at}
 use Rattle.dt_memhost.proofs.Numbered.{get-nodes_of}
 
 -- what holds on both outcomes
@@ -66,6 +65,13 @@ module _ {Y : Type 0} (value : MemNode → Y) (old new : BTreeMap ℕ MemNode) (
       (λ is. get_value new q ∙ ap (λ p. option_map value (tree.get nat_cmp new p)) is ∙ here)
       (λ apart. get_value new q ∙ others q apart ∙ sym (get_value old q)))
 
+  -- that one is gone
+  pub no_value : option_map value (tree.get nat_cmp new n) ≡ None → map_of {R = nat_cmp} (λ n. n) value new.entries ≡ remove (map_of (λ n. n) value old.entries) n
+  no_value gone = same_map nat_cmp_total nat_cmp-IsAntisymmetric _ _ (λ q.
+      at_remove nat_cmp_total nat_cmp-IsAntisymmetric (λ found. get (map_of {R = nat_cmp} (λ n. n) value new.entries) q ≡ found) (map_of (λ n. n) value old.entries) n q
+      (λ is. get_value new q ∙ ap (λ p. option_map value (tree.get nat_cmp new p)) is ∙ gone)
+      (λ apart. get_value new q ∙ others q apart ∙ sym (get_value old q)))
+
   -- that one stays too
   pub same_values : option_map value (tree.get nat_cmp new n) ≡ option_map value (tree.get nat_cmp old n) → map_of {R = nat_cmp} (λ n. n) value new.entries ≡ map_of (λ n. n) value old.entries
   same_values here = same_map nat_cmp_total nat_cmp-IsAntisymmetric _ _ (λ q. get_value new q ∙ by_number q ∙ sym (get_value old q))
@@ -74,13 +80,13 @@ module _ {Y : Type 0} (value : MemNode → Y) (old new : BTreeMap ℕ MemNode) (
       by_number q =
           elim (cases_eq q n) as (λ _. option_map value (tree.get nat_cmp new q) ≡ option_map value (tree.get nat_cmp old q)) [ inl is ↦ ap (λ p. option_map value (tree.get nat_cmp new p)) is ∙ here ∙ ap (λ p. option_map value (tree.get nat_cmp old p)) (sym is) | inr apart ↦ others q apart ]
 
--- the order of a directory grows by one entry at its end
-pub order_pushed : (old new : BTreeMap ℕ MemNode) (n : ℕ) (name : List ℕ) (to : ℕ) → ((q : ℕ) → q ≢ n → order_in new q ≡ order_in old q) → IsSome (order_in old n) → order_in new n ≡ option_map (λ order. order ++ (name, to) ∷ []) (order_in old n) → orders_of new.entries ≡ with_last (orders_of old.entries) n name to
-order_pushed old new n name to others some here =
+-- the order of a directory changes, and the others stay
+pub order_changed : (change : Order → Order) (old new : BTreeMap ℕ MemNode) (n : ℕ) → ((q : ℕ) → q ≢ n → order_in new q ≡ order_in old q) → IsSome (order_in old n) → order_in new n ≡ option_map change (order_in old n) → orders_of new.entries ≡ insert (orders_of old.entries) n (change (order_at (orders_of old.entries) n))
+order_changed change old new n others some here =
     put_value entries_of old new n others _ (here ∙ in_order (order_in old n) some)
-    ∙ ap (λ found. insert (orders_of old.entries) n (unwrap_or found [] ++ (name, to) ∷ [])) (sym (get-orders_of old n))
+    ∙ ap (λ found. insert (orders_of old.entries) n (change (unwrap_or found []))) (sym (get-orders_of old n))
   where
-    in_order : (found : Option Order) → IsSome found → option_map (λ order. order ++ (name, to) ∷ []) found ≡ Some (unwrap_or found [] ++ (name, to) ∷ [])
+    in_order : (found : Option Order) → IsSome found → option_map change found ≡ Some (change (unwrap_or found []))
     in_order None h = cc
     in_order (Some order) h = refl
 
@@ -101,24 +107,38 @@ module _ (old new : BTreeMap ℕ MemNode) (root n : ℕ) (others : (q : ℕ) →
   pub same_forest : node_in new n ≡ node_in old n → forest_of new root ≡ forest_of old root
   same_forest here = ap (λ nodes. record { nodes = nodes; root = root }) (same_values node_of old new n others here)
 
-  -- an entry put into that one's names
-  pub put_entry : (name : List ℕ) (to : ℕ) → IsDir (forest_of old root) n → IfSome (option_and_then dir_names (node_in old n)) (λ names. node_in new n ≡ Some (dir (insert names name to))) → forest_of new root ≡ with_entry (forest_of old root) n name to
-  unfolding with_entry names_at
-  put_entry name to is h =
+  -- that one is gone
+  pub no_node : node_in new n ≡ None → forest_of new root ≡ without_node (forest_of old root) n
+  no_node gone = ap (λ nodes. record { nodes = nodes; root = root }) (no_value node_of old new n others gone)
+
+  -- that one's names changed
+  names_changed : (change : Names → Names) → IsDir (forest_of old root) n → IfSome (option_and_then dir_names (node_in old n)) (λ names. node_in new n ≡ Some (dir (change names))) → forest_of new root ≡ with_node (forest_of old root) n (dir (change (names_at (forest_of old root) n)))
+  unfolding names_at
+  names_changed change is h =
       put_node _ (at_names _ (subst (λ found. IsSome found) (dir_at-forest_of old root n) is) h)
-      ∙ ap (λ found. with_node (forest_of old root) n (dir (insert (unwrap_or found empty) name to))) (sym (dir_at-forest_of old root n))
+      ∙ ap (λ found. with_node (forest_of old root) n (dir (change (unwrap_or found empty)))) (sym (dir_at-forest_of old root n))
     where
-      at_names : (found : Option Names) → IsSome found → IfSome found (λ names. node_in new n ≡ Some (dir (insert names name to))) → node_in new n ≡ Some (dir (insert (unwrap_or found empty) name to))
+      at_names : (found : Option Names) → IsSome found → IfSome found (λ names. node_in new n ≡ Some (dir (change names))) → node_in new n ≡ Some (dir (change (unwrap_or found empty)))
       at_names None some put = cc
       at_names (Some names) some put = put
 
-  -- bytes written over that one's
-  pub put_bytes : (off : ℕ) (piece : List ℕ) → IsFile (forest_of old root) n → IfSome (option_and_then file_bytes (node_in old n)) (λ bytes. node_in new n ≡ Some (file (overwritten bytes off piece))) → forest_of new root ≡ with_bytes (forest_of old root) n (overwritten (content (forest_of old root) n) off piece)
+  -- an entry put into that one's names
+  pub put_entry : (name : List ℕ) (to : ℕ) → IsDir (forest_of old root) n → IfSome (option_and_then dir_names (node_in old n)) (λ names. node_in new n ≡ Some (dir (insert names name to))) → forest_of new root ≡ with_entry (forest_of old root) n name to
+  unfolding with_entry
+  put_entry name to = names_changed (λ names. insert names name to)
+
+  -- an entry taken out of them
+  pub take_entry : (name : List ℕ) → IsDir (forest_of old root) n → IfSome (option_and_then dir_names (node_in old n)) (λ names. node_in new n ≡ Some (dir (remove names name))) → forest_of new root ≡ without_entry (forest_of old root) n name
+  unfolding without_entry
+  take_entry name = names_changed (λ names. remove names name)
+
+  -- that one's bytes changed
+  pub bytes_changed : (change : List ℕ → List ℕ) → IsFile (forest_of old root) n → IfSome (option_and_then file_bytes (node_in old n)) (λ bytes. node_in new n ≡ Some (file (change bytes))) → forest_of new root ≡ with_bytes (forest_of old root) n (change (content (forest_of old root) n))
   unfolding with_bytes
-  put_bytes off piece is h =
+  bytes_changed change is h =
       put_node _ (at_bytes _ (subst (λ found. IsSome found) (file_at-forest_of old root n) is) h)
-      ∙ ap (λ bytes. with_node (forest_of old root) n (file (overwritten bytes off piece))) (sym (content-forest_of old root n))
+      ∙ ap (λ bytes. with_node (forest_of old root) n (file (change bytes))) (sym (content-forest_of old root n))
     where
-      at_bytes : (found : Option (List ℕ)) → IsSome found → IfSome found (λ bytes. node_in new n ≡ Some (file (overwritten bytes off piece))) → node_in new n ≡ Some (file (overwritten (unwrap_or found []) off piece))
+      at_bytes : (found : Option (List ℕ)) → IsSome found → IfSome found (λ bytes. node_in new n ≡ Some (file (change bytes))) → node_in new n ≡ Some (file (change (unwrap_or found [])))
       at_bytes None some put = cc
       at_bytes (Some bytes) some put = put

@@ -1,5 +1,5 @@
 -- The entries of a directory, in the order of their binding and as a map by name.
-use Rattle.std.proofs.Common.{◌≡◌, ℕ, List, [], ◌∷◌, ◌++◌, length, map, cond, false, ◌&&◌, Option, Some, None, Vec, refl, sym, ap, subst, ◌∙◌, arith, nat_eq}
+use Rattle.std.proofs.Common.{◌≡◌, ◌≢◌, ℕ, List, [], ◌∷◌, ◌++◌, length, map, Bool, cond, true, false, ◌&&◌, Option, Some, None, Vec, refl, sym, ap, subst, ◌∙◌, arith, nat_eq}
 use Rattle.std.proofs.lemmas.List.{map-append}
 use Rattle.std.proofs.lemmas.List.Sorted.{IsPermutation-refl, IsPermutation-cons, IsPermutation-trans, IsPermutation-middle}
 use Rattle.std.specs.Prelude.{option_map, vec_items}
@@ -8,15 +8,16 @@ use Rattle.std.specs.declared.cmp.Ordering.TheVariants.{Less, Equal, Greater}
 use Rattle.std.specs.Ordering.{nat_cmp, is_eq, ordering_then}
 use Rattle.std.specs.List.{AllByRecursion, IsDistinct}
 use Rattle.std.specs.List.Sorted.{IsPermutation}
-use Rattle.std.specs.Cmp.Lexicographic.{slice_cmp, pointwise, nat_list_cmp_total}
-use Rattle.std.specs.Map.{lookup, keys_of}
-use Rattle.std.specs.FinMap.{entries, empty, get, insert, get-entries, get-from_entries, entries-insert, from_entries_push, len-entries, len-empty}
+use Rattle.std.specs.Cmp.Lexicographic.{slice_cmp, pointwise, nat_list_cmp_total, same_text}
+use Rattle.std.specs.HashMap.{HashMap, UpdatesBy}
+use Rattle.std.specs.Map.{lookup, keys_of, remove_entry, KeepsOthers}
+use Rattle.std.specs.FinMap.{entries, empty, get, insert, remove, same_map, get-entries, get-from_entries, entries-insert, from_entries_push, len-entries, len-empty}
 use Rattle.std.specs.FinMap.Entries.{find, put, by_order}
 use Rattle.std.proofs.lemmas.Bool.Decides.{nat_tests}
 use Rattle.dt_host.specs.Entries.{map_of}
-use Rattle.dt_host.proofs.Maps.{names_tie}
+use Rattle.dt_host.proofs.Maps.{names_tie, at_remove}
 use Rattle.dt_host.proofs.MapOf.{get-map_of}
-use Rattle.dt_memhost.specs.Order.{Order}
+use Rattle.dt_memhost.specs.Order.{Order, without}
 use Rattle.dt_memhost.specs.inner.Dir.{order_of, names_of}
 
 none_left : {A : Type 0} (xs : List A) → length xs ≡ 0 → xs ≡ []
@@ -73,6 +74,37 @@ order_of-push {Z} entries name n = map-append (λ (e : Vec ℕ Z × ℕ). (e.0.i
 pub names_of-push : (order : Order) (name : List ℕ) (n : ℕ) → get (names_of order) name ≡ None → names_of (order ++ (name, n) ∷ []) ≡ insert (names_of order) name n
 names_of-push order name n none =
     from_entries_push nat_list_cmp_total names_tie order name n (sym (get-from_entries nat_list_cmp_total order name) ∙ none)
+
+take_out : {Z : Type 0} (entries : List (Vec ℕ Z × ℕ)) (name : List ℕ) → order_of (remove_entry (λ key. pointwise nat_eq name key.items) entries) ≡ without (order_of entries) name
+take_out [] name = refl
+take_out {Z} (e ∷ entries) name =
+    let rest = remove_entry (λ (key : Vec ℕ Z). pointwise nat_eq name key.items) entries in
+    elim (pointwise nat_eq name e.0.items) as (λ b. order_of (cond b entries (e ∷ rest)) ≡ cond b (order_of entries) ((e.0.items, e.1) ∷ without (order_of entries) name)) [
+      | true ↦ refl
+      | false ↦ ap (λ order. (e.0.items, e.1) ∷ order) (take_out entries name)
+    ]
+
+-- where an entry goes, the others keep their order
+pub order_of-removed : {Z : Type 0} (old new : List (Vec ℕ Z × ℕ)) (name : List ℕ) → new ≡ remove_entry (λ key. pointwise nat_eq name key.items) old → order_of new ≡ without (order_of old) name
+order_of-removed old new name e = ap order_of e ∙ take_out old name
+
+-- and the map by name has one entry fewer
+pub names_of-removed : {Z S : Type 0} (old new : HashMap (Vec ℕ Z) ℕ S) (order : Order) (name : List ℕ) → UpdatesBy (λ x y. pointwise nat_eq x.items y.items) (λ key. pointwise nat_eq name key.items) old new None → order_of old.entries ≡ order → names_of (order_of new.entries) ≡ remove (names_of order) name
+unfolding KeepsOthers
+names_of-removed {Z} old new order name updates is = same_map nat_list_cmp_total names_tie _ _ (λ q.
+    at_remove nat_list_cmp_total names_tie (λ found. get (names_of (order_of new.entries)) q ≡ found) (names_of order) name q
+    (λ same. get-names_of new.entries q ∙ ap (λ (n : List ℕ). lookup (λ (key : Vec ℕ Z). pointwise nat_eq n key.items) new.entries) same ∙ updates.1)
+    (λ apart. get-names_of new.entries q ∙ updates.3 (λ key. pointwise nat_eq q key.items) (named_by q) (one_name q apart) ∙ sym (get-names_of old.entries q) ∙ ap (λ es. get (names_of es) q) is))
+  where
+    named_by : (q : List ℕ) (x y : Vec ℕ Z) → pointwise nat_eq q x.items ≡ true → pointwise nat_eq q y.items ≡ pointwise nat_eq x.items y.items
+    named_by q x y is = ap (λ n. pointwise nat_eq n y.items) (same_text q x.items (sym is))
+
+    one_name : (q : List ℕ) → q ≢ name → (key : Vec ℕ Z) → pointwise nat_eq name key.items ≡ true → pointwise nat_eq q key.items ≡ false
+    one_name q apart key is = by_test (pointwise nat_eq q key.items) refl
+      where
+        by_test : (b : Bool) → pointwise nat_eq q key.items ≡ b → b ≡ false
+        by_test true other = absurd (apart (same_text q key.items (sym other) ∙ sym (same_text name key.items (sym is))))
+        by_test false other = refl
 
 -- an entry whose name is new is one entry more
 put_new : (k : List ℕ) (v : ℕ) (es : Order) → find (slice_cmp nat_cmp) k es ≡ None → IsPermutation (put (slice_cmp nat_cmp) k v es) ((k, v) ∷ es)

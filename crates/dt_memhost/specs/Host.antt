@@ -1,16 +1,16 @@
 -- A host in memory, and how it answers: a call that is listed fails and is counted, and any other chooses by words.
 use Rattle.std.specs.Prelude.{◌≡◌, ℕ, ◌-◌, ◌%◌, min, ◌==◌, List, [], ◌++◌, length, take, drop, map, Option, Some, Vec, Ok, Err, Result, MatchBool, MatchResult, if◌then◌else◌}
 use Rattle.dt_host.specs.declared.kind.NodeKind.{NodeKind}
-use Rattle.std.specs.FinMap.{empty, insert}
+use Rattle.std.specs.FinMap.{empty, insert, remove}
 use Rattle.dt_host.specs.declared.entry.HostEntry.{HostEntry}
 use Rattle.dt_host.specs.declared.raw.RawStat.{RawStat}
 use Rattle.dt_host.specs.declared.error.HostErr.{HostErr}
 use Rattle.dt_host.specs.declared.error.HostErr.TheVariants.{Failed, NoMemory}
-use Rattle.dt_host.specs.World.{World, empty_world, with_forest, with_node, with_entry, entry, content, target_at}
-use Rattle.dt_host.specs.Legal.{new_node, named, with_write}
+use Rattle.dt_host.specs.World.{World, empty_world, with_forest, with_node, with_entry, without_entry, without_node, entry, content, target_at}
+use Rattle.dt_host.specs.Legal.{new_node, named, with_write, with_size}
 use Rattle.dt_memhost.specs.Picks.{Picks, length_by}
 use Rattle.dt_memhost.specs.Script.{Script, script_of, fails_next, counted, failed, picked, picked_all, restarted, word_of, words_of}
-use Rattle.dt_memhost.specs.Order.{Orders, order_at, with_last, picked_order}
+use Rattle.dt_memhost.specs.Order.{Orders, order_at, with_last, without_name, picked_order}
 use Rattle.dt_memhost.specs.Number.{Numbers}
 
 -- what the host keeps, the order of binding in its nodes, and the script
@@ -23,7 +23,7 @@ pub record HostState : Type 0 where
 abbrev pub empty_host : Picks → List ℕ → HostState
 empty_host picks fails = record { view = empty_world 1; orders = insert empty 1 []; script = script_of picks fails }
 
--- a call that fails is counted, and changes nothing else
+-- a call that fails is counted, as a call and as a fault, and changes nothing else
 pub record Fails {A : Type 0} (old : HostState) (result : Result A HostErr) (new : HostState) : Type 0 where
   pub failed_only : result ≡ Err Failed
   pub counts : new ≡ record old { script = failed old.script }
@@ -80,6 +80,28 @@ abbrev pub BindsBy : {A : Type 0} → HostState → ℕ → List ℕ → ℕ →
 BindsBy old d name n result new =
     UnlessListed old result new
     (MatchResult result (λ _. BindsEntry old d name n new) (Starves old (counted old.script) new))
+
+-- the entry is gone, and the others of its directory stay in their order
+pub record UnbindsEntry {A : Type 0} (old : HostState) (d : ℕ) (name : List ℕ) (answer : A) (result : Result A HostErr) (new : HostState) : Type 0 where
+  pub ok : result ≡ Ok answer
+  pub view : new.view ≡ with_forest old.view (without_entry old.view.forest d name)
+  pub orders : new.orders ≡ without_name old.orders d name
+  pub script : new.script ≡ counted old.script
+
+-- how it answers `unbind`, which takes no memory
+abbrev pub UnbindsBy : {A : Type 0} → HostState → ℕ → List ℕ → A → Result A HostErr → HostState → Type 0
+UnbindsBy old d name answer result new = UnlessListed old result new (UnbindsEntry old d name answer result new)
+
+-- the node is gone, and so is its order
+pub record ForgetsNode {A : Type 0} (old : HostState) (n : ℕ) (answer : A) (result : Result A HostErr) (new : HostState) : Type 0 where
+  pub ok : result ≡ Ok answer
+  pub view : new.view ≡ with_forest old.view (without_node old.view.forest n)
+  pub orders : new.orders ≡ remove old.orders n
+  pub script : new.script ≡ counted old.script
+
+-- how it answers `forget`, which takes no memory
+abbrev pub ForgetsBy : {A : Type 0} → HostState → ℕ → A → Result A HostErr → HostState → Type 0
+ForgetsBy old n answer result new = UnlessListed old result new (ForgetsNode old n answer result new)
 
 -- its choices begin anew
 pub record Restarts {A : Type 0} (old : HostState) (number : ℕ) (answer : A) (result : Result A HostErr) (new : HostState) : Type 0 where
@@ -194,3 +216,15 @@ abbrev pub WritesBy : HostState → ℕ → ℕ → List ℕ → Result ℕ Host
 WritesBy old n off bytes result new =
     UnlessListed old result new
     (MatchResult result (WritesCount old n off bytes new) (Starves old (picked (counted old.script)) new))
+
+-- the file has another size
+pub record CutsFile (old : HostState) (n len : ℕ) (new : HostState) : Type 0 where
+  pub view : new.view ≡ with_size old.view n len
+  pub orders : new.orders ≡ old.orders
+  pub script : new.script ≡ counted old.script
+
+-- how it answers `cut`
+abbrev pub CutsBy : {A : Type 0} → HostState → ℕ → ℕ → Result A HostErr → HostState → Type 0
+CutsBy old n len result new =
+    UnlessListed old result new
+    (MatchResult result (λ _. CutsFile old n len new) (Starves old (counted old.script) new))

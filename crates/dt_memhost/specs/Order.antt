@@ -2,6 +2,8 @@
 use Rattle.std.specs.Prelude.{ℕ, ◌%◌, List, [], ◌∷◌, ◌++◌, length, take, drop, remove, unwrap_or}
 use Rattle.std.specs.Ordering.{nat_cmp}
 use Rattle.std.specs.FinMap.{FinMap, get, insert}
+use Rattle.std.specs.Str.{bytes_eq}
+use Rattle.std.specs.Map.{remove_entry}
 
 -- names with the numbers that they stand for, the one bound first comes first
 abbrev pub Order : Type 0
@@ -18,6 +20,14 @@ order_at orders d = unwrap_or (get orders d) []
 -- the orders with one entry more in that node, which goes last
 abbrev pub with_last : Orders → ℕ → List ℕ → ℕ → Orders
 with_last orders d name n = insert orders d (order_at orders d ++ (name, n) ∷ [])
+
+-- an order without the entry of that name; the others stay in their order
+abbrev pub without : Order → List ℕ → Order
+without order name = remove_entry (bytes_eq name) order
+
+-- the orders with one entry fewer in that node
+abbrev pub without_name : Orders → ℕ → List ℕ → Orders
+without_name orders d name = insert orders d (without (order_at orders d) name)
 
 -- of those that are left the one at the word modulo their number, and so on without it
 unfoldable pub picked_order : {A : Type 0} → List ℕ → List A → List A

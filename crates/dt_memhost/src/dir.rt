@@ -1,8 +1,9 @@
 // The entries of a directory in memory.
 ghost use Rattle.std.specs.Prelude.{◌≡◌, None, [], ◌∷◌, ◌++◌, map, IfOk, OnOk, OnErr};
 ghost use Rattle.std.specs.List.Sorted.{IsPermutation};
-ghost use Rattle.std.specs.FinMap.{entries, get, insert};
+ghost use Rattle.std.specs.FinMap.{entries, get, insert, remove};
 ghost use Rattle.dt_host.specs.Legal.{named};
+ghost use Rattle.dt_memhost.specs.Order.{without};
 ghost use Rattle.dt_memhost.specs.inner.Dir.{names_of};
 
 use dt_base::{Blob, NoMemory};
@@ -67,5 +68,13 @@ impl Entries {
     {
         self.names.insert(name, number)?;
         Ok(())
+    }
+
+    /// Takes the entry of that name out. The others keep their order, so the time is linear.
+    pub(crate) fn unbind(&mut self, name: &[u8])
+        ensures order { self.new ≡ without self.old name.now }
+        ensures names { names_of self.new ≡ remove (names_of self.old) name.now }
+    {
+        self.names.shift_remove(name);
     }
 }

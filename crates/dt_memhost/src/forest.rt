@@ -3,11 +3,11 @@ ghost use Rattle.std.specs.Prelude.{◌≡◌, ◌+◌, ◌<◌, ◌≤◌, ◌^
 ghost use Rattle.std.specs.List.Sorted.{IsPermutation};
 ghost use Rattle.std.specs.FinMap.{entries, get};
 ghost use Rattle.dt_host.specs.World.{IsFile, IsDir, IsSized, file_at, target_at, names_at, content, entry};
-ghost use Rattle.dt_base.specs.Bytes.{overwritten};
+ghost use Rattle.dt_base.specs.Bytes.{overwritten, resized};
 ghost use Rattle.dt_host.specs.Legal.{named};
 ghost use Rattle.dt_memhost.specs.Number.{Numbers};
 ghost use Rattle.dt_memhost.specs.Order.{order_at};
-ghost use Rattle.dt_memhost.specs.inner.Forest.{empty_ordered, made, bound, rewritten};
+ghost use Rattle.dt_memhost.specs.inner.Forest.{empty_ordered, made, bound, unbound, forgotten, rewritten};
 
 use crate::dir::Entries;
 use crate::node::MemNode;
@@ -155,5 +155,30 @@ impl MemForest {
         ensures err { OnErr result (self.new ≡ self.old) }
     {
         nodes::write(&mut self.nodes, number, off, piece)
+    }
+
+    /// Takes the entry of that name out of a directory.
+    pub(crate) fn unbind(&mut self, dir: u64, name: &[u8])
+        requires { IsDir self.old.forest dir }
+        ensures { self.new ≡ unbound self.old dir name.now }
+    {
+        nodes::unbind(&mut self.nodes, dir, name);
+    }
+
+    /// Lets a node go.
+    pub(crate) fn forget(&mut self, number: u64)
+        ensures { self.new ≡ forgotten self.old number }
+    {
+        self.nodes.remove(&number);
+    }
+
+    /// Cuts a file to a length, or puts zeros behind its bytes up to it.
+    pub(crate) fn cut(&mut self, number: u64, len: usize) -> Result<(), NoMemory>
+        requires { IsFile self.old.forest number }
+        ensures ok { OnOk result (self.new
+            ≡ rewritten self.old number (resized (content self.old.forest number) len)) }
+        ensures err { OnErr result (self.new ≡ self.old) }
+    {
+        nodes::cut(&mut self.nodes, number, len)
     }
 }

@@ -1,11 +1,11 @@
 // A host in memory, whose choices are a function of words.
-ghost use Rattle.std.specs.Prelude.{◌≡◌, ◌+◌, ◌<◌, ◌≤◌, None, Some, length, map, IfOk, IfSome, IsErrOf};
+ghost use Rattle.std.specs.Prelude.{◌≡◌, ◌≢◌, ◌+◌, ◌<◌, ◌≤◌, None, Some, length, map, IfOk, IfSome, IsErrOf, IsSome};
 ghost use Rattle.std.specs.List.Sorted.{IsPermutation};
 ghost use Rattle.std.specs.FinMap.{entries};
 ghost use Rattle.dt_host.specs.Cause.{HasCause};
-ghost use Rattle.dt_host.specs.World.{IsLive, IsFile, IsDir, IsLink, file_at, target_at, names_at, entry, content, IsEmptyStart};
-ghost use Rattle.dt_host.specs.Legal.{Makes, Binds, named, Reads, Writes};
-ghost use Rattle.dt_memhost.specs.Host.{empty_host, RootsBy, FindsBy, MakesBy, BindsBy, NamesBy, RawBy, TargetBy, ReadsBy, WritesBy, StopsBy, WordBy, FillsBy, DisturbsBy};
+ghost use Rattle.dt_host.specs.World.{IsLive, IsFile, IsDir, IsLink, file_at, target_at, names_at, IsNameless, IsBare, entry, content, IsEmptyStart};
+ghost use Rattle.dt_host.specs.Legal.{Makes, Binds, Unbinds, Forgets, named, Reads, Writes, Cuts};
+ghost use Rattle.dt_memhost.specs.Host.{empty_host, RootsBy, FindsBy, MakesBy, BindsBy, UnbindsBy, ForgetsBy, NamesBy, RawBy, TargetBy, ReadsBy, WritesBy, CutsBy, StopsBy, WordBy, FillsBy, DisturbsBy};
 
 use crate::forest::MemForest;
 use crate::order::arrange;
@@ -100,6 +100,34 @@ impl Host for MemHost {
     {
         self.script.begin(false)?;
         self.forest.bind(dir, name, ino)?;
+        Ok(())
+    }
+
+    fn unbind(&mut self, dir: u64, name: &[u8]) -> Result<(), HostErr>
+        requires directory { IsDir self.old.view.forest dir }
+        requires named { IsSome (entry self.old.view.forest dir name.now) }
+        ensures exact { UnbindsBy self.old dir name.now tt result self.new }
+        ensures legal { Unbinds self.old.view dir name.now result self.new.view }
+        ensures cause { HasCause self.old.script.faults self.new.script.faults
+            (IsErrOf result HostErr.Failed) }
+    {
+        self.script.begin(false)?;
+        self.forest.unbind(dir, name);
+        Ok(())
+    }
+
+    fn forget(&mut self, ino: u64) -> Result<(), HostErr>
+        requires live { IsLive self.old.view.forest ino }
+        requires nameless { IsNameless self.old.view.forest ino }
+        requires not_root { ino ≢ self.old.view.forest.root }
+        requires bare { IsBare self.old.view.forest ino }
+        ensures exact { ForgetsBy self.old ino tt result self.new }
+        ensures legal { Forgets self.old.view ino result self.new.view }
+        ensures cause { HasCause self.old.script.faults self.new.script.faults
+            (IsErrOf result HostErr.Failed) }
+    {
+        self.script.begin(false)?;
+        self.forest.forget(ino);
         Ok(())
     }
 
@@ -200,6 +228,19 @@ impl Host for MemHost {
         let (prefix, _) = bytes.split_at(count);
         self.forest.write(ino, off as usize, prefix)?;
         Ok(count)
+    }
+
+    fn cut(&mut self, ino: u64, len: u64) -> Result<(), HostErr>
+        requires file { IsFile self.old.view.forest ino }
+        requires fits { len ≤ FILE_LIMIT }
+        ensures exact { CutsBy self.old ino len result self.new }
+        ensures legal { Cuts self.old.view ino len result self.new.view }
+        ensures cause { HasCause self.old.script.faults self.new.script.faults
+            (IsErrOf result HostErr.Failed) }
+    {
+        self.script.begin(false)?;
+        self.forest.cut(ino, len as usize)?;
+        Ok(())
     }
 
     fn next_stop(&mut self, waiting: &[u32]) -> Result<usize, HostErr>

@@ -1,14 +1,15 @@
 // A node in memory, and what each kind of node answers.
 ghost use Rattle.std.specs.Prelude.{◌≡◌, ◌+◌, ◌≤◌, None, [], ◌∷◌, ◌++◌, length, map, unwrap_or, option_map, option_copied, option_and_then, vec_items, IfOk, OnOk, OnErr, IfSome};
 ghost use Rattle.std.specs.List.Sorted.{IsPermutation};
-ghost use Rattle.std.specs.FinMap.{entries, get, insert};
+ghost use Rattle.std.specs.FinMap.{entries, get, insert, remove};
 ghost use Rattle.dt_host.specs.World.{file, dir, file_bytes, dir_names, link_target};
-ghost use Rattle.dt_base.specs.Bytes.{overwritten};
+ghost use Rattle.dt_base.specs.Bytes.{overwritten, resized};
 ghost use Rattle.dt_host.specs.Legal.{new_node, named};
+ghost use Rattle.dt_memhost.specs.Order.{without};
 ghost use Rattle.dt_memhost.specs.inner.Node.{node_of, entries_of};
 
 use crate::dir::Entries;
-use crate::transfer::overwrite;
+use crate::transfer::{overwrite, resize};
 use dt_base::{Blob, NoMemory};
 use dt_host::{HostEntry, NodeKind};
 use std::alloc::Global;
@@ -112,6 +113,32 @@ impl MemNode {
         match self {
             MemNode::Dir(entries) => entries.bind(name, number),
             MemNode::File(_) | MemNode::Link(_) => Ok(()),
+        }
+    }
+
+    /// Takes the entry of that name out of a directory; any other node stays.
+    pub(crate) fn unbind(&mut self, name: &[u8])
+        ensures names { IfSome (dir_names (node_of self.old))
+            (λ old. node_of self.new ≡ dir (remove old name.now)) }
+        ensures order { entries_of self.new ≡ without (entries_of self.old) name.now }
+    {
+        match self {
+            MemNode::Dir(entries) => entries.unbind(name),
+            MemNode::File(_) | MemNode::Link(_) => (),
+        }
+    }
+
+    /// Cuts a file to a length, or puts zeros behind its bytes up to it; any other node stays.
+    pub(crate) fn cut(&mut self, len: usize) -> Result<(), NoMemory>
+        ensures ok { OnOk result
+            (IfSome (file_bytes (node_of self.old))
+            (λ old. node_of self.new ≡ file (resized old len))) }
+        ensures err { OnErr result (node_of self.new ≡ node_of self.old) }
+        ensures order { entries_of self.new ≡ entries_of self.old }
+    {
+        match self {
+            MemNode::File(bytes) => resize(bytes, len),
+            MemNode::Dir(_) | MemNode::Link(_) => Ok(()),
         }
     }
 }

@@ -1,10 +1,11 @@
 // The live nodes by number. A change at one number leaves the others.
 ghost use Rattle.std.specs.Prelude.{◌≡◌, ◌≢◌, ℕ, ◌+◌, ◌≤◌, None, Some, [], ◌∷◌, ◌++◌, length, map, unwrap_or, option_map, option_copied, option_and_then, vec_items, IfOk, OnOk, OnErr, IfSome};
 ghost use Rattle.std.specs.List.Sorted.{IsPermutation};
-ghost use Rattle.std.specs.FinMap.{entries, get, insert};
+ghost use Rattle.std.specs.FinMap.{entries, get, insert, remove};
 ghost use Rattle.dt_host.specs.World.{file, dir, file_bytes, dir_names, link_target};
-ghost use Rattle.dt_base.specs.Bytes.{overwritten};
+ghost use Rattle.dt_base.specs.Bytes.{overwritten, resized};
 ghost use Rattle.dt_host.specs.Legal.{named};
+ghost use Rattle.dt_memhost.specs.Order.{without};
 ghost use Rattle.dt_memhost.specs.inner.Node.{node_of, node_in, order_in};
 
 use crate::node::MemNode;
@@ -102,6 +103,37 @@ pub(crate) fn bind(nodes: &mut Nodes, number: u64, name: Vec<u8>, to: u64) -> Re
 {
     match nodes.get_mut(&number) {
         Some(node) => node.bind(name, to),
+        None => Ok(()),
+    }
+}
+
+/// Takes the entry of that name out of the directory of that number.
+pub(crate) fn unbind(nodes: &mut Nodes, number: u64, name: &[u8])
+    ensures names { IfSome (option_and_then dir_names (node_in nodes.old number))
+        (λ old. node_in nodes.new number ≡ Some (dir (remove old name.now))) }
+    ensures order { order_in nodes.new number
+        ≡ option_map (λ order. without order name.now) (order_in nodes.old number) }
+    ensures others { (q : ℕ) → q ≢ number → node_in nodes.new q ≡ node_in nodes.old q }
+    ensures other_orders { (q : ℕ) → q ≢ number → order_in nodes.new q ≡ order_in nodes.old q }
+{
+    match nodes.get_mut(&number) {
+        Some(node) => node.unbind(name),
+        None => (),
+    }
+}
+
+/// Cuts the file of that number to a length, or puts zeros behind its bytes up to it.
+pub(crate) fn cut(nodes: &mut Nodes, number: u64, len: usize) -> Result<(), NoMemory>
+    ensures ok { OnOk result
+        (IfSome (option_and_then file_bytes (node_in nodes.old number))
+        (λ old. node_in nodes.new number ≡ Some (file (resized old len)))) }
+    ensures err { OnErr result (node_in nodes.new number ≡ node_in nodes.old number) }
+    ensures order { order_in nodes.new number ≡ order_in nodes.old number }
+    ensures others { (q : ℕ) → q ≢ number → node_in nodes.new q ≡ node_in nodes.old q }
+    ensures other_orders { (q : ℕ) → q ≢ number → order_in nodes.new q ≡ order_in nodes.old q }
+{
+    match nodes.get_mut(&number) {
+        Some(node) => node.cut(len),
         None => Ok(()),
     }
 }

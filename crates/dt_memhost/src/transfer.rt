@@ -1,6 +1,6 @@
-// Copies of bytes into a buffer and over a file.
+// Copies of bytes into a buffer and over a file, and changes of its length.
 ghost use Rattle.std.specs.Prelude.{◌≡◌, ◌+◌, ◌≤◌, ◌++◌, length, take, drop, vec_len, OnOk, OnErr};
-ghost use Rattle.dt_base.specs.Bytes.{overwritten};
+ghost use Rattle.dt_base.specs.Bytes.{overwritten, resized};
 
 use dt_base::NoMemory;
 
@@ -25,5 +25,14 @@ pub(crate) fn overwrite(bytes: &mut Vec<u8>, off: usize, piece: &[u8]) -> Result
     let (over, past) = piece.split_at(inside);
     bytes.extend_from_slice(past)?;
     bytes[off..off + inside].copy_from_slice(over);
+    Ok(())
+}
+
+/// Cuts bytes to a length, or puts zeros behind them up to it.
+pub(crate) fn resize(bytes: &mut Vec<u8>, len: usize) -> Result<(), NoMemory>
+    ensures ok { OnOk result (bytes.new.items ≡ resized bytes.old.items len) }
+    ensures err { OnErr result (bytes.new.items ≡ bytes.old.items) }
+{
+    bytes.resize(len, 0)?;
     Ok(())
 }

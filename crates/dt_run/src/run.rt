@@ -130,9 +130,9 @@ fn status_by(end: Option<End>) -> u8
 
 // The report of a run that is over.
 fn report_text<H: Host>(alloc: Global, host: &mut H, run: &Run) -> Result<Vec<u8>, HostErr>
-    requires { Stands run.now.last.shared.tree (H.view host.old).forest }
+    requires { Stands run.now.last.shared.fs.tree (H.view host.old).forest }
     ensures ok { IfOk result (λ text. text.items ≡ report run.now.events.items run.now.verdict
-        (tree_of run.now.last.shared.tree (H.view host.old).forest)) }
+        (tree_of run.now.last.shared.fs.tree (H.view host.old).forest)) }
     ensures asks { Asks H.view H.count host.old host.new result }
 {
     let events = events_text(alloc, &run.events)?;

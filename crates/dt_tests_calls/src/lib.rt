@@ -4,6 +4,10 @@
 #[cfg(test)]
 mod files;
 #[cfg(test)]
+mod full;
+#[cfg(test)]
 mod memory;
 #[cfg(test)]
 mod programs;
+#[cfg(test)]
+mod trees;

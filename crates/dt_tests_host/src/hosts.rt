@@ -1,6 +1,6 @@
 // A host in memory: what it keeps, what its words choose, and which calls fail.
 ghost use Rattle.std.specs.Prelude.{OnOk};
-ghost use Rattle.dt_host.specs.World.{IsDir};
+ghost use Rattle.dt_host.specs.World.{IsDir, IsEmptyStart};
 
 use dt_base::Blob;
 use dt_host::{Host, HostEntry, HostErr, NodeKind, RawStat, read_whole, sorted_names, write_whole};
@@ -165,5 +165,73 @@ fn listed_calls_fail_and_take_no_word(rt: HostRuntime) -> Result<(), Fail> {
     assert_eq!(rt; buf, [3]);
     assert_eq!(rt; host.faults(), 6);
     assert_eq!(rt; host.clock()?, 21);
+    Ok(())
+}
+
+// Takes a name out of a directory, where it has that name.
+fn unbind_there(host: &mut MemHost, dir: u64, name: &[u8]) -> Result<(), HostErr>
+    requires { IsDir host.old.view.forest dir }
+    ensures { IsDir host.new.view.forest dir }
+{
+    match host.find(dir, name)? {
+        Some(_) => host.unbind(dir, name),
+        None => Ok(()),
+    }
+}
+
+#[test]
+fn names_left_keep_their_order(rt: HostRuntime) -> Result<(), Fail> {
+    let alloc = rt.alloc();
+    let picker = Picker::new(vec![in alloc; 0, 0, 0, 0]?, 1);
+    let mut host = MemHost::new(alloc, picker, vec![in alloc; 12]?)?;
+    let root = host.root()?;
+    bind_itself(&mut host, root, b"one")?;
+    bind_itself(&mut host, root, b"two")?;
+    bind_itself(&mut host, root, b"three")?;
+    unbind_there(&mut host, root, b"one")?;
+    let left = host.names(root)?;
+    assert!(rt; are_named(&left, 1, &["two", "three"]));
+    let failed = unbind_there(&mut host, root, b"two").err();
+    assert_eq!(rt; failed, Some(HostErr::Failed));
+    let left = host.names(root)?;
+    assert!(rt; are_named(&left, 1, &["two", "three"]));
+    Ok(())
+}
+
+// Makes a file beside nothing but a root, and lets it go.
+fn forget_new(host: &mut MemHost) -> Result<(), HostErr>
+    requires { IsEmptyStart host.old.view }
+{
+    let file = host.make(NodeKind::File)?;
+    host.forget(file)
+}
+
+#[test]
+fn number_is_free_once_its_node_is_gone(rt: HostRuntime) -> Result<(), Fail> {
+    let alloc = rt.alloc();
+    let picker = Picker::new(vec![in alloc; 4, 4]?, 1);
+    let mut host = MemHost::new(alloc, picker, Vec::new(alloc))?;
+    forget_new(&mut host)?;
+    assert_eq!(rt; host.make(NodeKind::File)?, 5);
+    let picker = Picker::new(vec![in alloc; 4, 4]?, 1);
+    let mut host = MemHost::new(alloc, picker, vec![in alloc; 2]?)?;
+    assert_eq!(rt; forget_new(&mut host).err(), Some(HostErr::Failed));
+    assert_eq!(rt; host.make(NodeKind::File)?, 6);
+    Ok(())
+}
+
+#[test]
+fn file_is_cut_and_gets_zeros(rt: HostRuntime) -> Result<(), Fail> {
+    let alloc = rt.alloc();
+    let picker = Picker::new(vec![in alloc; 5, 9]?, 1);
+    let mut host = MemHost::new(alloc, picker, vec![in alloc; 5]?)?;
+    let file = host.make(NodeKind::File)?;
+    write_whole(&mut host, file, 0, b"some bytes")?;
+    host.cut(file, 4)?;
+    host.cut(file, 6)?;
+    assert_eq!(rt; host.cut(file, 2).err(), Some(HostErr::Failed));
+    let mut buf = [1; 8];
+    let count = read_whole(&mut host, file, 0, &mut buf)?;
+    assert_eq!(rt; &buf[..count], b"some\0\0".as_slice());
     Ok(())
 }

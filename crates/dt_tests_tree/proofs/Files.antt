@@ -1,5 +1,5 @@
 -- What a name in a tree leads to is there, and is a file where it is nothing else.
-use Rattle.std.proofs.Common.{◌≡◌, ℕ, true, false, List, [], Option, Some, None, refl}
+use Rattle.std.proofs.Common.{◌≡◌, ℕ, false, List, Option, Some, None, refl}
 use Rattle.std.specs.Prelude.{IsSome, is_some, option_and_then}
 use Rattle.dt_host.specs.World.{Forest, Node, file, dir, link, node_at, file_bytes, dir_names, link_target, entry, IsFile, IsLive}
 use Rattle.dt_tree.specs.Shape.{is_dir, is_link}

@@ -5,7 +5,7 @@ use Rattle.std.specs.FinMap.{get}
 use Rattle.dt_host.specs.World.{Forest, entry, dir_at, target_at, IsDir, IsFile, IsLink}
 use Rattle.dt_tree.specs.Shape.{is_dir, is_link}
 use Rattle.dt_tree.specs.declared.inode.Inode.{Inode}
-use Rattle.dt_tree.specs.Table.{Table, Stands, Pairs, real_of, shape_of}
+use Rattle.dt_tree.specs.Table.{Table, Pairs, real_of, shape_of}
 use Rattle.dt_tree.proofs.Mirroring.{real_dir, target_at-inode, file_at-inode, live_named, entry-real}
 
 some_if : {X : Type 0} (found : Option X) → is_some found ≡ true → IsSome found

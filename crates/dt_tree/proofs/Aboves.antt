@@ -1,14 +1,14 @@
 -- The directory above one, and how far the root is.
-use Rattle.std.proofs.Common.{arith, ◌≡◌, ◌≢◌, ℕ, zero, suc, ◌+◌, ◌-◌, ◌≤◌, ◌<◌, cond, true, false, Bool, ◌||◌, List, [], ◌∷◌, Option, Some, None, refl, sym, ap, subst, ◌∙◌}
+use Rattle.std.proofs.Common.{arith, ◌≡◌, ℕ, zero, suc, ◌+◌, ◌-◌, ◌≤◌, ◌<◌, cond, true, false, Bool, ◌||◌, List, [], ◌∷◌, Option, Some, None, refl, sym, ap, subst, ◌∙◌}
 use Rattle.std.proofs.lemmas.Bool.Decides.{nat_tests}
-use Rattle.std.specs.Prelude.{IsSome, is_some, ◌==◌}
+use Rattle.std.specs.Prelude.{IsSome, is_some}
 use Rattle.std.specs.List.{find, list_any}
 use Rattle.std.specs.declared.cmp.Ordering.{Ordering}
 use Rattle.std.specs.declared.cmp.Ordering.TheVariants.{Less, Equal, Greater}
 use Rattle.std.specs.Ordering.{nat_cmp, is_eq, eq_by_cmp}
 use Rattle.std.specs.Cmp.{nat_cmp_total}
 use Rattle.std.specs.FinMap.{FinMap, IsAntisymmetric, get, keys, len, remove, empty_of_len, get-empty, len-remove, contains_key-keys, nat_cmp-IsAntisymmetric}
-use Rattle.dt_host.specs.World.{Forest, names_at, entry, IsDir, IsLive}
+use Rattle.dt_host.specs.World.{Forest, names_at, entry, IsDir}
 use Rattle.dt_host.proofs.Maps.{names_tie, at_remove}
 use Rattle.dt_host.proofs.Spots.{IsDir-entry, IsLive-IsDir}
 use Rattle.dt_tree.specs.Shape.{names_of, LeadsUp, IsShaped}

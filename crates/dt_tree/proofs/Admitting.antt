@@ -1,22 +1,18 @@
 -- A new node at the host and in the table is a new node of the tree.
-use Rattle.std.proofs.Common.{arith, ◌≡◌, ◌≢◌, ℕ, ◌+◌, ◌≤◌, List, [], cond, true, false, Option, Some, None, inl, inr, refl, sym, ap, subst, ◌∙◌}
-use Rattle.std.proofs.lemmas.Bool.{cases_eq}
+use Rattle.std.proofs.Common.{◌≡◌, ◌≢◌, ℕ, ◌+◌, [], true, Option, Some, None, refl, sym, ap, subst, ◌∙◌}
 use Rattle.std.specs.Prelude.{IsSome, is_some, unwrap_or, option_map, option_and_then}
 use Rattle.std.specs.Ordering.{nat_cmp}
 use Rattle.std.specs.Cmp.{nat_cmp_total}
 use Rattle.std.specs.Cmp.Lexicographic.{slice_cmp, nat_list_cmp_total}
-use Rattle.std.specs.FinMap.{FinMap, empty, get, insert, get-empty, same_map, nat_cmp-IsAntisymmetric}
-use Rattle.dt_host.specs.World.{Forest, Node, Names, file, dir, link, node_at, dir_names, names_at, entry, with_node, IsLive}
+use Rattle.std.specs.FinMap.{empty, get, insert, get-empty, same_map, nat_cmp-IsAntisymmetric}
+use Rattle.dt_host.specs.World.{Forest, Node, file, dir, link, node_at, dir_names, names_at, entry, with_node, IsLive}
 use Rattle.dt_host.proofs.Maps.{at_insert, names_tie, get-insert_same, get-insert_other}
-use Rattle.dt_tree.specs.declared.inode.Kind.{Kind}
-use Rattle.dt_tree.specs.declared.inode.Kind.TheVariants.{Dir}
 use Rattle.dt_tree.specs.declared.inode.Inode.{Inode}
-use Rattle.dt_tree.specs.Shape.{names_of}
-use Rattle.dt_tree.specs.FileTree.{FileTree, Attributes}
+use Rattle.dt_tree.specs.Shape.{names_of, name_count}
 use Rattle.dt_host.specs.Values.{map_values}
-use Rattle.dt_tree.specs.Table.{Table, virtual, real_of, renumbered, node_for, shape_of, attributes_of, tree_of, kind_of, IsUp, Keeps, Pairs, Mirrors}
+use Rattle.dt_tree.specs.Table.{Table, virtual, real_of, renumbered, node_for, shape_of, attributes_of, tree_of, kind_of, IsUp, Keeps, Mirrors}
 use Rattle.dt_tree.specs.inner.Tables.{with_new}
-use Rattle.dt_tree.proofs.Namings.{names_of-with_new}
+use Rattle.dt_tree.proofs.Namings.{names_of-with_new, name_count-with_new}
 use Rattle.dt_host.proofs.Spots.{entry-with_new}
 use Rattle.dt_host.proofs.Valued.{get-map_values, map_values-insert, map_values-alike}
 use Rattle.dt_tree.proofs.Mirroring.{node_at-shape, real_live}
@@ -82,6 +78,7 @@ module _ (t : Table) (v : Forest) (inode : Inode) (node : Node) (s : Mirrors t v
       root = still_real 1 v.root s.pairs.root;
     };
     kept = λ n other e. subst (λ shape. Keeps shape n other) (sym shape-new) (by_inode n other e);
+    counted = s.counted ∙ sym (ap (λ shape. name_count shape) shape-new ∙ name_count-with_new (shape_of t v) t.next node free_node bare);
   }
     where
       live_still : (real : ℕ) → IsLive v real → IsLive (with_node v inode.real node) real

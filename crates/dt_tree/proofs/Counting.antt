@@ -1,5 +1,5 @@
 -- What the host tells of a directory, in any order or in its own, counts and lists its entries.
-use Rattle.std.proofs.Common.{arith, ◌≡◌, ℕ, ◌+◌, ◌≤◌, List, map, length, cond, Some, sym, ap, ◌∙◌}
+use Rattle.std.proofs.Common.{arith, ◌≡◌, ℕ, ◌≤◌, List, map, length, cond, Some, sym, ap, ◌∙◌}
 use Rattle.std.proofs.lemmas.List.{length-map}
 use Rattle.std.proofs.lemmas.List.Sorted.{sum_by-IsPermutation, length_permutation}
 use Rattle.std.proofs.lemmas.List.Sums.{sum-map}
@@ -12,7 +12,6 @@ use Rattle.std.specs.Ordering.{nat_cmp}
 use Rattle.std.specs.FinMap.{get, entries, len, len-entries}
 use Rattle.dt_host.specs.World.{Forest, names_at}
 use Rattle.dt_host.specs.Legal.{named}
-use Rattle.dt_host.specs.Values.{map_values}
 use Rattle.dt_host.specs.declared.entry.HostEntry.{HostEntry}
 use Rattle.dt_host.proofs.Maps.{names_tie}
 use Rattle.dt_host.proofs.Valued.{entries-map_values}
@@ -44,13 +43,19 @@ module _ (t : Table) (v : Forest) (s : Pairs t v) (d : ℕ) (inode : Inode) (at 
         ∙ sym (sum_by-mapped test (λ e. (e.0, virtual t e.1)) (entries (names_at v inode.real)))
         ∙ ap (sum_by test) (sym entries-inode)
 
-    -- no more than there are names in all
-    pub few_told : length found ≤ name_count (shape_of t v)
-    few_told =
+    -- as many as the directory has
+    pub length_told : length found ≡ len (names_at (shape_of t v) d)
+    length_told =
         let a = length-map found named in
         let b = length_permutation (entries (names_at v inode.real)) (map named found) told in
         let c = ap length entries-inode ∙ length-map (entries (names_at v inode.real)) (λ (e : List ℕ × ℕ). (e.0, virtual t e.1)) in
         let size = len-entries (names_at (shape_of t v) d) in
+        omega arith
+
+    -- no more than there are names in all
+    pub few_told : length found ≤ name_count (shape_of t v)
+    few_told =
+        let all = length_told in
         let most = len-names_at (shape_of t v) d in
         omega arith
 

@@ -1,12 +1,11 @@
 -- The tree of an image's first entries, and with one entry more.
-use Rattle.std.proofs.Common.{arith, ◌≡◌, ◌≢◌, ◌⊎◌, inl, inr, ℕ, zero, suc, ◌+◌, ◌≤◌, ◌<◌, List, [], ◌∷◌, ◌++◌, length, map, length-append, Bool, true, false, cond, Option, Some, None, refl, sym, ap, subst, ◌∙◌, append-nil}
-use Rattle.std.proofs.lemmas.Bool.{cases_eq}
+use Rattle.std.proofs.Common.{arith, ◌≡◌, ◌≢◌, ◌⊎◌, inl, inr, ℕ, zero, suc, ◌+◌, ◌<◌, List, [], ◌∷◌, ◌++◌, length, map, length-append, Bool, true, false, cond, Option, Some, None, refl, sym, ap, subst, ◌∙◌, append-nil}
 use Rattle.std.proofs.lemmas.Cmp.{tied_itself}
 use Rattle.std.proofs.lemmas.List.{map-append}
 use Rattle.std.proofs.lemmas.List.Elements.{filter-append}
 use Rattle.std.proofs.lemmas.Option.{slice_get_within}
 use Rattle.std.proofs.lemmas.Slice.Eq.{bytes_eq-Decides}
-use Rattle.std.specs.Prelude.{IsTrue, IsSome, slice_get, unwrap_or, option_map, option_and_then}
+use Rattle.std.specs.Prelude.{IsTrue, slice_get, unwrap_or, option_map, option_and_then}
 use Rattle.std.specs.List.{filter, enumerate_from}
 use Rattle.std.specs.Str.{bytes_eq}
 use Rattle.std.specs.declared.cmp.Ordering.{Ordering}
@@ -14,18 +13,17 @@ use Rattle.std.specs.declared.cmp.Ordering.TheVariants.{Less, Equal, Greater}
 use Rattle.std.specs.Ordering.{nat_cmp, is_eq}
 use Rattle.std.specs.Cmp.{nat_cmp_total}
 use Rattle.std.specs.Cmp.Lexicographic.{slice_cmp, nat_list_cmp_total}
-use Rattle.std.specs.FinMap.{FinMap, empty, get, insert, find, from_entries, from_entries_push, get-from_entries, get-empty, same_map, nat_cmp-IsAntisymmetric}
+use Rattle.std.specs.FinMap.{empty, get, insert, find, from_entries, from_entries_push, get-from_entries, get-empty, same_map, nat_cmp-IsAntisymmetric}
 use Rattle.dt_base.specs.declared.image.Entry.{Entry}
 use Rattle.dt_base.specs.declared.image.What.{What}
 use Rattle.dt_base.specs.declared.image.What.TheVariants.{File, Dir, Link}
 use Rattle.dt_base.specs.Path.{is_path, parent_of}
-use Rattle.dt_host.specs.World.{Forest, Names, Node, file, dir, link, node_at, dir_names, names_at, entry, with_node, with_entry, IsDir}
+use Rattle.dt_host.specs.World.{dir, dir_names, names_at, with_node, with_entry}
 use Rattle.dt_host.proofs.Maps.{at_insert, names_tie, get-insert_same, get-insert_other}
 use Rattle.dt_host.proofs.Worlds.{node_at-with_node_other}
-use Rattle.dt_tree.specs.declared.limits.TheConstants.{ROOT, FIRST_INODE}
-use Rattle.dt_tree.specs.FileTree.{Attributes, FileTree}
+use Rattle.dt_tree.specs.FileTree.{Attributes}
 use Rattle.dt_tree.specs.ImageTree.{last_name, numbered, names_below, node_of, image_nodes, at_start, image_attributes, image_tree}
-use Rattle.dt_tree.specs.inner.Created.{new_node, with_made, with_shape, created}
+use Rattle.dt_tree.specs.Changes.{new_node, created}
 use Rattle.dt_tree.proofs.Paths.{begins, split, parent_before}
 use Rattle.dt_tree.proofs.Entries.{Before, not_itself, not_both_ways, get_left, get_last, get_past}
 

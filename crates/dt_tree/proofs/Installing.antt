@@ -1,12 +1,12 @@
 -- An image, entry by entry: where each entry goes, and that it may be created there.
-use Rattle.std.proofs.Common.{arith, ◌≡◌, ◌≢◌, ◌⊎◌, inl, inr, ℕ, ◌+◌, ◌-◌, ◌≤◌, ◌<◌, ◌^◌, min, List, [], ◌∷◌, ◌++◌, length, take, get_or, Bool, true, false, ◌&&◌, ◌||◌, Option, Some, None, Ok, Err, refl, sym, ap, subst, ◌∙◌}
+use Rattle.std.proofs.Common.{arith, ◌≡◌, ◌⊎◌, inl, inr, ℕ, ◌+◌, ◌≤◌, ◌<◌, List, [], length, take, get_or, Bool, true, false, ◌&&◌, ◌||◌, Option, Some, None, Ok, Err, refl, sym, ap, subst, ◌∙◌}
 use Rattle.std.proofs.lemmas.Bool.{cases_eq, cases_lt}
 use Rattle.std.proofs.lemmas.Cmp.{tied_itself}
 use Rattle.std.proofs.lemmas.List.{length-take}
 use Rattle.std.proofs.lemmas.Option.{slice_get_within, slice_get-get_or, get_or_from_slice_get}
 use Rattle.std.proofs.lemmas.Slice.Eq.{bytes_eq-Decides}
 use Rattle.std.specs.Prelude.{IsTrue, IsSome, slice_get, unwrap_or, option_and_then}
-use Rattle.std.specs.List.{list_all, list_any}
+use Rattle.std.specs.List.{list_any}
 use Rattle.std.specs.List.Sorted.{IsNonDecreasingBy, IsBinarySearchResult}
 use Rattle.std.specs.Str.{bytes_eq}
 use Rattle.std.specs.declared.cmp.Ordering.{Ordering}
@@ -19,14 +19,14 @@ use Rattle.dt_base.specs.declared.image.What.{What}
 use Rattle.dt_base.specs.declared.image.What.TheVariants.{File, Dir, Link}
 use Rattle.dt_base.specs.declared.limits.TheConstants.{ENTRY_LIMIT}
 use Rattle.dt_base.specs.Path.{is_path, is_top, parent_of}
-use Rattle.dt_base.specs.Image.{is_good_what, is_good_entry, is_dir, is_dir_at, has_parent, is_rising, IsImage}
+use Rattle.dt_base.specs.Image.{is_good_what, is_good_entry, is_dir, is_dir_at, has_parent, IsImage}
 use Rattle.dt_host.specs.World.{Node, dir, dir_names, node_at, names_at, entry, IsDir}
 use Rattle.dt_host.proofs.Maps.{names_tie}
-use Rattle.dt_tree.specs.declared.limits.TheConstants.{ROOT, FIRST_INODE, NODE_LIMIT}
-use Rattle.dt_tree.specs.Shape.{names_of, name_count, IsUnder, IsRemoved}
-use Rattle.dt_tree.specs.FileTree.{FileTree, IsTree, is_entry_name}
+use Rattle.dt_tree.specs.Shape.{IsUnder, IsRemoved}
+use Rattle.dt_tree.specs.FileTree.{FileTree, IsTree}
 use Rattle.dt_tree.specs.ImageTree.{last_name, image_tree, names_below}
-use Rattle.dt_tree.specs.inner.Created.{new_node, created, MayCreate}
+use Rattle.dt_tree.specs.Changes.{new_node, created}
+use Rattle.dt_tree.specs.inner.Created.{MayCreate}
 use Rattle.dt_tree.specs.inner.Places.{LeadsTo}
 use Rattle.dt_tree.proofs.Shapes.{itself}
 use Rattle.dt_tree.proofs.Paths.{begins, parent_before, last_good, top_parent}
@@ -110,16 +110,14 @@ module _ (entries : List Entry) (is : IsImage entries) (i : ℕ) (e : Entry) (at
     unfolding entry names_at
     name_free = ap (λ found. get (unwrap_or (option_and_then dir_names found) empty) (last_name e.path)) there ∙ free (take i entries) e n place paths once before good_parts.0
 
-    pub may : (t : FileTree) → t ≡ image_tree (take i entries) → IsTree t → len t.shape.nodes ≡ i + 1 → name_count t.shape ≡ i → MayCreate t n (last_name e.path) e.what e.mode
-    may t same s nodes names = record {
+    pub may : (t : FileTree) → t ≡ image_tree (take i entries) → IsTree t → len t.shape.nodes ≡ i + 1 → MayCreate t n (last_name e.path) e.what e.mode
+    may t same s nodes = record {
       is_dir = subst (λ (t : FileTree). IsDir t.shape n) (sym same) is_dir_there;
       under = subst (λ (t : FileTree). IsUnder t.shape n) (sym same) (under (subst IsTree same s));
       free = subst (λ (t : FileTree). entry t.shape n (last_name e.path) ≡ None) (sym same) name_free;
       named = last_good e.path good_parts.0;
       good = good_parts.1;
       room = omega (arith, low);
-      few_names = omega (arith, low);
-      few = let next = ap (λ (t : FileTree). t.next) same in omega (arith, low, taken_len);
     }
 
     pub more : image_tree (take (i + 1) entries) ≡ created (image_tree (take i entries)) n (last_name e.path) (new_node e.what) e.mode 0

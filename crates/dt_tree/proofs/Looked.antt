@@ -1,9 +1,9 @@
 -- What is told of a node by what is kept of it.
-use Rattle.std.proofs.Common.{arith, ◌≡◌, ℕ, ◌+◌, List, [], length, cond, true, false, not, ◌&&◌, Option, Some, None, refl, sym, ap, subst, ◌∙◌}
+use Rattle.std.proofs.Common.{◌≡◌, ℕ, ◌+◌, List, [], length, cond, true, false, Option, Some, None, refl, sym, ap, subst, ◌∙◌}
 use Rattle.std.specs.Prelude.{IsSome, is_some, unwrap_or, option_map, option_and_then, IfSome}
 use Rattle.std.specs.Cmp.{nat_cmp_total}
 use Rattle.std.specs.FinMap.{get}
-use Rattle.dt_host.specs.World.{Forest, Node, file, dir, link, node_at, dir_names, dir_at, link_target, target_at, file_bytes, file_at, IsDir, IsLink, IsFile, content}
+use Rattle.dt_host.specs.World.{Forest, Node, file, dir, link, node_at, dir_names, dir_at, link_target, target_at, file_bytes, file_at, IsDir, IsLink, content}
 use Rattle.dt_host.specs.Values.{map_values}
 use Rattle.dt_host.proofs.Valued.{get-map_values}
 use Rattle.dt_tree.specs.declared.inode.Kind.{Kind}

@@ -1,5 +1,5 @@
 -- The steps by which a node is made.
-use Rattle.std.proofs.Common.{◌≡◌, ℕ, ◌+◌, List, [], ◌++◌, length, drop, Option, Some, None, refl, sym, ap, subst, ◌∙◌, append-nil}
+use Rattle.std.proofs.Common.{◌≡◌, ℕ, ◌+◌, List, [], ◌++◌, length, Option, Some, None, refl, sym, ap, subst, ◌∙◌, append-nil}
 use Rattle.std.proofs.Math.Seq.{drop-nil}
 use Rattle.std.specs.Prelude.{IsSome, unwrap_or, option_map}
 use Rattle.std.specs.Cmp.{nat_cmp_total}
@@ -12,12 +12,13 @@ use Rattle.dt_host.specs.Values.{map_values}
 use Rattle.dt_host.proofs.Maps.{insert_same, get-insert_same}
 use Rattle.dt_host.proofs.Changes.{content-made}
 use Rattle.dt_tree.specs.declared.inode.Inode.{Inode}
-use Rattle.dt_tree.specs.Shape.{names_of}
+use Rattle.dt_tree.specs.Shape.{names_of, name_count}
 use Rattle.dt_tree.specs.FileTree.{FileTree, IsTree}
 use Rattle.dt_tree.specs.Table.{Table, shape_of, attributes_of, tree_of, kind_of, node_for, Mirrors, Stands}
 use Rattle.dt_tree.specs.inner.Tables.{with_new}
-use Rattle.dt_tree.specs.inner.Created.{IsMadeAt, with_made, with_shape, created}
-use Rattle.dt_tree.proofs.Namings.{names_of-with_new}
+use Rattle.dt_tree.specs.Changes.{with_made, with_shape, created}
+use Rattle.dt_tree.specs.inner.Created.{IsMadeAt}
+use Rattle.dt_tree.proofs.Namings.{name_count-with_new}
 use Rattle.dt_tree.proofs.Shapes.{nameless_if_free}
 use Rattle.dt_tree.proofs.Trees.{free_next}
 use Rattle.dt_tree.proofs.Mirroring.{node_at-shape}
@@ -55,9 +56,9 @@ module _ (t : Table) (v : Forest) (inode : Inode) (node : Node) (s : Stands t v)
   pub tree_made : tree_of (with_new t inode) (with_node v inode.real node) ≡ record { shape = with_node (shape_of t v) t.next node; attributes = insert (map_values attributes_of t.inodes) t.next (attributes_of inode); next = t.next + 1 }
   tree_made = tree-new t v inode node s.mirrors free_inode free_real bare
 
--- a new node has no name
-pub nameless_made : (t : FileTree) (node : Node) → IsTree t → unwrap_or (dir_names node) empty ≡ empty → names_of (with_node t.shape t.next node) t.next ≡ 0
-nameless_made t node s bare = names_of-with_new t.shape t.next t.next node (free_next None t s) bare ∙ nameless_if_free t.shape s.shaped t.next node (free_next None t s) bare
+-- a new node brings no names
+pub names-made : (t : FileTree) (node : Node) → IsTree t → unwrap_or (dir_names node) empty ≡ empty → name_count (with_node t.shape t.next node) ≡ name_count t.shape
+names-made t node s bare = name_count-with_new t.shape t.next node (free_next None t s) bare
 
 pub live_made : (t : FileTree) (node : Node) → IsLive (with_node t.shape t.next node) t.next
 live_made t node = subst (λ found. IsSome found) (sym (get-insert_same nat_cmp_total nat_cmp-IsAntisymmetric t.shape.nodes t.next node)) refl

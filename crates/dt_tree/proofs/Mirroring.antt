@@ -1,18 +1,19 @@
 -- A change of the host and of a inode is a change of the tree that they give.
-use Rattle.std.proofs.Common.{◌≡◌, ◌≢◌, ℕ, List, [], true, false, Option, Some, None, refl, sym, ap, subst, ◌∙◌}
+use Rattle.std.proofs.Common.{◌≡◌, ◌≢◌, ℕ, List, [], length, true, false, Option, Some, None, refl, sym, ap, subst, ◌∙◌}
+use Rattle.std.proofs.lemmas.List.{length-map}
 use Rattle.std.specs.Prelude.{IsSome, is_some, unwrap_or, option_map, option_and_then}
 use Rattle.std.specs.Ordering.{nat_cmp}
 use Rattle.std.specs.Cmp.{nat_cmp_total}
 use Rattle.std.specs.Cmp.Lexicographic.{slice_cmp, nat_list_cmp_total}
-use Rattle.std.specs.FinMap.{empty, get, insert, get-empty, same_map, nat_cmp-IsAntisymmetric}
-use Rattle.dt_host.specs.World.{Forest, Node, file, dir, link, file_bytes, file_at, IsFile, link_target, target_at, IsLink, node_at, dir_names, names_at, entry, with_node, with_entry, IsDir, IsLive}
+use Rattle.std.specs.FinMap.{empty, entries, len, len-entries, get, insert, remove, get-empty, same_map, nat_cmp-IsAntisymmetric}
+use Rattle.dt_host.specs.World.{Forest, Node, file, dir, link, file_bytes, file_at, IsFile, link_target, target_at, IsLink, node_at, dir_names, names_at, entry, with_node, with_entry, without_entry, IsDir, IsLive}
 use Rattle.dt_host.specs.Values.{map_values}
 use Rattle.dt_host.proofs.Maps.{at_insert, names_tie, get-insert_same, get-insert_other}
-use Rattle.dt_host.proofs.Spots.{IsLive-IsDir}
-use Rattle.dt_host.proofs.Valued.{get-map_values, map_values-insert}
+use Rattle.dt_host.proofs.Spots.{IsDir-entry, IsLive-IsDir}
+use Rattle.dt_host.proofs.Valued.{get-map_values, map_values-insert, map_values-remove, entries-map_values}
 use Rattle.dt_tree.specs.declared.inode.Inode.{Inode}
-use Rattle.dt_tree.specs.Table.{Table, virtual, real_of, renumbered, node_for, shape_of, Pairs}
-use Rattle.dt_tree.specs.inner.Tables.{with_inode}
+use Rattle.dt_tree.specs.Table.{Table, virtual, renumbered, node_for, shape_of, Pairs}
+use Rattle.dt_tree.specs.inner.Tables.{with_inode, with_names}
 
 pub same_some : {X : Type 0} (x y : X) → Some x ≡ Some y → x ≡ y
 same_some x y e = cc
@@ -32,6 +33,11 @@ shape-with_inode t v m old new there same =
     (λ is. ap (λ real. Some (renumbered (virtual t) (unwrap_or (node_at v real) (file [])))) same ∙ sym (ap (option_map (node_for t v)) (ap (get t.inodes) is ∙ there)))
     (λ _. refl)
     ∙ sym (get-map_values nat_cmp_total (node_for t v) t.inodes q)))
+
+-- so does another count of names
+pub shape-with_names : (t : Table) (v : Forest) (names : ℕ) → shape_of (with_names t names) v ≡ shape_of t v
+unfolding shape_of
+shape-with_names t v names = refl
 
 -- what a directory names, under the table's numbers
 names_of_node : (f : ℕ → ℕ) (found : Option Node) → unwrap_or (option_and_then dir_names (option_map (λ node. renumbered f node) found)) empty ≡ map_values f (unwrap_or (option_and_then dir_names found) empty)
@@ -102,6 +108,14 @@ module _ (t : Table) (v : Forest) (s : Pairs t v) where
       ∙ ap (λ names. with_node (shape_of t v) d (dir names)) (map_values-insert nat_list_cmp_total (virtual t) names_tie (names_at v inode.real) name real)
       ∙ ap (λ names. with_node (shape_of t v) d (dir (insert names name (virtual t real)))) (sym (names_at-inode d inode there))
 
+  -- and one taken away there is taken away
+  pub shape-without_entry : (d : ℕ) (inode : Inode) (name : List ℕ) → get t.inodes d ≡ Some inode → shape_of t (without_entry v inode.real name) ≡ without_entry (shape_of t v) d name
+  unfolding without_entry
+  shape-without_entry d inode name there =
+      shape-with_node d inode (dir (remove (names_at v inode.real) name)) there
+      ∙ ap (λ names. with_node (shape_of t v) d (dir names)) (map_values-remove nat_list_cmp_total (virtual t) names_tie (names_at v inode.real) name)
+      ∙ ap (λ names. with_node (shape_of t v) d (dir (remove names name))) (sym (names_at-inode d inode there))
+
 -- what is kept of a node that is there
 pub has_inode : (t : Table) (v : Forest) (n : ℕ) → IsLive (shape_of t v) n → IsSome (get t.inodes n)
 has_inode t v n live = by_found (get t.inodes n) (subst (λ found. IsSome found) (node_at-shape t v n) live)
@@ -166,6 +180,31 @@ module _ (t : Table) (v : Forest) (s : Pairs t v) (d : ℕ) (inode : Inode) (nam
           none_there : IsSome (entry v inode.real name) → ⊥
           none_there h = gone (entry v inode.real name) p h
       by_real (Some real) p = by_back real (get t.by_real real) p refl (has_number real p)
+
+-- what is kept is there
+pub live-inode : (t : Table) (v : Forest) (n : ℕ) → IsSome (get t.inodes n) → IsLive (shape_of t v) n
+live-inode t v n some = subst (λ found. IsSome found) (sym (node_at-shape t v n)) (by_found (get t.inodes n) some)
+  where
+    by_found : (found : Option Inode) → IsSome found → IsSome (option_map (node_for t v) found)
+    by_found None h = cc
+    by_found (Some x) h = refl
+
+-- as many nodes are kept as there are
+pub len-shape : (t : Table) (v : Forest) → len (shape_of t v).nodes ≡ len t.inodes
+unfolding shape_of
+len-shape t v =
+    len-entries (map_values (node_for t v) t.inodes)
+    ∙ ap length (entries-map_values nat_cmp (node_for t v) nat_cmp_total nat_cmp-IsAntisymmetric t.inodes)
+    ∙ length-map (entries t.inodes) (λ e. (e.0, node_for t v e.1))
+    ∙ sym (len-entries t.inodes)
+
+-- what is named is kept
+pub has_inode-named : (t : Table) (v : Forest) → Pairs t v → (d n : ℕ) (name : List ℕ) → entry (shape_of t v) d name ≡ Some n → IsSome (get t.inodes n)
+has_inode-named t v s d n name e = by_found (get t.inodes d) refl (has_inode-dir t v d (IsDir-entry (shape_of t v) d name n e))
+  where
+    by_found : (found : Option Inode) → get t.inodes d ≡ found → IsSome found → IsSome (get t.inodes n)
+    by_found None p h = cc
+    by_found (Some inode) p h = live_named t v s d inode name p n e
 
 -- a link's target is that at the host
 pub target_at-inode : (t : Table) (v : Forest) (s : Pairs t v) (n : ℕ) (inode : Inode) → get t.inodes n ≡ Some inode → target_at (shape_of t v) n ≡ target_at v inode.real

@@ -1,16 +1,16 @@
 -- How often a node is named, after a change of a forest.
-use Rattle.std.proofs.Common.{arith, ◌≡◌, ◌≢◌, ℕ, zero, suc, ◌+◌, ◌≤◌, ◌<◌, cond, List, [], ◌∷◌, length, Option, Some, None, ◌⊎◌, inl, inr, refl, sym, ap, subst, ◌∙◌}
+use Rattle.std.proofs.Common.{arith, ◌≡◌, ◌≢◌, ℕ, ◌+◌, ◌-◌, ◌≤◌, cond, List, [], ◌∷◌, length, Option, Some, None, ◌⊎◌, inl, inr, refl, sym, ap, ◌∙◌}
 use Rattle.std.proofs.lemmas.Bool.Decides.{nat_tests}
 use Rattle.std.specs.Prelude.{is_some, unwrap_or, option_and_then}
 use Rattle.std.specs.Cmp.{nat_cmp_total}
 use Rattle.std.specs.Cmp.Lexicographic.{nat_list_cmp_total}
-use Rattle.std.specs.FinMap.{empty, entries, len, len-entries, len-empty, len-insert, get, insert}
+use Rattle.std.specs.FinMap.{empty, entries, len, len-entries, len-empty, len-insert, len-remove, get, get-empty, insert, remove, same_map, nat_cmp-IsAntisymmetric}
 use Rattle.std.specs.Ordering.{nat_cmp}
 use Rattle.std.specs.Cmp.Lexicographic.{slice_cmp}
-use Rattle.dt_host.specs.World.{Forest, Node, Names, file, dir, link, node_at, dir_names, names_at, entry, with_node, with_entry}
+use Rattle.dt_host.specs.World.{Forest, Node, Names, file, dir, link, node_at, dir_names, names_at, entry, with_node, with_entry, without_entry, without_node, IsBare}
 use Rattle.dt_host.specs.Total.{total, total_in, weight}
-use Rattle.dt_host.proofs.Maps.{at_insert, names_tie}
-use Rattle.dt_host.proofs.Totals.{total-insert, total-empty}
+use Rattle.dt_host.proofs.Maps.{at_insert, names_tie, get-remove_same}
+use Rattle.dt_host.proofs.Totals.{total-insert, total-remove, total-empty, put_again}
 use Rattle.dt_tree.specs.Shape.{one_for, entries_for, names_of, name_count}
 
 pub same_name : (a b : List ℕ) → (a ≡ b) ⊎ (a ≢ b)
@@ -29,8 +29,11 @@ held n (Some (file bytes)) = refl
 held n (Some (dir names)) = refl
 held n (Some (link target)) = refl
 
+no_names : (names : Names) → ((name : List ℕ) → get names name ≡ None) → names ≡ empty
+no_names names none = same_map nat_list_cmp_total names_tie names empty (λ name. none name ∙ sym (get-empty (slice_cmp nat_cmp) name))
+
 module _ (v : Forest) (d : ℕ) (n : ℕ) where
-  names_of-with_node : (node : Node) → names_of (with_node v d node) n + total (one_for n) (names_at v d) ≡ names_of v n + entries_for n node
+  pub names_of-with_node : (node : Node) → names_of (with_node v d node) n + total (one_for n) (names_at v d) ≡ names_of v n + entries_for n node
   unfolding names_of names_at
   names_of-with_node node =
       let sum = total-insert nat_cmp_total (entries_for n) v.nodes d node in
@@ -42,6 +45,22 @@ module _ (v : Forest) (d : ℕ) (n : ℕ) where
   names_of-with_entry name x =
       let node = names_of-with_node (dir (insert (names_at v d) name x)) in
       let more = total-insert nat_list_cmp_total (one_for n) (names_at v d) name x in
+      omega arith
+
+  pub names_of-without_entry : (name : List ℕ) → names_of (without_entry v d name) n + weight (one_for n) (entry v d name) ≡ names_of v n
+  unfolding without_entry entry
+  names_of-without_entry name =
+      let node = names_of-with_node (dir (remove (names_at v d) name)) in
+      let less = total-remove nat_list_cmp_total (one_for n) names_tie (names_at v d) name in
+      omega arith
+
+  pub names_of-without_node : IsBare v d → names_of (without_node v d) n ≡ names_of v n
+  unfolding names_of names_at entry
+  names_of-without_node bare =
+      let sum = total-remove nat_cmp_total (entries_for n) nat_cmp-IsAntisymmetric v.nodes d in
+      let there = held n (node_at v d) in
+      let none = ap (total (one_for n)) (no_names (names_at v d) bare) in
+      let zero = total-empty nat_list_cmp_total (one_for n) in
       omega arith
 
   pub names_of-with_new : (node : Node) → node_at v d ≡ None → unwrap_or (dir_names node) empty ≡ empty → names_of (with_node v d node) n ≡ names_of v n
@@ -60,6 +79,11 @@ module _ (v : Forest) (d : ℕ) (n : ℕ) where
       let none = one_for-other n (n + 1) (omega arith) in
       omega arith
 
+-- what isn't that number adds nothing
+pub weight_zero : (n : ℕ) (found : Option ℕ) → found ≢ Some n → weight (one_for n) found ≡ 0
+weight_zero n None h = refl
+weight_zero n (Some x) h = one_for-other n x (λ same. h (ap Some (sym same)))
+
 -- the names in what may be a directory
 counted : (found : Option Node) → weight (λ node. len (unwrap_or (dir_names node) empty)) found ≡ len (unwrap_or (option_and_then dir_names found) empty)
 counted None = sym (len-empty (slice_cmp nat_cmp) ℕ)
@@ -68,7 +92,7 @@ counted (Some (dir names)) = refl
 counted (Some (link target)) = refl
 
 module _ (v : Forest) (d : ℕ) where
-  name_count-with_node : (node : Node) → name_count (with_node v d node) + len (names_at v d) ≡ name_count v + len (unwrap_or (dir_names node) empty)
+  pub name_count-with_node : (node : Node) → name_count (with_node v d node) + len (names_at v d) ≡ name_count v + len (unwrap_or (dir_names node) empty)
   unfolding name_count names_at
   name_count-with_node node =
       let sum = total-insert nat_cmp_total (λ node. len (unwrap_or (dir_names node) empty)) v.nodes d node in
@@ -81,6 +105,25 @@ module _ (v : Forest) (d : ℕ) where
   name_count-with_entry name x free =
       let node = name_count-with_node (dir (insert (names_at v d) name x)) in
       let more = len-insert nat_list_cmp_total (names_at v d) name x ∙ ap (λ found. cond (is_some found) (len (names_at v d)) (len (names_at v d) + 1)) free in
+      omega arith
+
+  -- a name less is one less
+  pub name_count-without_entry : (name : List ℕ) (x : ℕ) → entry v d name ≡ Some x → name_count (without_entry v d name) + 1 ≡ name_count v
+  unfolding without_entry entry
+  name_count-without_entry name x there =
+      let node = name_count-with_node (dir (remove (names_at v d) name)) in
+      let less = len-remove nat_list_cmp_total (names_at v d) name ∙ ap (λ found. cond (is_some found) (len (names_at v d) - 1) (len (names_at v d))) there in
+      let back = len-insert nat_list_cmp_total (remove (names_at v d) name) name x ∙ ap (λ found. cond (is_some found) (len (remove (names_at v d) name)) (len (remove (names_at v d) name) + 1)) (get-remove_same nat_list_cmp_total names_tie (names_at v d) name) in
+      let again = ap (λ names. len names) (put_again nat_list_cmp_total (λ (x : ℕ). x) names_tie (names_at v d) name x there) in
+      omega arith
+
+  pub name_count-without_node : IsBare v d → name_count (without_node v d) ≡ name_count v
+  unfolding name_count names_at entry
+  name_count-without_node bare =
+      let sum = total-remove nat_cmp_total (λ node. len (unwrap_or (dir_names node) empty)) nat_cmp-IsAntisymmetric v.nodes d in
+      let there = counted (node_at v d) in
+      let none = ap (λ names. len names) (no_names (names_at v d) bare) in
+      let zero = len-empty (slice_cmp nat_cmp) ℕ in
       omega arith
 
   pub name_count-with_new : (node : Node) → node_at v d ≡ None → unwrap_or (dir_names node) empty ≡ empty → name_count (with_node v d node) ≡ name_count v

@@ -1,11 +1,11 @@
 -- The path of a directory: its steps, when it has one, and the names that a host tells in any order.
-use Rattle.std.proofs.Common.{arith, ◌≡◌, ◌≢◌, ℕ, zero, suc, ◌+◌, ◌≤◌, ◌<◌, cond, true, false, Bool, ◌&&◌, List, [], ◌∷◌, Option, Some, None, ◌⊎◌, inl, inr, refl, sym, ap, subst, ◌∙◌}
+use Rattle.std.proofs.Common.{arith, ◌≡◌, ◌≢◌, ℕ, zero, suc, ◌+◌, ◌≤◌, ◌<◌, cond, true, false, Bool, ◌&&◌, List, [], ◌∷◌, Option, Some, None, inl, inr, refl, sym, ap, subst, ◌∙◌}
 use Rattle.std.proofs.lemmas.Bool.{cases_eq}
 use Rattle.std.proofs.lemmas.Bool.Decides.{nat_tests}
 use Rattle.std.proofs.lemmas.List.Elements.{recursion_from_All, All-from_recursion}
 use Rattle.std.proofs.lemmas.List.Sorted.{All-permutation, IsPermutation-sym}
 use Rattle.std.specs.Prelude.{IsSome, is_some, not, T, ◌==◌, unwrap_or, option_map, option_and_then}
-use Rattle.std.specs.List.{All, AllByRecursion}
+use Rattle.std.specs.List.{AllByRecursion}
 use Rattle.std.specs.List.Sorted.{IsPermutation}
 use Rattle.std.specs.declared.cmp.Ordering.{Ordering}
 use Rattle.std.specs.declared.cmp.Ordering.TheVariants.{Less, Equal, Greater}
@@ -15,7 +15,7 @@ use Rattle.std.specs.Cmp.Lexicographic.{slice_cmp, nat_list_cmp_total}
 use Rattle.std.proofs.lemmas.Cmp.{tied_itself}
 use Rattle.std.specs.FinMap.{FinMap, get, len, entries, entries_sorted, get-entries}
 use Rattle.std.specs.FinMap.Entries.{find, below_all, is_sorted}
-use Rattle.dt_host.specs.World.{Forest, Names, entry, IsDir}
+use Rattle.dt_host.specs.World.{Forest, Names, IsDir}
 use Rattle.dt_host.proofs.Spots.{IsDir-entry}
 use Rattle.dt_tree.specs.Shape.{names_of, LeadsUp, IsUnder, IsShaped, is_removed}
 use Rattle.dt_tree.specs.Above.{name_in, parent_at, names_up, path_of, path_text}

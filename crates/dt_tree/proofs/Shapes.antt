@@ -3,14 +3,18 @@ use Rattle.std.proofs.Common.{arith, ◌≡◌, ◌≢◌, ℕ, zero, suc, ◌+�
 use Rattle.std.proofs.lemmas.Bool.{cases_eq}
 use Rattle.std.specs.Prelude.{IsSome, unwrap_or}
 use Rattle.std.specs.FinMap.{empty}
-use Rattle.dt_host.specs.World.{Forest, Node, dir_names, with_node, node_at, entry, with_entry, IsDir, IsLive}
+use Rattle.dt_host.specs.World.{Forest, Node, dir_names, with_node, node_at, entry, with_entry, without_entry, without_node, IsDir, IsLive, IsBare}
 use Rattle.dt_host.specs.Total.{weight}
 use Rattle.dt_host.proofs.Spots.{IsDir-entry, IsLive-IsDir, entry-with_new, IsDir-with_new, IsDir-from_with_new, IsLive-with_new, at_with_entry, IsDir-with_entry, IsDir-from_with_entry, IsLive-with_entry, root-with_entry}
-use Rattle.dt_tree.specs.Shape.{one_for, names_of, LeadsUp, IsBelow, IsUnder, IsBare, IsRemoved, IsShaped}
-use Rattle.dt_tree.proofs.Namings.{same_name, one_for-same, one_for-other, names_of-with_entry, names_of-with_new, named}
+use Rattle.dt_host.proofs.Gone.{at_without_entry, IsDir-without_entry, IsDir-from_without_entry, IsLive-without_entry, root-without_entry, entry-without_node, IsLive-without_node, IsDir-without_node, IsDir-from_without_node}
+use Rattle.dt_tree.specs.Shape.{one_for, names_of, LeadsUp, IsBelow, IsUnder, IsRemoved, IsShaped}
+use Rattle.dt_tree.proofs.Namings.{same_name, one_for-same, one_for-other, names_of-with_entry, names_of-without_entry, names_of-without_node, names_of-with_new, named}
 
 pub not_both : {X : Type 0} (found : Option X) (x : X) → found ≡ None → found ≡ Some x → ⊥
 not_both found x a b = cc
+
+pub same_number : (found : Option ℕ) (n m : ℕ) → found ≡ Some n → found ≡ Some m → n ≡ m
+same_number found n m a b = cc
 
 pub itself : (v : Forest) (n : ℕ) → IsBelow v n n
 unfolding LeadsUp
@@ -58,6 +62,10 @@ module _ (v : Forest) (s : IsShaped v) where
       by_steps zero e = e
       by_steps (suc k) e = let some = named v e.0 n e.1 e.2 in absurd (omega arith)
 
+  -- what has an entry is below the root
+  pub under_if_full : (d n : ℕ) (name : List ℕ) → entry v d name ≡ Some n → IsUnder v d
+  under_if_full d n name e = elim (s.placed d (IsDir-entry v d name n e)) [ inl u ↦ u | inr r ↦ absurd (not_both _ n (r.bare name) e) ]
+
   -- the root has no name
   pub not_root : (d : ℕ) (name : List ℕ) (n : ℕ) → entry v d name ≡ Some n → n ≢ v.root
   not_root d name n e same =
@@ -74,6 +82,39 @@ module _ (v : Forest) (s : IsShaped v) where
   one_depth (suc j) (suc k) n is a b =
       let same = one_spot n a.0 b.0 a.1 b.1 is a.2 b.2 in
       ap suc (one_depth j k a.0 (IsDir-entry v a.0 a.1 n a.2) a.3 (subst (λ d. LeadsUp v k d v.root) (sym same.0) b.3))
+
+  -- to take away a name, of a directory only where it has no entries
+  module _ (d : ℕ) (a : List ℕ) (m : ℕ) (from : entry v d a ≡ Some m) (cleared : IsDir v m → IsBare v m) where
+    kept : (q n : ℕ) (c : List ℕ) → entry v q c ≡ Some n → n ≢ m → entry (without_entry v d a) q c ≡ Some n
+    kept q n c e apart = at_without_entry v d a (λ found. found ≡ Some n) q c (λ same alike. absurd (apart (same_number (entry v q c) n m e (ap (λ x. entry v x c) same ∙ ap (entry v d) alike ∙ from)))) (λ _. e)
+
+    full : (q n : ℕ) (c : List ℕ) → entry v q c ≡ Some n → q ≢ m
+    full q n c e same = not_both _ n (subst (λ x. entry v x c ≡ None) (sym same) (cleared (subst (IsDir v) same (IsDir-entry v q c n e)) c)) e
+
+    bare_still : (q : ℕ) → IsBare v q → IsBare (without_entry v d a) q
+    bare_still q bare c = at_without_entry v d a (λ found. found ≡ None) q c (λ _ _. refl) (λ _. bare c)
+
+    fewer : (n : ℕ) → names_of (without_entry v d a) n + one_for n m ≡ names_of v n
+    fewer n = let sum = names_of-without_entry v d n a in let one = ap (weight (one_for n)) from in omega arith
+
+    pub shaped-without_entry : IsShaped (without_entry v d a)
+    shaped-without_entry = record {
+      root = subst (IsDir (without_entry v d a)) (sym (root-without_entry v d a)) (IsDir-without_entry v d a v.root s.root);
+      named = λ n h. IsLive-without_entry v d a n (s.named n (omega (arith, fewer n)));
+      unnamed = let none = ap (names_of (without_entry v d a)) (root-without_entry v d a) in omega (arith, fewer v.root, s.unnamed);
+      once = λ n is. omega (arith, fewer n, s.once n (IsDir-from_without_entry v d a (IsDir-entry v d a m from) n is));
+      placed = λ n is. by_place n (s.placed n (IsDir-from_without_entry v d a (IsDir-entry v d a m from) n is)) (IsDir-from_without_entry v d a (IsDir-entry v d a m from) n is);
+    }
+      where
+        by_place : (n : ℕ) → IsUnder v n ⊎ IsRemoved v n → IsDir v n → IsUnder (without_entry v d a) n ⊎ IsRemoved (without_entry v d a) n
+        by_place n (inl u) is = elim (cases_eq n m) [
+          | inl same ↦ inr (record {
+            nameless = let one = ap (one_for n) (sym same) ∙ one_for-same n in omega (arith, fewer n, s.once n is);
+            bare = bare_still n (subst (IsBare v) (sym same) (cleared (subst (IsDir v) same is)));
+          })
+          | inr apart ↦ inl (carry v (without_entry v d a) (λ x. x ≢ m) (root-without_entry v d a) (λ q x c e h. (full q x c e, inside (without_entry v d a) q x _ c (kept q x c e h))) u.0 n u.1 apart)
+        ]
+        by_place n (inr r) is = inr (record { nameless = omega (arith, fewer n, r.nameless); bare = bare_still n r.bare })
 
   -- to give a node a new name: any node but the root; a directory only where it is removed
   module _ (d : ℕ) (a : List ℕ) (m : ℕ) (is_dir : IsDir v d) (under : IsUnder v d) (free : entry v d a ≡ None) (live : IsLive v m) (low : m ≢ v.root) (fresh : IsDir v m → IsRemoved v m) where
@@ -122,6 +163,35 @@ module _ (v : Forest) (s : IsShaped v) where
             })
           ]
         ]
+
+  -- a node goes that has neither a name nor an entry
+  module _ (m : ℕ) (none : names_of v m ≡ 0) (bare : IsBare v m) (low : m ≢ v.root) where
+    pub shaped-without_node : IsShaped (without_node v m)
+    shaped-without_node = record {
+      root = IsDir-without_node v m bare v.root (λ e. low (sym e)) s.root;
+      named = λ n h. IsLive-without_node v m bare n (λ e. let at = ap (names_of v) e in omega (arith, same_count n)) (s.named n (omega (arith, same_count n)));
+      unnamed = same_count v.root ∙ s.unnamed;
+      once = λ n is. omega (arith, same_count n, s.once n (IsDir-from_without_node v m bare n is));
+      placed = λ n is. by_place n (s.placed n (IsDir-from_without_node v m bare n is));
+    }
+      where
+        same_count : (n : ℕ) → names_of (without_node v m) n ≡ names_of v n
+        same_count n = names_of-without_node v m n bare
+
+        by_place : (n : ℕ) → IsUnder v n ⊎ IsRemoved v n → IsUnder (without_node v m) n ⊎ IsRemoved (without_node v m) n
+        by_place n (inl u) = inl (carry v (without_node v m) (λ _. Unit {0}) refl (λ q x c e _. (tt, inside (without_node v m) q x _ c (entry-without_node v m bare q c ∙ e))) u.0 n u.1 tt)
+        by_place n (inr r) = inr (record { nameless = same_count n ∙ r.nameless; bare = λ c. entry-without_node v m bare n c ∙ r.bare c })
+
+  -- a directory without a name that isn't the root has no entries, nor has a node of another kind
+  pub bare_if_nameless : (n : ℕ) → names_of v n ≡ 0 → n ≢ v.root → IsBare v n
+  bare_if_nameless n none low name = by_entry (entry v n name) refl
+    where
+      by_entry : (found : Option ℕ) → entry v n name ≡ found → found ≡ None
+      by_entry None e = refl
+      by_entry (Some x) e = elim (s.placed n (IsDir-entry v n name x e)) [
+        | inl under ↦ absurd (low (root_if_both n under none))
+        | inr removed ↦ absurd (not_both (entry v n name) x (removed.bare name) e)
+      ]
 
   -- a new node without entries
   module _ (m : ℕ) (node : Node) (free : node_at v m ≡ None) (none : unwrap_or (dir_names node) empty ≡ empty) where

@@ -1,13 +1,12 @@
 -- At the start the tree is a root without entries, and stands for the host's.
-use Rattle.std.proofs.Common.{arith, ◌≡◌, ◌≢◌, ℕ, ◌+◌, ◌≤◌, List, [], cond, true, false, Option, Some, None, inl, refl, sym, ap, subst, ◌∙◌}
+use Rattle.std.proofs.Common.{arith, ◌≡◌, ◌≢◌, ℕ, ◌+◌, List, [], cond, true, false, Option, Some, None, inl, refl, sym, ap, subst, ◌∙◌}
 use Rattle.std.specs.Prelude.{IsSome, is_some, unwrap_or, option_map, option_and_then}
 use Rattle.std.specs.Ordering.{nat_cmp}
 use Rattle.std.specs.Cmp.{IsTotalOrder, nat_cmp_total}
 use Rattle.std.specs.Cmp.Lexicographic.{slice_cmp, nat_list_cmp_total}
 use Rattle.std.specs.declared.cmp.Ordering.{Ordering}
-use Rattle.std.specs.FinMap.{FinMap, IsAntisymmetric, empty, get, insert, from_entries, get-from_entries, len, len-insert, len-empty, get-empty, same_map, nat_cmp-IsAntisymmetric}
-use Rattle.dt_host.specs.World.{Forest, Node, file, dir, node_at, dir_names, names_at, entry, empty_forest, IsDir, IsLive}
-use Rattle.dt_host.specs.Total.{total}
+use Rattle.std.specs.FinMap.{IsAntisymmetric, empty, get, insert, from_entries, get-from_entries, len, len-insert, len-empty, get-empty, same_map, nat_cmp-IsAntisymmetric}
+use Rattle.dt_host.specs.World.{Node, file, dir, node_at, dir_names, names_at, entry, empty_forest, IsDir, IsLive}
 use Rattle.dt_host.specs.Values.{map_values}
 use Rattle.dt_host.proofs.Maps.{at_insert, names_tie, get-insert_same}
 use Rattle.dt_host.proofs.Totals.{total-insert, total-empty}
@@ -17,7 +16,7 @@ use Rattle.dt_tree.specs.declared.inode.Inode.{Inode}
 use Rattle.dt_tree.specs.Shape.{one_for, entries_for, names_of, name_count, IsBelow, IsShaped}
 use Rattle.dt_tree.specs.FileTree.{Attributes, FileTree, IsGoodNode, IsTree}
 use Rattle.dt_tree.specs.ImageTree.{names_below, image_nodes, image_attributes, image_tree, at_start}
-use Rattle.dt_tree.specs.Table.{Table, virtual, real_of, renumbered, node_for, shape_of, attributes_of, tree_of, kind_of, IsUp, Keeps, Mirrors}
+use Rattle.dt_tree.specs.Table.{virtual, real_of, renumbered, node_for, shape_of, attributes_of, tree_of, kind_of, IsUp, Keeps, Mirrors}
 use Rattle.dt_tree.specs.inner.Tables.{root_table}
 use Rattle.dt_tree.proofs.Shapes.{itself}
 use Rattle.dt_tree.proofs.Admitting.{renumbered-bare}
@@ -146,6 +145,7 @@ module _ (root : ℕ) (inode : Inode) (real : inode.real ≡ root) (bare : inode
           up = λ _. subst (IsUp (empty_forest 1) 1) (sym up) (no_names 1 1);
         })))
         (λ _ h. cc) e);
+    counted = sym (ap (λ shape. name_count shape) shape_start ∙ no_name_count 1);
   }
     where
       not_there : {found : Option ℕ} {r : ℕ} → found ≡ None → found ≡ Some r → ⊥

@@ -1,5 +1,5 @@
 -- What lies above a directory: the directory that names it, and its path (path_resolution(7), getcwd(2)).
-use Rattle.std.specs.Prelude.{ℕ, zero, suc, ◌==◌, Bool, false, if◌then◌else◌, List, [], ◌∷◌, ◌++◌, codes, Option, None, Some, is_some, option_map, option_and_then, unwrap_or}
+use Rattle.std.specs.Prelude.{ℕ, zero, suc, ◌==◌, ◌||◌, Bool, false, if◌then◌else◌, List, [], ◌∷◌, ◌++◌, codes, Option, None, Some, is_some, option_map, option_and_then, unwrap_or}
 use Rattle.std.specs.List.{find}
 use Rattle.std.specs.FinMap.{keys}
 use Rattle.dt_host.specs.World.{Forest, names_at, entry}
@@ -21,6 +21,20 @@ parent_at v n = find (λ d. is_some (name_in v d n)) (keys v.nodes)
 -- what `..` of a directory is: the directory that names it, at the root the root, and nothing where it is removed
 abbrev pub dot_dot : Forest → ℕ → Option ℕ
 dot_dot v d = if d == v.root then Some d else parent_at v d
+
+-- what may be there passes a test
+abbrev pub passes : {X : Type 0} → (X → Bool) → Option X → Bool
+passes test None = false
+passes test (Some x) = test x
+
+-- a node is that one, or going up from it leads there, in fewer than so many steps
+unfoldable pub climbs : ℕ → Forest → ℕ → ℕ → Bool
+climbs zero v n above = false
+climbs (suc k) v n above = (n == above) || passes (λ d. climbs k v d above) (parent_at v n)
+
+-- a directory is that one, or stands below it. Going up in a tree takes fewer steps than there are nodes
+abbrev pub is_below : Forest → ℕ → ℕ → Bool
+is_below v n above = climbs NODE_LIMIT v n above
 
 -- the names that lead from the root to a directory, and others behind them; none where going up so many times doesn't reach the root
 unfoldable pub names_up : ℕ → Forest → ℕ → List (List ℕ) → Option (List (List ℕ))

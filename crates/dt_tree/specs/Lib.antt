@@ -1,6 +1,8 @@
 pub mod Shape
 pub mod Above
 pub mod FileTree
+pub mod Changes
+pub mod Calls
 pub mod Table
 pub mod Listing
 pub mod Meta

@@ -1,5 +1,5 @@
 -- The listing of a directory (readdir(3)).
-use Rattle.std.specs.Prelude.{ℕ, Bool, true, ◌&&◌, ◌||◌, ◌==◌, List, [], ◌∷◌, map, take, codes, nat_lt, if◌then◌else◌, Option, None, Some, unwrap_or, option_map}
+use Rattle.std.specs.Prelude.{ℕ, Bool, true, ◌&&◌, ◌||◌, ◌==◌, List, ◌∷◌, map, take, codes, nat_lt, if◌then◌else◌, Option, None, Some, unwrap_or, option_map}
 use Rattle.std.specs.List.{filter}
 use Rattle.std.specs.Str.{bytes_eq}
 use Rattle.std.specs.Ordering.{nat_cmp, is_lt}

@@ -1,12 +1,12 @@
 -- What is told of a node (stat(2), inode(7)).
-use Rattle.std.specs.Prelude.{ℕ, ◌+◌, if◌then◌else◌, List, length, Option, option_map, option_and_then}
+use Rattle.std.specs.Prelude.{ℕ, ◌+◌, if◌then◌else◌, length, Option, option_map, option_and_then}
 use Rattle.std.specs.List.{count_by}
 use Rattle.std.specs.FinMap.{get, entries}
 use Rattle.dt_host.specs.World.{Forest, Node, file, dir, link, node_at, names_at}
 use Rattle.dt_tree.specs.declared.limits.TheConstants.{DIR_SIZE}
 use Rattle.dt_tree.specs.declared.meta.Meta.{Meta}
 use Rattle.dt_tree.specs.Shape.{names_of, is_dir, is_removed}
-use Rattle.dt_tree.specs.FileTree.{FileTree, Attributes}
+use Rattle.dt_tree.specs.FileTree.{FileTree}
 use Rattle.dt_tree.specs.Listing.{type_of}
 
 -- the size: a file's bytes, the target's of a link, and one number for every directory

@@ -1,7 +1,7 @@
 -- How the nodes of a tree hang together: how many names each has, and what lies above it (inode(7), path_resolution(7)).
-use Rattle.std.specs.Prelude.{ℕ, zero, suc, Bool, not, ◌&&◌, is_some, ◌≡◌, ◌⊎◌, ◌+◌, ◌≤◌, ◌==◌, if◌then◌else◌, List, Option, None, Some, unwrap_or}
+use Rattle.std.specs.Prelude.{ℕ, zero, suc, Bool, not, ◌&&◌, is_some, ◌≡◌, ◌⊎◌, ◌≤◌, ◌==◌, if◌then◌else◌, List, Some, unwrap_or}
 use Rattle.std.specs.FinMap.{empty, len}
-use Rattle.dt_host.specs.World.{Forest, Node, dir_names, dir_at, target_at, entry, IsLive, IsDir}
+use Rattle.dt_host.specs.World.{Forest, Node, dir_names, dir_at, target_at, names_at, entry, IsLive, IsDir, IsBare}
 use Rattle.dt_host.specs.Total.{total}
 
 -- 1 for that number, and 0 for any other
@@ -33,10 +33,6 @@ IsBelow v n above = (k : ℕ) × LeadsUp v k n above
 abbrev pub IsUnder : Forest → ℕ → Type 0
 IsUnder v n = IsBelow v n v.root
 
--- it has no entries
-abbrev pub IsBare : Forest → ℕ → Type 0
-IsBare v d = (name : List ℕ) → entry v d name ≡ None
-
 -- it has neither a name nor an entry
 pub record IsRemoved (v : Forest) (n : ℕ) : Type 0 where
   pub nameless : names_of v n ≡ 0
@@ -57,6 +53,10 @@ is_removed v d = not (d == v.root) && (names_of v d == 0)
 -- the node is a directory
 abbrev pub is_dir : Forest → ℕ → Bool
 is_dir v n = is_some (dir_at v n)
+
+-- the directory has no entries
+abbrev pub is_bare : Forest → ℕ → Bool
+is_bare v d = len (names_at v d) == 0
 
 -- the node is a symbolic link
 abbrev pub is_link : Forest → ℕ → Bool

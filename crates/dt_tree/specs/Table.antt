@@ -9,14 +9,16 @@ use Rattle.dt_tree.specs.declared.inode.Kind.{Kind}
 use Rattle.dt_tree.specs.declared.inode.Kind.TheVariants.{File, Dir, Link}
 use Rattle.dt_tree.specs.declared.inode.Inode.{Inode}
 use Rattle.dt_tree.specs.declared.limits.TheConstants.{ROOT}
-use Rattle.dt_tree.specs.Shape.{names_of}
+use Rattle.dt_tree.specs.Shape.{names_of, name_count}
 use Rattle.dt_tree.specs.FileTree.{Attributes, FileTree, IsTree}
 
--- what is kept of each node by its inode, the inode of each number at the host, and the inode of the next new node
+-- what is kept of each node by its inode, the inode of each number at the host, the inode of the next new node, and how many
+-- names there are in all
 pub record Table : Type 0 where
   pub inodes : FinMap nat_cmp Inode
   pub by_real : FinMap nat_cmp ℕ
   pub next : ℕ
+  pub names : ℕ
 
 -- the inode of a number at the host
 abbrev pub virtual : Table → ℕ → ℕ
@@ -73,10 +75,11 @@ pub record Pairs (t : Table) (v : Forest) : Type 0 where
   pub closed : (d real : ℕ) (name : List ℕ) → entry v d name ≡ Some real → IsLive v real
   pub root : real_of t ROOT ≡ Some v.root
 
--- and what is kept for speed is true
+-- and what is kept for speed is true, and the names are counted
 pub record Mirrors (t : Table) (v : Forest) : Type 0 where
   pub pairs : Pairs t v
   pub kept : (n : ℕ) (inode : Inode) → get t.inodes n ≡ Some inode → Keeps (shape_of t v) n inode
+  pub counted : t.names ≡ name_count (shape_of t v)
 
 -- the table and the host's nodes stand for a file tree, which is `tree_of`
 pub record Stands (t : Table) (v : Forest) : Type 0 where

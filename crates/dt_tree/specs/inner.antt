@@ -4,4 +4,6 @@ pub mod Names
 pub mod Lists
 pub mod Kinds
 pub mod Places
+pub mod Files
+pub mod Moves
 pub mod Codes

@@ -1,10 +1,10 @@
-// The path of a directory.
+// What lies above a directory.
 ghost use Rattle.std.specs.Prelude.{◌≡◌, ◌++◌, [], OnOk, is_some, not, Some, List, map, reverse, unwrap_or, IfOk, IsErrOf, option_map};
 ghost use Rattle.dt_host.specs.Cause.{HasCause};
 ghost use Rattle.dt_host.specs.Legal.{named};
 ghost use Rattle.dt_host.specs.World.{IsDir};
 ghost use Rattle.dt_tree.specs.declared.limits.TheConstants.{NODE_LIMIT};
-ghost use Rattle.dt_tree.specs.Above.{parent_at, name_in, names_up, joined, path_of, path_text};
+ghost use Rattle.dt_tree.specs.Above.{parent_at, name_in, names_up, joined, path_of, path_text, is_below};
 ghost use Rattle.dt_tree.specs.Shape.{is_removed};
 ghost use Rattle.dt_tree.specs.Table.{Stands, shape_of};
 ghost use Rattle.dt_tree.specs.inner.Names.{name_for};
@@ -32,6 +32,25 @@ impl Tree {
             Some(names) => Ok(Some(path_text(self.alloc, names)?)),
             None => Ok(None),
         }
+    }
+
+    /// Whether a directory is `above`, or stands below it.
+    pub fn is_below<H: Host>(&self, host: &H, dir: u64, above: u64) -> bool
+        requires stands { Stands self.now (H.view host.now).forest }
+        requires directory { IsDir (shape_of self.now (H.view host.now).forest) dir }
+        ensures { result ≡ is_below (shape_of self.now (H.view host.now).forest) dir above }
+    {
+        let mut current = dir;
+        for _i in 0..NODE_LIMIT {
+            if current == above {
+                return true;
+            }
+            match self.parent(current) {
+                None => return false,
+                Some(up) => current = up,
+            }
+        }
+        false
     }
 
     // The names that lead from the root to a directory, the last of them first.

@@ -2,16 +2,21 @@
 #![tactic(auto)]
 
 mod above;
+mod hold;
 mod inode;
 mod inodes;
 mod install;
 mod limits;
 mod list;
 mod look;
+mod make;
 mod meta;
+mod rename;
 mod start;
 mod steps;
 mod tree;
+mod unlink;
+mod write;
 
 pub use limits::{
     DIR_SIZE, DT_DIR, DT_LNK, DT_REG, FIRST_INODE, NAMES_LIMIT, NODE_LIMIT, ROOT, ROOT_MODE,

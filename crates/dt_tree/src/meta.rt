@@ -5,7 +5,7 @@ ghost use Rattle.std.specs.FinMap.{get};
 ghost use Rattle.dt_host.specs.Cause.{HasCause};
 ghost use Rattle.dt_host.specs.World.{Forest, IsDir, IsLive, node_at};
 ghost use Rattle.dt_tree.specs.declared.limits.TheConstants.{NAMES_LIMIT};
-ghost use Rattle.dt_tree.specs.Shape.{is_dir, is_removed};
+ghost use Rattle.dt_tree.specs.Shape.{is_dir, is_removed, is_bare};
 ghost use Rattle.dt_tree.specs.Meta.{nlink_of, meta_of, size_of, subdirectories};
 ghost use Rattle.dt_tree.specs.Table.{Stands, virtual, shape_of, tree_of};
 
@@ -15,7 +15,7 @@ use crate::list::type_of;
 use crate::tree::Tree;
 use dt_host::{Host, HostEntry, HostErr};
 
-/// What stat(2) tells of a node: its type as an entry's, its mode, how many links lead to it, its size and its stamp.
+/// What stat(2) tells of a node: its type as an entry's, its mode, its link count, its size and its stamp.
 #[derive(Clone, Copy, Debug)]
 pub struct Meta {
     pub kind: u8,
@@ -48,6 +48,20 @@ impl Tree {
         })
     }
 
+    /// Whether a directory has no entries.
+    pub fn is_bare<H: Host>(&self, host: &mut H, dir: u64) -> Result<bool, HostErr>
+        requires stands { Stands self.now (H.view host.old).forest }
+        requires directory { IsDir (shape_of self.now (H.view host.old).forest) dir }
+        ensures ok { IfOk result
+            (λ b. b ≡ is_bare (shape_of self.now (H.view host.old).forest) dir) }
+        ensures stays { H.view host.new ≡ H.view host.old }
+        ensures cause { HasCause (H.count host.old) (H.count host.new)
+            (IsErrOf result HostErr.Failed) }
+    {
+        let entries = host.names(self.inode(dir).real)?;
+        Ok(entries.is_empty())
+    }
+
     // The size of a node.
     fn size<H: Host>(&self, host: &mut H, vino: u64) -> Result<u64, HostErr>
         requires stands { Stands self.now (H.view host.old).forest }
@@ -70,7 +84,7 @@ impl Tree {
         }
     }
 
-    // How many links lead to a node: its names, or of a directory 2 and its subdirectories.
+    // The link count of a node: its names, or of a directory 2 and its subdirectories.
     fn nlink<H: Host>(&self, host: &mut H, vino: u64) -> Result<u32, HostErr>
         requires stands { Stands self.now (H.view host.old).forest }
         requires live { IsLive (shape_of self.now (H.view host.old).forest) vino }
@@ -88,7 +102,7 @@ impl Tree {
         self.dir_nlink(host, vino)
     }
 
-    // How many links lead to a directory.
+    // The link count of a directory.
     fn dir_nlink<H: Host>(&self, host: &mut H, dir: u64) -> Result<u32, HostErr>
         requires stands { Stands self.now (H.view host.old).forest }
         requires directory { IsDir (shape_of self.now (H.view host.old).forest) dir }
@@ -106,7 +120,7 @@ impl Tree {
     }
 
     // Whether a directory is removed.
-    fn is_removed(&self, dir: u64) -> bool
+    pub(crate) fn is_removed(&self, dir: u64) -> bool
         requires { IsSome (get self.now.inodes dir) }
         ensures { (v : Forest) → Stands self.now v
             → result ≡ is_removed (shape_of self.now v) dir }

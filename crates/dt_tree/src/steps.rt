@@ -1,14 +1,18 @@
-// The steps by which a node comes: each changes the host and what is kept together, and the tree in one way.
-ghost use Rattle.std.specs.Prelude.{◌≡◌, ◌<◌, ◌^◌, None, IsTrue, IfOk, OnOk, IsErrOf};
+// The steps of which changes are made: each changes the host and what is kept together, and the tree in one way.
+ghost use Rattle.std.specs.Prelude.{◌≡◌, ◌<◌, ◌≤◌, ◌==◌, ◌&&◌, not, None, Some, IsSome, IsTrue, IfSome, IfOk, OnOk, IsErrOf};
+ghost use Rattle.std.specs.FinMap.{get};
 ghost use Rattle.dt_base.specs.Image.{is_good_what};
 ghost use Rattle.dt_host.specs.Cause.{HasCause};
-ghost use Rattle.dt_host.specs.World.{IsDir, IsLive, entry, with_entry};
-ghost use Rattle.dt_tree.specs.declared.limits.TheConstants.{NAMES_LIMIT};
-ghost use Rattle.dt_tree.specs.Shape.{names_of};
+ghost use Rattle.dt_host.specs.World.{Forest, IsDir, IsLive, entry, with_entry, without_entry};
+ghost use Rattle.dt_tree.specs.declared.limits.TheConstants.{ROOT, NAMES_LIMIT};
+ghost use Rattle.dt_tree.specs.Shape.{names_of, name_count};
 ghost use Rattle.dt_tree.specs.Table.{Mirrors, Stands, kind_of, shape_of, tree_of};
-ghost use Rattle.dt_tree.specs.inner.Created.{new_node, IsMadeAt, MayCreate, with_made, with_shape, created};
+ghost use Rattle.dt_tree.specs.FileTree.{IsTreeBut};
+ghost use Rattle.dt_tree.specs.Changes.{new_node, with_made, with_shape, created, stamped, swept, swept_found};
+ghost use Rattle.dt_tree.specs.inner.Created.{IsMadeAt, MayCreate};
 
 use crate::inode::{Inode, Kind};
+use crate::limits::{NAMES_LIMIT, ROOT};
 use crate::tree::Tree;
 use dt_base::What;
 use dt_host::{Host, HostErr, NodeKind, write_whole};
@@ -42,6 +46,13 @@ fn make_real<H: Host>(host: &mut H, what: &What, mode: u32) -> Result<u64, HostE
     }
 }
 
+// Whether a node but the root has neither names nor holds, by what is kept of it.
+fn is_unused(n: u64, inode: Inode) -> bool
+    ensures { result ≡ (not (n == ROOT) && (inode.names == 0) && (inode.holds == 0)) }
+{
+    n != ROOT && inode.names == 0 && inode.holds == 0
+}
+
 impl Tree {
     // Makes a node that has no name yet.
     fn make<H: Host>(
@@ -53,7 +64,6 @@ impl Tree {
     ) -> Result<u64, HostErr>
         requires stands { Stands self.old (H.view host.old).forest }
         requires good { IsTrue (is_good_what what.now mode) }
-        requires few { self.old.next < 2 ^ 63 }
         ensures number { IfOk result (λ n. n ≡ self.old.next) }
         ensures mirrors { OnOk result (Mirrors self.new (H.view host.new).forest) }
         ensures tree { OnOk result (tree_of self.new (H.view host.new).forest
@@ -66,13 +76,20 @@ impl Tree {
         Ok(self.admit(Inode::new(real, kind, mode, stamp))?)
     }
 
-    // Gives a node a name.
-    fn bind<H: Host>(&mut self, host: &mut H, dir: u64, name: &[u8], n: u64) -> Result<(), HostErr>
+    // Gives a node a name. Want of memory is the answer where the tree has as many names as it may.
+    pub(crate) fn bind<H: Host>(
+        &mut self,
+        host: &mut H,
+        dir: u64,
+        name: &[u8],
+        n: u64,
+    ) -> Result<(), HostErr>
         requires mirrors { Mirrors self.old (H.view host.old).forest }
         requires directory { IsDir (shape_of self.old (H.view host.old).forest) dir }
         requires free { entry (shape_of self.old (H.view host.old).forest) dir name.now ≡ None }
         requires live { IsLive (shape_of self.old (H.view host.old).forest) n }
-        requires few { names_of (shape_of self.old (H.view host.old).forest) n < NAMES_LIMIT }
+        ensures room { OnOk result
+            (name_count (shape_of self.old (H.view host.old).forest) < NAMES_LIMIT) }
         ensures mirrors { OnOk result (Mirrors self.new (H.view host.new).forest) }
         ensures tree { OnOk result (tree_of self.new (H.view host.new).forest
             ≡ with_shape (tree_of self.old (H.view host.old).forest)
@@ -80,6 +97,11 @@ impl Tree {
         ensures cause { HasCause (H.count host.old) (H.count host.new)
             (IsErrOf result HostErr.Failed) }
     {
+        let _before = host.faults();
+        let names = self.names();
+        if names >= NAMES_LIMIT {
+            return Err(HostErr::NoMemory);
+        }
         let inode = self.inode(n);
         host.bind(self.inode(dir).real, name, inode.real)?;
         self.set(
@@ -90,7 +112,123 @@ impl Tree {
                 ..inode
             },
         );
+        self.set_names(names + 1);
         Ok(())
+    }
+
+    // Takes the name of the node `n` away.
+    pub(crate) fn unbind<H: Host>(
+        &mut self,
+        host: &mut H,
+        dir: u64,
+        name: &[u8],
+        n: u64,
+    ) -> Result<(), HostErr>
+        requires mirrors { Mirrors self.old (H.view host.old).forest }
+        requires here { entry (shape_of self.old (H.view host.old).forest) dir name.now ≡ Some n }
+        requires once { IsDir (shape_of self.old (H.view host.old).forest) n
+            → names_of (shape_of self.old (H.view host.old).forest) n ≤ 1 }
+        ensures mirrors { OnOk result (Mirrors self.new (H.view host.new).forest) }
+        ensures tree { OnOk result (tree_of self.new (H.view host.new).forest
+            ≡ with_shape (tree_of self.old (H.view host.old).forest)
+            (without_entry (shape_of self.old (H.view host.old).forest) dir name.now)) }
+        ensures cause { HasCause (H.count host.old) (H.count host.new)
+            (IsErrOf result HostErr.Failed) }
+    {
+        let names = self.names();
+        let inode = self.inode(n);
+        host.unbind(self.inode(dir).real, name)?;
+        self.set(
+            n,
+            Inode {
+                names: inode.names - 1,
+                up: None,
+                ..inode
+            },
+        );
+        self.set_names(names - 1);
+        Ok(())
+    }
+
+    // Takes away the name of what a directory has under it, where it has something there.
+    pub(crate) fn unbind_found<H: Host>(
+        &mut self,
+        host: &mut H,
+        dir: u64,
+        name: &[u8],
+        found: Option<u64>,
+    ) -> Result<(), HostErr>
+        requires mirrors { Mirrors self.old (H.view host.old).forest }
+        requires directory { IsDir (shape_of self.old (H.view host.old).forest) dir }
+        requires found { found ≡ entry (shape_of self.old (H.view host.old).forest) dir name.now }
+        requires once { IfSome found (λ n. IsDir (shape_of self.old (H.view host.old).forest) n
+            → names_of (shape_of self.old (H.view host.old).forest) n ≤ 1) }
+        ensures mirrors { OnOk result (Mirrors self.new (H.view host.new).forest) }
+        ensures tree { OnOk result (tree_of self.new (H.view host.new).forest
+            ≡ with_shape (tree_of self.old (H.view host.old).forest)
+            (without_entry (shape_of self.old (H.view host.old).forest) dir name.now)) }
+        ensures cause { HasCause (H.count host.old) (H.count host.new)
+            (IsErrOf result HostErr.Failed) }
+    {
+        let _before = host.faults();
+        match found {
+            None => Ok(()),
+            Some(n) => self.unbind(host, dir, name, n),
+        }
+    }
+
+    // Notes when a node was modified.
+    pub(crate) fn stamp(&mut self, n: u64, stamp: u64)
+        requires { IsSome (get self.old.inodes n) }
+        ensures mirrors { (v : Forest) → Mirrors self.old v → Mirrors self.new v }
+        ensures tree { (v : Forest) → Mirrors self.old v
+            → tree_of self.new v ≡ stamped (tree_of self.old v) n stamp }
+    {
+        let inode = self.inode(n);
+        self.set(n, Inode { stamp, ..inode });
+    }
+
+    // Lets a node go that has neither names nor holds. Any other stays.
+    pub(crate) fn sweep<H: Host>(&mut self, host: &mut H, n: u64) -> Result<(), HostErr>
+        requires mirrors { Mirrors self.old (H.view host.old).forest }
+        requires tree { IsTreeBut (Some n) (tree_of self.old (H.view host.old).forest) }
+        requires live { IsLive (shape_of self.old (H.view host.old).forest) n }
+        ensures mirrors { OnOk result (Mirrors self.new (H.view host.new).forest) }
+        ensures tree { OnOk result (tree_of self.new (H.view host.new).forest
+            ≡ swept (tree_of self.old (H.view host.old).forest) n) }
+        ensures cause { HasCause (H.count host.old) (H.count host.new)
+            (IsErrOf result HostErr.Failed) }
+    {
+        let _before = host.faults();
+        let inode = self.inode(n);
+        if !is_unused(n, inode) {
+            return Ok(());
+        }
+        host.forget(inode.real)?;
+        self.forget(n, inode.real);
+        Ok(())
+    }
+
+    // The same of what a directory had under a name, where it had something there.
+    pub(crate) fn sweep_found<H: Host>(
+        &mut self,
+        host: &mut H,
+        found: Option<u64>,
+    ) -> Result<(), HostErr>
+        requires mirrors { Mirrors self.old (H.view host.old).forest }
+        requires tree { IsTreeBut found (tree_of self.old (H.view host.old).forest) }
+        requires live { IfSome found (IsLive (shape_of self.old (H.view host.old).forest)) }
+        ensures mirrors { OnOk result (Mirrors self.new (H.view host.new).forest) }
+        ensures tree { OnOk result (tree_of self.new (H.view host.new).forest
+            ≡ swept_found found (tree_of self.old (H.view host.old).forest)) }
+        ensures cause { HasCause (H.count host.old) (H.count host.new)
+            (IsErrOf result HostErr.Failed) }
+    {
+        let _before = host.faults();
+        match found {
+            None => Ok(()),
+            Some(n) => self.sweep(host, n),
+        }
     }
 
     // Makes a node and gives it a name.

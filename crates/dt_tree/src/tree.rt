@@ -1,8 +1,8 @@
 // The virtual tree, and what it keeps of each node.
-ghost use Rattle.std.specs.Prelude.{◌≡◌, ◌<◌, ◌^◌, Some, IsSome, IfOk, OnOk};
-ghost use Rattle.std.specs.FinMap.{get};
+ghost use Rattle.std.specs.Prelude.{◌≡◌, Some, IsSome, IfOk, OnOk};
+ghost use Rattle.std.specs.FinMap.{get, len};
 ghost use Rattle.dt_tree.specs.Table.{virtual};
-ghost use Rattle.dt_tree.specs.inner.Tables.{with_inode, with_new, root_table};
+ghost use Rattle.dt_tree.specs.inner.Tables.{with_inode, with_names, with_new, without_inode, root_table};
 
 use crate::inode::Inode;
 use crate::inodes;
@@ -19,6 +19,7 @@ pub struct Tree {
     inodes: BTreeMap<u64, Inode>,
     by_real: BTreeMap<u64, u64>,
     next: u64,
+    names: u64,
 }
 
 impl Model for Tree {
@@ -34,6 +35,7 @@ impl Model for Tree {
       inodes = map_of (λ n. n) (λ inode. inode) t.inodes.entries;
       by_real = map_of (λ n. n) (λ n. n) t.by_real.entries;
       next = t.next;
+      names = t.names;
     } };
 }
 
@@ -51,6 +53,7 @@ impl Tree {
             inodes,
             by_real,
             next: FIRST_INODE,
+            names: 0,
         })
     }
 
@@ -87,16 +90,47 @@ impl Tree {
         inodes::set(&mut self.inodes, n, inode);
     }
 
-    // Takes a new node in, under the next inode.
+    // Takes a new node in, under the next inode. Want of memory is the answer where the inodes are used up.
     pub(crate) fn admit(&mut self, inode: Inode) -> Result<u64, NoMemory>
-        requires { self.old.next < 2 ^ 63 }
         ensures number { IfOk result (λ n. n ≡ self.old.next) }
         ensures ok { OnOk result (self.new ≡ with_new self.old inode) }
     {
         let n = self.next;
+        if n == u64::MAX {
+            return Err(NoMemory);
+        }
         self.inodes.insert(n, inode)?;
         self.by_real.insert(inode.real, n)?;
         self.next = n + 1;
         Ok(n)
+    }
+
+    // Drops what is kept of a node, which has that number at the host.
+    pub(crate) fn forget(&mut self, n: u64, real: u64)
+        ensures { self.new ≡ without_inode self.old n real }
+    {
+        self.inodes.remove(&n);
+        self.by_real.remove(&real);
+    }
+
+    // How many nodes there are.
+    pub(crate) fn nodes(&self) -> u64
+        ensures { result ≡ len self.now.inodes }
+    {
+        self.inodes.len() as u64
+    }
+
+    // How many names there are in all.
+    pub(crate) fn names(&self) -> u64
+        ensures { result ≡ self.now.names }
+    {
+        self.names
+    }
+
+    // Counts the names anew.
+    pub(crate) fn set_names(&mut self, names: u64)
+        ensures { self.new ≡ with_names self.old names }
+    {
+        self.names = names;
     }
 }

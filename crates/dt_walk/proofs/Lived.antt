@@ -1,37 +1,27 @@
--- Where a walk comes to, a node is.
-use Rattle.std.proofs.Common.{◌≡◌, ◌≢◌, ℕ, zero, suc, ◌+◌, cond, true, false, Bool, not, ◌&&◌, ◌||◌, List, [], ◌∷◌, ◌++◌, length, Option, Some, None, Ok, Err, refl, sym, subst, ◌∙◌}
-use Rattle.std.specs.Prelude.{◌==◌, nat_le, codes, is_some, IsSome, IfSome, Result}
+-- Where a walk leads, a node is, or a name that is free in a directory.
+use Rattle.std.proofs.Common.{◌≡◌, ◌≢◌, ℕ, cond, true, false, Bool, ◌||◌, List, Option, Some, None, refl, sym, ap, subst, ◌∙◌}
+use Rattle.std.specs.Prelude.{◌==◌, codes, IfSome}
 use Rattle.std.specs.Str.{bytes_eq}
-use Rattle.dt_base.specs.declared.errno.Errno.{Errno}
-use Rattle.dt_base.specs.declared.errno.Errno.TheVariants.{NoEnt, NotDir, NameTooLong, Loop}
-use Rattle.dt_base.specs.declared.limits.TheConstants.{NAME_LIMIT}
-use Rattle.dt_host.specs.World.{Forest, Names, entry, dir_at, IsDir, IsLive, target_at}
+use Rattle.dt_host.specs.World.{Forest, entry, IsDir, IsLive}
 use Rattle.dt_host.proofs.Spots.{IsDir-entry, IsLive-IsDir}
-use Rattle.dt_tree.specs.Shape.{IsShaped, is_dir}
+use Rattle.dt_tree.specs.Shape.{IsShaped}
 use Rattle.dt_tree.specs.Above.{parent_at, dot_dot}
 use Rattle.dt_tree.proofs.Namings.{named}
 use Rattle.dt_tree.proofs.Aboves.{parent-entry}
 use Rattle.dt_walk.specs.declared.place.Place.{Place}
-use Rattle.dt_walk.specs.declared.step.Found.{Found}
 use Rattle.dt_walk.specs.declared.step.Found.TheVariants.{Node, Missing, Gone}
-use Rattle.dt_walk.specs.declared.step.Step.{Step}
-use Rattle.dt_walk.specs.declared.step.Step.TheVariants.{On, Done, Refused, Follow}
-use Rattle.dt_walk.specs.Walk.{node_or, looked_up, ended, stopped, arrived, missed, after_look, step_in_dir, is_nil, path_names, ends_in_slash, start_of, after_step, step_of, walk_from, walk_by}
-use Rattle.dt_walk.specs.Placed.{IsPlaceIn}
-
-is_there : (v : Forest) (n : ℕ) → is_dir v n ≡ true → IsDir v n
-is_there v n e = by_found (dir_at v n) e
-  where
-    by_found : (found : Option Names) → is_some found ≡ true → IsSome found
-    by_found None e = cc
-    by_found (Some x) e = refl
+use Rattle.dt_walk.specs.Walk.{node_or, looked_up, is_nil}
+use Rattle.dt_walk.specs.Placed.{IsPlaceIn, is_special}
+use Rattle.dt_walk.proofs.Ends.{Steps, top_place}
+use Rattle.dt_walk.proofs.Fit.{HasByte, byte_names}
+use Rattle.dt_walk.proofs.Stepped.{EndedAt, ended_at}
 
 module _ (v : Forest) (s : IsShaped v) (at : ℕ) (is : IsDir v at) where
   up_live : (n : ℕ) → node_or Gone (dot_dot v at) ≡ Node n → IsLive v n
   up_live n e = by_test (at == v.root) e
     where
       by_parent : (found : Option ℕ) → parent_at v at ≡ found → node_or Gone found ≡ Node n → IsLive v n
-      by_parent None p h = cc
+      by_parent None p h = absurd (cc)
       by_parent (Some d) p h = let spot = parent-entry v at d p in let same : d ≡ n = cc in subst (IsLive v) same (IsLive-IsDir v d (IsDir-entry v d spot.0 at spot.2))
 
       by_test : (b : Bool) → node_or Gone (cond b (Some at) (parent_at v at)) ≡ Node n → IsLive v n
@@ -42,7 +32,7 @@ module _ (v : Forest) (s : IsShaped v) (at : ℕ) (is : IsDir v at) where
   looked_live name n e = by_dot (bytes_eq name (codes ".")) e
     where
       by_entry : (found : Option ℕ) → entry v at name ≡ found → node_or Missing found ≡ Node n → IsLive v n
-      by_entry None p h = cc
+      by_entry None p h = absurd (cc)
       by_entry (Some x) p h = let same : x ≡ n = cc in subst (IsLive v) same (s.named x (named v at x name p))
 
       by_dots : (b : Bool) → cond b (node_or Gone (dot_dot v at)) (node_or Missing (entry v at name)) ≡ Node n → IsLive v n
@@ -53,71 +43,58 @@ module _ (v : Forest) (s : IsShaped v) (at : ℕ) (is : IsDir v at) where
       by_dot true h = let same : at ≡ n = cc in subst (IsLive v) same (IsLive-IsDir v at is)
       by_dot false h = by_dots (bytes_eq name (codes "..")) h
 
--- a step that ends a walk ends it at a place
-step_place : (v : Forest) → IsShaped v → (at : ℕ) (keep last slash : Bool) (name : List ℕ) (place : Place) → step_of v keep last slash at name ≡ Done place → IsPlaceIn v place
-unfolding step_of
-step_place v s at keep last slash name place e = by_dir (is_dir v at) refl e
-  where
-    at_node : (m : ℕ) → IsDir v at → IsLive v m → Done (record { parent = at; name = name; node = Some m; slash = slash }) ≡ Done place → IsPlaceIn v place
-    at_node m is live h = let same : record { parent = at; name = name; node = Some m; slash = slash } ≡ place = cc in subst (IsPlaceIn v) same (record { is_dir = is; live = live })
+-- what is under a name that is not special is the entry's
+module _ (v : Forest) (at : ℕ) (name : List ℕ) where
+  same_found : (a b : Option ℕ) → node_or Missing a ≡ node_or Missing b → a ≡ b
+  same_found None None h = refl
+  same_found None (Some y) h = absurd (cc)
+  same_found (Some x) None h = absurd (cc)
+  same_found (Some x) (Some y) h = let same : x ≡ y = cc in ap Some same
 
-    by_end : (b : Bool) (m : ℕ) → IsDir v at → IsLive v m → cond b (Refused NotDir) (Done (record { parent = at; name = name; node = Some m; slash = slash })) ≡ Done place → IsPlaceIn v place
-    by_end true m is live h = cc
-    by_end false m is live h = at_node m is live h
+  looked_entry : (found : Option ℕ) → is_special name ≡ false → looked_up v at name ≡ node_or Missing found → entry v at name ≡ found
+  looked_entry found plain looked = by_tests (is_nil name) (bytes_eq name (codes ".")) (bytes_eq name (codes "..")) plain looked
+    where
+      by_tests : (a b c : Bool) → (a || (b || c)) ≡ false → cond b (Node at) (cond c (node_or Gone (dot_dot v at)) (node_or Missing (entry v at name))) ≡ node_or Missing found → entry v at name ≡ found
+      by_tests true b c off h = absurd (cc)
+      by_tests false true c off h = absurd (cc)
+      by_tests false false true off h = absurd (cc)
+      by_tests false false false off h = same_found (entry v at name) found h
 
-    by_stop : (b : Bool) (m : ℕ) → IsDir v at → IsLive v m → cond b (ended v slash at name m) (On m) ≡ Done place → IsPlaceIn v place
-    by_stop true m is live h = by_end (slash && not (is_dir v m)) m is live h
-    by_stop false m is live h = cc
+  -- a special name is found, or refused
+  looked_plain : HasByte name → looked_up v at name ≡ Missing → is_special name ≡ false
+  looked_plain some looked = ap (λ b. b || (bytes_eq name (codes ".") || bytes_eq name (codes ".."))) some ∙ by_tests (bytes_eq name (codes ".")) (bytes_eq name (codes "..")) looked
+    where
+      by_up : (up : Option ℕ) → node_or Gone up ≢ Missing
+      by_up None h = cc
+      by_up (Some d) h = cc
 
-    by_keep : (b : Bool) (m : ℕ) (target : List ℕ) → IsDir v at → IsLive v m → cond b (ended v slash at name m) (Follow target) ≡ Done place → IsPlaceIn v place
-    by_keep true m target is live h = by_end (slash && not (is_dir v m)) m is live h
-    by_keep false m target is live h = cc
-
-    by_target : (target : Option (List ℕ)) (m : ℕ) → IsDir v at → IsLive v m → arrived v keep last slash at name m target ≡ Done place → IsPlaceIn v place
-    by_target None m is live h = by_stop last m is live h
-    by_target (Some target) m is live h = by_keep (last && keep) m target is live h
-
-    at_nothing : IsDir v at → Done (record { parent = at; name = name; node = None; slash = slash }) ≡ Done place → IsPlaceIn v place
-    at_nothing is h = let same : record { parent = at; name = name; node = None; slash = slash } ≡ place = cc in subst (IsPlaceIn v) same (record { is_dir = is; live = tt })
-
-    by_last : (b : Bool) → IsDir v at → cond b (Done (record { parent = at; name = name; node = None; slash = slash })) (Refused NoEnt) ≡ Done place → IsPlaceIn v place
-    by_last true is h = at_nothing is h
-    by_last false is h = cc
-
-    by_found : (found : Found) → IsDir v at → looked_up v at name ≡ found → after_look v keep last slash at name found ≡ Done place → IsPlaceIn v place
-    by_found Gone is f h = cc
-    by_found Missing is f h = by_last last is h
-    by_found (Node m) is f h = by_target (target_at v m) m is (looked_live v s at is name m f) h
-
-    by_long : (b : Bool) → IsDir v at → cond b (Refused NameTooLong) (after_look v keep last slash at name (looked_up v at name)) ≡ Done place → IsPlaceIn v place
-    by_long true is h = cc
-    by_long false is h = by_found (looked_up v at name) is refl h
-
-    by_dir : (b : Bool) → is_dir v at ≡ b → cond b (step_in_dir v keep last slash at name) (Refused NotDir) ≡ Done place → IsPlaceIn v place
-    by_dir true is h = by_long (nat_le (NAME_LIMIT + 1) (length name)) (is_there v at is) h
-    by_dir false is h = cc
+      by_tests : (b c : Bool) → cond b (Node at) (cond c (node_or Gone (dot_dot v at)) (node_or Missing (entry v at name))) ≡ Missing → (b || c) ≡ false
+      by_tests true c h = absurd (cc)
+      by_tests false true h = absurd (by_up (dot_dot v at) h)
+      by_tests false false h = refl
 
 module _ (v : Forest) (s : IsShaped v) (root : v.root ≡ 1) where
-  -- a walk that goes on well ends well
-  from_place : (keep : Bool) (follow : ℕ → List (List ℕ) → Bool → Result Place Errno) → ((n : ℕ) (names : List (List ℕ)) (slash : Bool) (place : Place) → follow n names slash ≡ Ok place → IsPlaceIn v place) → (at : ℕ) (names : List (List ℕ)) (slash : Bool) (place : Place) → walk_from v keep follow at names slash ≡ Ok place → IsPlaceIn v place
-  unfolding walk_from
-  from_place keep follow good at [] slash place e =
-      let top : IsDir v 1 = subst (IsDir v) root s.root in
-      let same : record { parent = 1; name = []; node = Some 1; slash = slash } ≡ place = cc in
-      subst (IsPlaceIn v) same (record { is_dir = top; live = IsLive-IsDir v 1 top })
-  from_place keep follow good at (name ∷ rest) slash place e = by_step (step_of v keep (is_nil rest) slash at name) refl (λ n h. from_place keep follow good n rest slash place h) e
+  ended_place : (keep : Bool) (name : List ℕ) (place : Place) → HasByte name → EndedAt v keep name place → IsPlaceIn v place
+  ended_place keep name place some e = record {
+    is_dir = e.dir;
+    live = by_node place.node refl;
+    found = λ plain. subst (λ n. entry v place.parent n ≡ place.node) (sym e.name) (looked_entry v place.parent name place.node (ap is_special (sym e.name) ∙ plain) e.looked);
+    missing = λ none. ap is_special e.name ∙ looked_plain v place.parent name some (e.looked ∙ ap (node_or Missing) none);
+  }
     where
-      one_place : (r : Result Place Errno) (a b : Place) → r ≡ Ok a → r ≡ Ok b → a ≡ b
-      one_place r a b e f = cc
+      by_node : (found : Option ℕ) → place.node ≡ found → IfSome found (IsLive v)
+      by_node None is = tt
+      by_node (Some n) is = looked_live v s place.parent e.dir name n (e.looked ∙ ap (node_or Missing) is)
 
-      by_step : (step : Step) → step_of v keep (is_nil rest) slash at name ≡ step → ((n : ℕ) → walk_from v keep follow n rest slash ≡ Ok place → IsPlaceIn v place) → after_step (λ n. walk_from v keep follow n rest slash) (λ target. follow (start_of at target) (path_names target ++ rest) (slash || (is_nil rest && ends_in_slash target))) step ≡ Ok place → IsPlaceIn v place
-      by_step (On n) is more h = more n h
-      by_step (Done found) is more h = subst (IsPlaceIn v) (one_place (Ok found) found place refl h) (step_place v s at keep (is_nil rest) slash name found is)
-      by_step (Refused e) is more h = cc
-      by_step (Follow target) is more h = good (start_of at target) (path_names target ++ rest) (slash || (is_nil rest && ends_in_slash target)) place h
+  top : (slash : Bool) → IsPlaceIn v (top_place slash)
+  top slash =
+      let dir : IsDir v 1 = subst (IsDir v) root s.root in
+      record { is_dir = dir; live = IsLive-IsDir v 1 dir; found = λ plain. absurd (cc); missing = λ none. absurd (cc) }
 
   -- where a walk ends is a place
-  pub by_place : (k : ℕ) (keep : Bool) (at : ℕ) (names : List (List ℕ)) (slash : Bool) (place : Place) → walk_by k v keep at names slash ≡ Ok place → IsPlaceIn v place
-  unfolding walk_by
-  by_place zero keep at names slash place e = from_place keep (λ _ _ _. Err Loop) (λ _ _ _ place h. cc) at names slash place e
-  by_place (suc k) keep at names slash place e = from_place keep (walk_by k v keep) (λ n names slash place h. by_place k keep n names slash place h) at names slash place e
+  pub place_steps : (keep : Bool) → Steps v keep (IsPlaceIn v) HasByte
+  place_steps keep = record {
+    ends = λ at last slash name place some h. ended_place keep name place some (ended_at v keep last slash at name place h);
+    top = top;
+    names = λ at last slash name target h. byte_names target;
+  }

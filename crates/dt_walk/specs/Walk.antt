@@ -1,6 +1,6 @@
 -- Where a path leads (path_resolution(7)), with this project's order of refusals. `Place`, `Last` and `LINK_LIMIT` are declared in
 -- src/place.rt, `Found` and `Step` in src/step.rt.
-use Rattle.std.specs.Prelude.{ℕ, zero, suc, Bool, true, false, not, ◌&&◌, ◌||◌, ◌==◌, ◌+◌, ◌-◌, slice_get, List, [], ◌∷◌, ◌++◌, length, nat_le, codes, Option, None, Some, Result, Ok, Err, if◌then◌else◌}
+use Rattle.std.specs.Prelude.{ℕ, zero, suc, Bool, true, false, not, ◌&&◌, ◌||◌, ◌+◌, ◌-◌, slice_get, List, [], ◌∷◌, ◌++◌, length, nat_le, codes, Option, None, Some, Result, Ok, Err, if◌then◌else◌}
 use Rattle.std.specs.List.{filter}
 use Rattle.std.specs.Str.{bytes_eq}
 use Rattle.dt_base.specs.declared.errno.Errno.{Errno}

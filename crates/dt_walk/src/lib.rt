@@ -6,5 +6,6 @@ mod paths;
 mod place;
 mod step;
 
+pub use names::ends_in_slash;
 pub use paths::walk;
 pub use place::{LINK_LIMIT, Last, Place};

@@ -8,7 +8,7 @@ use dt_tree::ROOT;
 use std::alloc::Global;
 
 /// Whether a text ends in a slash.
-pub(crate) fn ends_in_slash(text: &[u8]) -> bool
+pub fn ends_in_slash(text: &[u8]) -> bool
     ensures { result ≡ ends_in_slash text.now }
 {
     match text.last() {

@@ -1,12 +1,13 @@
 // A whole path.
-ghost use Rattle.std.specs.Prelude.{◌≡◌, ◌++◌, ◌||◌, ◌&&◌, reverse, Err, IfOk, OnErr, IsErrOf};
+ghost use Rattle.std.specs.Prelude.{◌≡◌, ◌++◌, ◌||◌, ◌&&◌, reverse, Err, IfOk, OnErr, IsErrOf, IsTrue};
 ghost use Rattle.dt_host.specs.declared.error.CallErr.TheVariants.{Host as host_failed};
 ghost use Rattle.dt_host.specs.declared.error.HostErr.TheVariants.{NoMemory as no_memory};
 ghost use Rattle.dt_host.specs.Cause.{HasCause};
 ghost use Rattle.dt_host.specs.World.{IsDir};
 ghost use Rattle.dt_tree.specs.Table.{Stands, shape_of};
 ghost use Rattle.dt_walk.specs.Answer.{Answers};
-ghost use Rattle.dt_walk.specs.Placed.{IsPlaceIn};
+ghost use Rattle.dt_base.specs.Path.{has_no_nul};
+ghost use Rattle.dt_walk.specs.Placed.{IsPlaceIn, IsNamedWell, IsFollowed};
 ghost use Rattle.dt_walk.specs.Walk.{is_nil, path_names, ends_in_slash, start_of, walk_of};
 ghost use Rattle.dt_walk.specs.inner.Stretch.{stretch_of, goes_on, reached_of};
 
@@ -51,6 +52,8 @@ pub fn walk<H: Host>(
     ensures exact { Answers result
         (walk_of (shape_of tree.now (H.view host.old).forest) start path.now last) }
     ensures place { IfOk result (IsPlaceIn (shape_of tree.now (H.view host.old).forest)) }
+    ensures named { IsTrue (has_no_nul path.now) → IfOk result IsNamedWell }
+    ensures followed { IfOk result (IsFollowed (shape_of tree.now (H.view host.old).forest) last) }
     ensures stays { H.view host.new ≡ H.view host.old }
     ensures cause { HasCause (H.count host.old) (H.count host.new)
         (IsErrOf result (host_failed HostErr.Failed)) }

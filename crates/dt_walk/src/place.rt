@@ -1,4 +1,8 @@
 // Where a path leads.
+ghost use Rattle.std.specs.Prelude.{◌≡◌};
+ghost use Rattle.dt_walk.specs.Walk.{is_nil};
+ghost use Rattle.dt_walk.specs.Placed.{is_dot, is_dot_dot, is_special};
+
 use dt_base::Blob;
 
 /// Links that one walk follows.
@@ -23,4 +27,34 @@ pub struct Place {
     pub name: Blob,
     pub node: Option<u64>,
     pub slash: bool,
+}
+
+impl Place {
+    /// Whether the name is one that no entry can have: `.`, `..`, or the empty one of a path without names.
+    pub fn is_special(&self) -> bool
+        ensures { result ≡ is_special self.now.name }
+    {
+        self.is_empty_name() || self.is_dot() || self.is_dot_dot()
+    }
+
+    /// Whether the name is `.`.
+    pub fn is_dot(&self) -> bool
+        ensures { result ≡ is_dot self.now.name }
+    {
+        self.name.as_slice() == b".".as_slice()
+    }
+
+    /// Whether the name is `..`.
+    pub fn is_dot_dot(&self) -> bool
+        ensures { result ≡ is_dot_dot self.now.name }
+    {
+        self.name.as_slice() == b"..".as_slice()
+    }
+
+    /// Whether the name is empty: the path has no names, and leads to the root.
+    pub fn is_empty_name(&self) -> bool
+        ensures { result ≡ is_nil self.now.name }
+    {
+        self.name.is_empty()
+    }
 }

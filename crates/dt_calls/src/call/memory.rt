@@ -56,8 +56,8 @@ pub fn mprotect(alloc: Global, machine: &mut Machine) -> Effect
     answered(alloc, machine, MPROTECT, answer)
 }
 
-// Gives the answer of a call of this number.
-fn answered(alloc: Global, machine: &mut Machine, number: u64, answer: Answer) -> Effect
+/// Gives the answer of a call of this number.
+pub fn answered(alloc: Global, machine: &mut Machine, number: u64, answer: Answer) -> Effect
     ensures { (c : _) → answers c machine.old number answer ≡ effect_as c machine.new result }
 {
     match answer {

@@ -39,5 +39,5 @@ inode_code =
 -- a table
 abbrev pub table_code : Coded Table
 table_code =
-    code_by (FinMap nat_cmp Inode × (FinMap nat_cmp ℕ × ℕ)) (coded× (code coded_ℕ inode_code) (coded× (code coded_ℕ coded_ℕ) coded_ℕ))
-    (λ t. (t.inodes, (t.by_real, t.next))) (λ p. record { inodes = p.0; by_real = p.1.0; next = p.1.1 }) (λ _. refl)
+    code_by (FinMap nat_cmp Inode × (FinMap nat_cmp ℕ × (ℕ × ℕ))) (coded× (code coded_ℕ inode_code) (coded× (code coded_ℕ coded_ℕ) (coded× coded_ℕ coded_ℕ)))
+    (λ t. (t.inodes, (t.by_real, (t.next, t.names)))) (λ p. record { inodes = p.0; by_real = p.1.0; next = p.1.1.0; names = p.1.1.1 }) (λ _. refl)

@@ -1,9 +1,10 @@
-use Rattle.std.proofs.Common.{arith, ◌≡◌, ◌≤◌, length, sym, ap, subst, ◌∙◌}
+use Rattle.std.proofs.Common.{arith, length, sym, ap, subst, ◌∙◌}
 use Rattle.std.specs.Prelude.{IsTrue}
 use Rattle.dt_base.specs.Image.{is_good_what}
 use Rattle.dt_host.specs.Legal.{with_write}
 use Rattle.dt_host.proofs.Changes.{IsFile-made}
-use Rattle.dt_tree.specs.inner.Created.{IsMadeAt, new_node}
+use Rattle.dt_tree.specs.Changes.{new_node}
+use Rattle.dt_tree.specs.inner.Created.{IsMadeAt}
 use Rattle.dt_tree.proofs.Making.{made_file}
 use Rattle.dt_tree.proofs.Trees.{fits}
 use Rattle.dt_tree.proofs.steps.make_real.Goals as goal

@@ -1,4 +1,4 @@
-use Rattle.std.proofs.Common.{arith, ◌≡◌, ◌≢◌, [], ◌∷◌, ◌++◌, ◌+◌, List, ℕ, drop, get_or, refl, sym, ap, ◌∙◌}
+use Rattle.std.proofs.Common.{arith, ◌≡◌, [], ◌∷◌, ◌++◌, ◌+◌, drop, get_or, sym, ap, ◌∙◌}
 use Rattle.dt_walk.proofs.Named.{names_among, names_left, all_left, at_slash, at_other, at_end}
 use Rattle.dt_walk.proofs.names.path_names.Goals as goal
 use Rattle.dt_walk.proofs.names.path_names.Goals.{then-b-eq47+in_ok-add_name, else-b-eq47+in_ok-push}

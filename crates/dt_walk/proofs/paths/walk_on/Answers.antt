@@ -1,11 +1,11 @@
-use Rattle.std.proofs.Common.{arith, ◌≡◌, ◌∷◌, ◌++◌, ◌&&◌, ◌||◌, [], length, None, Some, Ok, Err, sym, ap, subst, ◌∙◌}
+use Rattle.std.proofs.Common.{arith, ◌≡◌, ◌++◌, ◌&&◌, ◌||◌, [], length, Some, Ok, sym, ap, subst, ◌∙◌}
 use Rattle.std.proofs.lemmas.List.{length-reverse}
 use Rattle.std.specs.Prelude.{reverse}
 use Rattle.dt_host.specs.World.{World}
 use Rattle.dt_tree.specs.Table.{shape_of}
 use Rattle.dt_walk.specs.declared.step.Step.TheVariants.{On, Done, Refused, Follow}
 use Rattle.dt_walk.specs.Walk.{step_of, start_of, path_names, ends_in_slash}
-use Rattle.dt_walk.specs.inner.Stretch.{ended_at, goes_on, stretch_of}
+use Rattle.dt_walk.specs.inner.Stretch.{ended_at, goes_on}
 use Rattle.dt_walk.proofs.Stretches.{one_step, no_step, nil_reversed, nil_same, none_left, popped}
 use Rattle.dt_walk.proofs.paths.walk_on.Goals as goal
 

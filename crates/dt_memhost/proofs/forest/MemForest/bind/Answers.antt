@@ -6,7 +6,7 @@ use Rattle.dt_host.specs.World.{dir, dir_names, IsDir, IsSized, entry}
 use Rattle.dt_host.proofs.Sized.{IsSized-with_entry}
 use Rattle.dt_memhost.specs.inner.Node.{node_in, entries_of, order_in}
 use Rattle.dt_memhost.specs.inner.Forest.{Ordered}
-use Rattle.dt_memhost.proofs.Forests.{forest_of, by_outcome, entry-forest_of, dir_at-forest_of, put_entry, same_forest, same_values, order_pushed, has_order}
+use Rattle.dt_memhost.proofs.Forests.{forest_of, by_outcome, entry-forest_of, dir_at-forest_of, put_entry, same_forest, same_values, order_changed, has_order}
 use Rattle.dt_memhost.proofs.forest.MemForest.bind.Goals as goal
 
 -- what holds for what is there holds
@@ -53,7 +53,7 @@ returns-clause-ok c =
     subst (λ name. order_in c.bind.new.nodes d ≡ option_map (λ order. order ++ (name, c.args.number) ∷ []) (order_in old d)) c.in_ok-name.ensures.items (of_some _ _ there h) in
     rw (← c.self.view_is) (on_ok_both c.bind.result (λ h k.
     let forest = put_entry old c.bind.new.nodes c.self.inside.root d c.bind.ensures.others c.args.name.now c.args.number is (put h) in
-    let orders = order_pushed old c.bind.new.nodes d c.args.name.now c.args.number c.bind.ensures.other_orders (has_order old d there) (last k) in
+    let orders = order_changed (λ order. order ++ (c.args.name.now, c.args.number) ∷ []) old c.bind.new.nodes d c.bind.ensures.other_orders (has_order old d there) (last k) in
     λ i. record { forest = forest i; orders = orders i }) c.bind.ensures.ok c.bind.ensures.last)
 
 pub returns-clause-err : goal.returns-clause-err

@@ -1,10 +1,10 @@
-use Rattle.std.proofs.Common.{arith, ◌≡◌, ◌+◌, ◌≤◌, ◌∷◌, [], ◌++◌, ℕ, List, Option, map, take, length, sym, ap, ◌∙◌, append-nil, append_assoc}
+use Rattle.std.proofs.Common.{arith, ◌≡◌, ◌+◌, ◌∷◌, [], ◌++◌, ℕ, List, Option, map, take, sym, ap, ◌∙◌, append-nil, append_assoc}
 use Rattle.std.proofs.lemmas.List.{map-append, take_more, take_all}
 use Rattle.std.specs.Prelude.{option_map}
 use Rattle.dt_host.specs.declared.entry.HostEntry.{HostEntry}
 use Rattle.dt_tree.specs.declared.list.Listed.{Listed}
 use Rattle.dt_tree.specs.Listing.{next_of, listed}
-use Rattle.dt_tree.specs.Table.{virtual, shape_of}
+use Rattle.dt_tree.specs.Table.{shape_of}
 use Rattle.dt_tree.specs.inner.Lists.{added, listed_real}
 use Rattle.dt_tree.proofs.Listings.{next_of-push}
 use Rattle.dt_tree.proofs.tree.Tree.add_all.Goals as goal

@@ -1,5 +1,4 @@
-use Rattle.std.proofs.Common.{arith, ◌≡◌, ◌+◌, ◌<◌, ℕ, length, true, false, sym, ap, ◌∙◌}
-use Rattle.std.specs.List.{count_by}
+use Rattle.std.proofs.Common.{arith, sym, ap, ◌∙◌}
 use Rattle.std.proofs.lemmas.List.Sums.{count_by_more_yes, count_by_more_no}
 use Rattle.dt_host.specs.declared.entry.HostEntry.{HostEntry}
 use Rattle.dt_tree.specs.Shape.{is_dir}

@@ -1,11 +1,11 @@
 use Rattle.std.proofs.Common.{arith, ◌≡◌, None, sym, ap, subst, ◌∙◌}
-use Rattle.dt_host.specs.World.{with_node, with_entry, entry, IsDir, IsLive}
-use Rattle.dt_tree.specs.Shape.{names_of}
+use Rattle.dt_host.specs.World.{with_node, entry, IsDir, IsLive}
+use Rattle.dt_tree.specs.Shape.{name_count}
 use Rattle.dt_tree.specs.FileTree.{FileTree, IsTree}
 use Rattle.dt_tree.specs.Table.{tree_of}
-use Rattle.dt_tree.specs.inner.Created.{new_node}
+use Rattle.dt_tree.specs.Changes.{new_node}
 use Rattle.dt_tree.proofs.Trees.{bare_new, is_first, free_first, IsTree-created}
-use Rattle.dt_tree.proofs.Making.{live_made, nameless_made, tree_both}
+use Rattle.dt_tree.proofs.Making.{live_made, names-made, tree_both}
 use Rattle.dt_tree.proofs.tree.Tree.create.Goals as goal
 
 shape : (a b : FileTree) → a ≡ b → a.shape ≡ b.shape
@@ -13,9 +13,6 @@ shape a b e = ap (λ (t : FileTree). t.shape) e
 
 pub make-requires-clause-good : goal.make-requires-clause-good
 make-requires-clause-good g c = c.requires.may.good
-
-pub make-requires-clause-few : goal.make-requires-clause-few
-make-requires-clause-few g c = c.requires.may.few
 
 pub bind-requires-clause-directory : goal.bind-requires-clause-directory
 bind-requires-clause-directory g c =
@@ -32,12 +29,6 @@ bind-requires-clause-live g c =
     let t = tree_of c.args.self.now (g.H.Host.view c.args.host.now).forest in
     subst (λ s. IsLive s c.in_ok-n.n) (sym (shape _ _ c.in_ok-n.ensures.tree)) (subst (IsLive (with_node t.shape t.next (new_node c.args.what.now))) (sym c.in_ok-n.ensures.number) (live_made t (new_node c.args.what.now)))
 
-pub bind-requires-clause-few : goal.bind-requires-clause-few
-bind-requires-clause-few g c =
-    let t = tree_of c.args.self.now (g.H.Host.view c.args.host.now).forest in
-    let none = ap (λ s. names_of s c.in_ok-n.n) (shape _ _ c.in_ok-n.ensures.tree) ∙ ap (names_of (with_node t.shape t.next (new_node c.args.what.now))) c.in_ok-n.ensures.number ∙ nameless_made t (new_node c.args.what.now) c.requires.stands.tree (bare_new c.args.what.now) in
-    omega arith
-
 pub returns-clause-tree : goal.returns-clause-tree
 returns-clause-tree g c =
     let t = tree_of c.args.self.now (g.H.Host.view c.args.host.now).forest in
@@ -46,8 +37,9 @@ returns-clause-tree g c =
 pub returns-clause-stands : goal.returns-clause-stands
 returns-clause-stands g c =
     let t = tree_of c.args.self.now (g.H.Host.view c.args.host.now).forest in
+    let after = ap (λ s. name_count s) (shape _ _ c.in_ok-n.ensures.tree) ∙ names-made t (new_node c.args.what.now) c.requires.stands.tree (bare_new c.args.what.now) in
     record {
       mirrors = c.in_ok-bind.ensures.mirrors;
       tree = subst IsTree (sym (tree_both t _ _ c.args.dir c.args.name.now (new_node c.args.what.now) c.args.mode c.args.stamp c.in_ok-n.n c.in_ok-n.ensures.tree c.in_ok-n.ensures.number c.in_ok-bind.ensures.tree))
-          (IsTree-created t c.args.dir c.args.name.now c.args.what.now c.args.mode c.args.stamp c.requires.stands.tree c.requires.may);
+          (IsTree-created t c.args.dir c.args.name.now c.args.what.now c.args.mode c.args.stamp c.requires.stands.tree c.requires.may (omega (arith, c.in_ok-bind.ensures.room)));
     }

@@ -1,4 +1,4 @@
-use Rattle.std.proofs.Common.{◌≡◌, ◌+◌, sym, ap, ◌∙◌}
+use Rattle.std.proofs.Common.{◌+◌, sym, ap, ◌∙◌}
 use Rattle.dt_tree.proofs.Mirroring.{has_inode-dir}
 use Rattle.dt_tree.proofs.Looked.{nlink_of-removed, nlink_of-there}
 use Rattle.dt_tree.proofs.tree.Tree.dir_nlink.Goals as goal

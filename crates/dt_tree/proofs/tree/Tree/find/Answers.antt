@@ -1,4 +1,4 @@
-use Rattle.std.proofs.Common.{None, Some, sym, ap, ◌∙◌}
+use Rattle.std.proofs.Common.{Some, sym, ap, ◌∙◌}
 use Rattle.std.specs.Prelude.{option_map}
 use Rattle.dt_tree.specs.Table.{virtual}
 use Rattle.dt_tree.proofs.Mirroring.{has_inode-dir, real_dir, entry-inode}

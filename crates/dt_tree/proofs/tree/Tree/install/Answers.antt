@@ -1,19 +1,17 @@
-use Rattle.std.proofs.Common.{arith, ◌≡◌, ◌+◌, ◌≤◌, ◌<◌, [], List, length, take, Some, refl, sym, ap, subst, ◌∙◌}
+use Rattle.std.proofs.Common.{arith, ◌≡◌, length, refl, sym, ap, subst, ◌∙◌}
 use Rattle.std.proofs.lemmas.List.{take_all}
 use Rattle.std.proofs.lemmas.Option.{slice_get_read}
-use Rattle.std.specs.Prelude.{slice_get}
 use Rattle.std.specs.FinMap.{len}
-use Rattle.dt_base.specs.declared.image.Entry.{Entry}
 use Rattle.dt_base.specs.Image.{IsImage}
 use Rattle.dt_base.specs.Path.{parent_of}
 use Rattle.dt_tree.specs.FileTree.{FileTree}
 use Rattle.dt_tree.specs.ImageTree.{image_tree, last_name}
-use Rattle.dt_tree.specs.Shape.{name_count}
-use Rattle.dt_tree.specs.Table.{shape_of, tree_of}
-use Rattle.dt_tree.specs.inner.Created.{new_node, created, MayCreate}
+use Rattle.dt_tree.specs.Table.{tree_of}
+use Rattle.dt_tree.specs.Changes.{new_node, created}
+use Rattle.dt_tree.specs.inner.Created.{MayCreate}
 use Rattle.dt_tree.specs.inner.Places.{LeadsTo}
-use Rattle.dt_tree.proofs.Starting.{image_tree-nil, one_node, no_name_count}
-use Rattle.dt_tree.proofs.Trees.{len-created, names-created}
+use Rattle.dt_tree.proofs.Starting.{image_tree-nil, one_node}
+use Rattle.dt_tree.proofs.Trees.{len-created}
 use Rattle.dt_tree.proofs.Installing.{may, more}
 use Rattle.dt_tree.proofs.tree.Tree.install.Goals as goal
 
@@ -23,7 +21,6 @@ loop-entry-init g c = record {
   stands = c.requires.stands;
   tree = c.requires.new;
   nodes = ap (λ (t : FileTree). len t.shape.nodes) (c.requires.new ∙ image_tree-nil) ∙ one_node;
-  names = ap (λ (t : FileTree). name_count t.shape) (c.requires.new ∙ image_tree-nil) ∙ no_name_count 1;
 }
 
 pub create-requires-clause-stands : goal.create-requires-clause-stands
@@ -37,7 +34,7 @@ create-requires-clause-may g c =
     let leads = subst (λ p. LeadsTo entries p c.inode_at-dir.result) (c.split_path.ensures.parent ∙ ap parent_of c.as_slice.ensures) c.inode_at-dir.ensures in
     let t = tree_of c.loop-entry.self (g.H.Host.view c.loop-entry.host).forest in
     subst (λ name. MayCreate t c.inode_at-dir.result name c.entry-item.result.what c.entry-item.result.mode) (sym (c.split_path.ensures.name ∙ ap last_name c.as_slice.ensures))
-    (may entries is c.loop-entry.entry-index c.entry-item.result at c.inode_at-dir.result leads t c.loop-entry.invariant.tree c.loop-entry.invariant.stands.tree c.loop-entry.invariant.nodes c.loop-entry.invariant.names)
+    (may entries is c.loop-entry.entry-index c.entry-item.result at c.inode_at-dir.result leads t c.loop-entry.invariant.tree c.loop-entry.invariant.stands.tree c.loop-entry.invariant.nodes)
 
 pub loop-entry-preserved : goal.loop-entry-preserved
 loop-entry-preserved g c =
@@ -49,17 +46,15 @@ loop-entry-preserved g c =
     let leads = subst (λ p. LeadsTo entries p n) (c.split_path.ensures.parent ∙ ap parent_of c.as_slice.ensures) c.inode_at-dir.ensures in
     let t = tree_of c.loop-entry.self (g.H.Host.view c.loop-entry.host).forest in
     let s = c.loop-entry.invariant.stands.tree in
-    let can = may entries is c.loop-entry.entry-index e at n leads t c.loop-entry.invariant.tree s c.loop-entry.invariant.nodes c.loop-entry.invariant.names in
+    let can = may entries is c.loop-entry.entry-index e at n leads t c.loop-entry.invariant.tree s c.loop-entry.invariant.nodes in
     let after : tree_of c.create.new.self (g.H.Host.view c.create.new.host).forest ≡ created t n (last_name e.path) (new_node e.what) e.mode 0 =
     c.in_ok-create.ensures.tree ∙ ap (λ name. created t n name (new_node e.what) e.mode 0) (c.split_path.ensures.name ∙ ap last_name c.as_slice.ensures) in
     let nodes = ap (λ (t : FileTree). len t.shape.nodes) after ∙ len-created t n (last_name e.path) e.what e.mode 0 s can in
-    let names = ap (λ (t : FileTree). name_count t.shape) after ∙ names-created t n (last_name e.path) e.what e.mode 0 s can in
     record {
       later = omega (arith, c.create.ensures.cause.later, c.loop-entry.invariant.later);
       stands = c.in_ok-create.ensures.stands;
       tree = after ∙ ap (λ t. created t n (last_name e.path) (new_node e.what) e.mode 0) c.loop-entry.invariant.tree ∙ sym (more entries is c.loop-entry.entry-index e at n leads);
       nodes = omega (arith, nodes, c.loop-entry.invariant.nodes);
-      names = omega (arith, names, c.loop-entry.invariant.names);
     }
 
 pub returns-clause-tree : goal.returns-clause-tree

@@ -1,7 +1,6 @@
 use Rattle.std.proofs.Common.{◌≡◌, ◌+◌, ◌≤◌, take}
 use Rattle.std.specs.FinMap.{len}
 use Rattle.dt_tree.specs.ImageTree.{image_tree}
-use Rattle.dt_tree.specs.Shape.{name_count}
 use Rattle.dt_tree.specs.Table.{Stands, shape_of, tree_of}
 use Rattle.dt_tree.proofs.tree.Tree.install.Given as goal
 
@@ -11,5 +10,4 @@ invariant-loop-entry g l = record {
   stands : Stands l.self (g.H.Host.view l.host).forest;
   tree : tree_of l.self (g.H.Host.view l.host).forest ≡ image_tree (take l.entry-index l.entries);
   nodes : len (shape_of l.self (g.H.Host.view l.host).forest).nodes ≡ l.entry-index + 1;
-  names : name_count (shape_of l.self (g.H.Host.view l.host).forest) ≡ l.entry-index;
 }

@@ -1,7 +1,5 @@
-use Rattle.std.proofs.Common.{◌≡◌, ◌∷◌, [], ◌++◌, List, ℕ, Option, map, sym, ap, ◌∙◌}
+use Rattle.std.proofs.Common.{◌≡◌, ◌∷◌, [], List, ℕ, Option, map, sym, ap, ◌∙◌}
 use Rattle.std.specs.Prelude.{option_map, unwrap_or, codes}
-use Rattle.std.specs.FinMap.{entries}
-use Rattle.dt_host.specs.World.{names_at}
 use Rattle.dt_host.specs.declared.entry.HostEntry.{HostEntry}
 use Rattle.dt_tree.specs.declared.list.Listed.{Listed}
 use Rattle.dt_tree.specs.Listing.{next_of, listed}

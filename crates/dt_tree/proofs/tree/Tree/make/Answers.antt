@@ -1,9 +1,9 @@
-use Rattle.std.proofs.Common.{◌≡◌, ℕ, None, refl, sym, ap, subst, ◌∙◌}
+use Rattle.std.proofs.Common.{◌≡◌, None, refl, sym, ap, subst, ◌∙◌}
 use Rattle.dt_host.specs.World.{World}
 use Rattle.dt_tree.specs.declared.inode.Inode.{Inode}
 use Rattle.dt_tree.specs.Table.{tree_of, Mirrors}
 use Rattle.dt_tree.specs.inner.Tables.{with_new}
-use Rattle.dt_tree.specs.inner.Created.{new_node, with_made}
+use Rattle.dt_tree.specs.Changes.{new_node, with_made}
 use Rattle.dt_tree.proofs.Trees.{bare_new}
 use Rattle.dt_tree.proofs.Making.{mirrors_made, tree_made}
 use Rattle.dt_tree.proofs.tree.Tree.make.Goals as goal

@@ -2,8 +2,7 @@ use Rattle.std.proofs.Common.{◌≡◌, Some, sym, ap, subst, ◌∙◌}
 use Rattle.std.specs.Prelude.{option_map}
 use Rattle.dt_host.specs.World.{World, IsLive, node_at}
 use Rattle.dt_tree.specs.Meta.{size_of}
-use Rattle.dt_tree.specs.Table.{Stands, shape_of}
-use Rattle.dt_tree.specs.declared.meta.Meta.{Meta}
+use Rattle.dt_tree.specs.Table.{shape_of}
 use Rattle.dt_tree.proofs.Mirroring.{has_inode}
 use Rattle.dt_tree.proofs.Looked.{meta-kept}
 use Rattle.dt_tree.proofs.tree.Tree.meta.Goals as goal

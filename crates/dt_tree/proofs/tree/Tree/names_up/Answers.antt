@@ -1,6 +1,6 @@
-use Rattle.std.proofs.Common.{arith, ◌≡◌, ◌≢◌, ◌-◌, ◌+◌, ◌<◌, ◌++◌, ◌∷◌, [], List, ℕ, None, Some, refl, sym, ap, subst, ◌∙◌}
+use Rattle.std.proofs.Common.{arith, ◌≡◌, ◌≢◌, ◌-◌, ◌+◌, ◌∷◌, [], List, ℕ, Some, refl, sym, ap, subst, ◌∙◌}
 use Rattle.std.proofs.lemmas.List.{reverse-append}
-use Rattle.std.specs.Prelude.{unwrap_or, option_map, reverse}
+use Rattle.std.specs.Prelude.{unwrap_or, reverse}
 use Rattle.dt_host.specs.World.{World, Forest, IsDir}
 use Rattle.dt_tree.specs.Above.{names_up, name_in, parent_at}
 use Rattle.dt_tree.specs.Table.{Table, Stands, shape_of}

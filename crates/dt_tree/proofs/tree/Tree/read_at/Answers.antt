@@ -1,7 +1,5 @@
-use Rattle.std.proofs.Common.{◌≡◌, ◌-◌, ◌++◌, ℕ, List, length, take, drop, sym, ap, subst, ◌∙◌}
-use Rattle.std.specs.Prelude.{IsSome, IfOk, Result, Ok, Err, min}
-use Rattle.dt_tree.specs.Table.{shape_of}
-use Rattle.dt_host.specs.World.{content}
+use Rattle.std.proofs.Common.{◌≡◌, ◌-◌, ◌++◌, length, take, drop, sym, subst}
+use Rattle.std.specs.Prelude.{IsSome, IfOk, min}
 use Rattle.dt_tree.proofs.Mirroring.{has_inode-file, file_at-inode}
 use Rattle.dt_tree.proofs.Looked.{content-inode}
 use Rattle.dt_tree.proofs.tree.Tree.read_at.Goals as goal

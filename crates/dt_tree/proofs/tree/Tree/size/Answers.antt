@@ -1,4 +1,4 @@
-use Rattle.std.proofs.Common.{◌≡◌, Some, sym, ap, ◌∙◌}
+use Rattle.std.proofs.Common.{Some, sym, ap, ◌∙◌}
 use Rattle.dt_tree.proofs.Mirroring.{has_inode, real_live}
 use Rattle.dt_tree.proofs.Looked.{size-file, size-dir, size-link, real_link}
 use Rattle.dt_tree.proofs.tree.Tree.size.Goals as goal

@@ -1,11 +1,8 @@
-use Rattle.std.proofs.Common.{◌≡◌, List, Option, Some, sym, subst, ◌∙◌}
-use Rattle.std.specs.Prelude.{IsSome, IfOk, Result, Ok, Err}
+use Rattle.std.proofs.Common.{subst, ◌∙◌}
+use Rattle.std.specs.Prelude.{IsSome}
 use Rattle.dt_tree.proofs.Mirroring.{target_at-inode, has_inode-link}
+use Rattle.dt_tree.proofs.Outcomes.{same_ok}
 use Rattle.dt_tree.proofs.tree.Tree.target.Goals as goal
-
-same_ok : {A E : Type 0} {P Q : A → Type 0} (r : Result A E) → ((a : A) → P a → Q a) → IfOk r P → IfOk r Q
-same_ok (Ok a) f h = f a h
-same_ok (Err e) f h = tt
 
 pub inode-requires : goal.inode-requires
 inode-requires g c = has_inode-link _ (g.H.Host.view c.args.host.now).forest _ c.requires.link

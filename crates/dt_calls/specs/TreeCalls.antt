@@ -1,0 +1,36 @@
+-- The system calls on the file tree, served by their rows.
+use Rattle.std.specs.Prelude.{ℕ, List, [], ◌∷◌}
+use Rattle.dt_base.specs.declared.abi.TheConstants.{A0, A1, A2, A3, A4, A5}
+use Rattle.dt_base.specs.declared.answer.Answer.{Answer}
+use Rattle.dt_rv64.specs.declared.machine.Machine.{Machine}
+use Rattle.dt_rv64.specs.Effects.{register}
+use Rattle.dt_fcalls.specs.Scene.{Scene, Row}
+use Rattle.dt_fcalls.specs.Calls.{file_row}
+use Rattle.dt_calls.specs.Container.{Shared}
+use Rattle.dt_calls.specs.Effect.{Effect}
+use Rattle.dt_calls.specs.MemoryCalls.{answers}
+
+-- the arguments of a call: a0 to a5 (syscall(2))
+abbrev pub arguments : Machine → List ℕ
+arguments m =
+    register m A0 ∷ register m A1 ∷ register m A2 ∷ register m A3 ∷ register m A4 ∷ register m A5 ∷ []
+
+-- what a call on the tree sees
+abbrev pub scene_of : Shared → Machine → Scene
+scene_of c m = record { tree = c.tree; clock = c.clock; caller = c.process.caller; space = m.space }
+
+-- what is shared, as such a call leaves it
+abbrev pub with_scene : Shared → Scene → Shared
+with_scene c s = record c {
+  tree = s.tree;
+  clock = s.clock;
+  process = record c.process { caller = s.caller };
+}
+
+-- the call of a number leaves this, and gives its answer
+abbrev pub left : Shared → Machine → ℕ → Row → Effect
+left c m number r = answers (with_scene c r.next) (record m { space = r.next.space }) number r.answer
+
+-- the call of a number, served by its row
+unfoldable pub tree_call : ℕ → Shared → Machine → Effect
+tree_call number c m = left c m number (file_row number (arguments m) (scene_of c m))

@@ -1,0 +1,4 @@
+pub mod Texts
+pub mod Kept
+pub mod Moved
+pub mod May

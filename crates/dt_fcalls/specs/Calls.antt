@@ -1,0 +1,27 @@
+-- The calls on files, by their numbers (syscall(2), riscv64).
+use Rattle.std.specs.Prelude.{ℕ, ◌==◌, List, if◌then◌else◌}
+use Rattle.dt_base.specs.declared.abi.TheConstants.{GETCWD, MKDIRAT, UNLINKAT, SYMLINKAT, LINKAT, FACCESSAT, CHDIR, FCHMODAT, READLINKAT, NEWFSTATAT, UMASK, RENAMEAT2}
+use Rattle.dt_base.specs.declared.answer.Answer.TheVariants.{Unsupported}
+use Rattle.dt_fcalls.specs.Names.{mkdirat_row, symlinkat_row, linkat_row}
+use Rattle.dt_fcalls.specs.Nodes.{umask_row, faccessat_row, fchmodat_row, chdir_row}
+use Rattle.dt_fcalls.specs.Rename.{renameat2_row}
+use Rattle.dt_fcalls.specs.Scene.{Scene, Row}
+use Rattle.dt_fcalls.specs.Status.{getcwd_row, readlinkat_row, newfstatat_row}
+use Rattle.dt_fcalls.specs.Unlink.{unlinkat_row}
+
+-- the row of the call of a number; any other number is not supported
+unfoldable pub file_row : ℕ → List ℕ → Scene → Row
+file_row number args s =
+    if number == GETCWD then getcwd_row args s
+    else if number == MKDIRAT then mkdirat_row args s
+    else if number == UNLINKAT then unlinkat_row args s
+    else if number == SYMLINKAT then symlinkat_row args s
+    else if number == LINKAT then linkat_row args s
+    else if number == FACCESSAT then faccessat_row args s
+    else if number == CHDIR then chdir_row args s
+    else if number == FCHMODAT then fchmodat_row args s
+    else if number == READLINKAT then readlinkat_row args s
+    else if number == NEWFSTATAT then newfstatat_row args s
+    else if number == UMASK then umask_row args s
+    else if number == RENAMEAT2 then renameat2_row args s
+    else record { next = s; answer = Unsupported }

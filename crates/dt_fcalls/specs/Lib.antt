@@ -1,0 +1,11 @@
+pub mod Scene
+pub mod Arguments
+pub mod Places
+pub mod Nodes
+pub mod Names
+pub mod Unlink
+pub mod Rename
+pub mod Stat
+pub mod Status
+pub mod Calls
+pub mod Sound

@@ -1,0 +1,44 @@
+-- The bytes of a status: `struct stat` of 64-bit RISC-V (asm-generic/stat.h, stat(2), inode(7)).
+use Rattle.std.specs.Prelude.{ℕ, ◌+◌, ◌-◌, ◌/◌, ◌%◌, ◌==◌, List, replicate, bit_or, if◌then◌else◌}
+use Rattle.dt_base.specs.Fields.{with_field}
+use Rattle.dt_tree.specs.declared.limits.TheConstants.{DT_DIR, DT_REG, DT_LNK}
+use Rattle.dt_tree.specs.declared.meta.Meta.{Meta}
+use Rattle.dt_fcalls.specs.declared.stat.TheConstants.{STAT_LEN, ST_DEV, ST_INO, ST_MODE, ST_NLINK, ST_SIZE, ST_BLKSIZE, ST_BLOCKS, ST_ATIME, ST_MTIME, ST_CTIME, NANOSECONDS, S_IFREG, S_IFDIR, S_IFLNK, DEVICE, BLOCK_SIZE, SECTOR_SIZE, FIRST_SECOND, SECOND_TICKS}
+
+-- the bits of a mode that tell the type of a node
+abbrev pub type_bits : ℕ → ℕ
+type_bits kind = if kind == DT_DIR then S_IFDIR else if kind == DT_LNK then S_IFLNK else S_IFREG
+
+-- st_mode: the type and the mode
+abbrev pub st_mode : Meta → ℕ
+st_mode meta = bit_or (type_bits meta.kind) meta.mode
+
+-- st_blocks: the sectors of a file's bytes, the last one counted whole; no other node has any
+abbrev pub st_blocks : Meta → ℕ
+st_blocks meta = if meta.kind == DT_REG then (meta.size + (SECTOR_SIZE - 1)) / SECTOR_SIZE else 0
+
+-- what tells which node it is
+abbrev pub with_identity : ℕ → Meta → List ℕ → List ℕ
+with_identity n meta bytes =
+    with_field 4 (with_field 4 (with_field 8 (with_field 8 bytes ST_DEV DEVICE) ST_INO n)
+    ST_MODE (st_mode meta)) ST_NLINK meta.nlink
+
+-- what tells its size
+abbrev pub with_size : Meta → List ℕ → List ℕ
+with_size meta bytes =
+    with_field 8 (with_field 4 (with_field 8 bytes ST_SIZE meta.size) ST_BLKSIZE BLOCK_SIZE)
+    ST_BLOCKS (st_blocks meta)
+
+-- a time: the second, and the nanosecond in it
+abbrev pub with_time : ℕ → ℕ → List ℕ → List ℕ
+with_time at stamp bytes =
+    with_field 8 (with_field 8 bytes at (FIRST_SECOND + stamp / SECOND_TICKS))
+    (at + NANOSECONDS) (stamp % SECOND_TICKS)
+
+-- the times of access, modification and change, which are one
+abbrev pub with_times : ℕ → List ℕ → List ℕ
+with_times stamp bytes = with_time ST_CTIME stamp (with_time ST_MTIME stamp (with_time ST_ATIME stamp bytes))
+
+-- the status of a node; what no field covers is 0
+unfoldable pub stat_of : ℕ → Meta → List ℕ
+stat_of n meta = with_times meta.stamp (with_size meta (with_identity n meta (replicate STAT_LEN 0)))

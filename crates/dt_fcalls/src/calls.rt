@@ -1,0 +1,50 @@
+// The calls on files, by their numbers.
+ghost use Rattle.dt_fcalls.specs.Calls.{file_row};
+ghost use Rattle.dt_fcalls.specs.Sound.{Sound, Serves, stage};
+
+use crate::fs::Fs;
+use crate::names::{linkat, mkdirat, renameat2, symlinkat, unlinkat};
+use crate::nodes::{chdir, faccessat, fchmodat, umask};
+use crate::status::{getcwd, newfstatat, readlinkat};
+use dt_base::abi::{
+    CHDIR, FACCESSAT, FCHMODAT, GETCWD, LINKAT, MKDIRAT, NEWFSTATAT, READLINKAT, RENAMEAT2,
+    SYMLINKAT, UMASK, UNLINKAT,
+};
+use dt_base::{Answer, Caller};
+use dt_host::{Host, HostErr};
+use dt_space::Space;
+use std::alloc::Global;
+
+/// Serves the call of a number. One that is none of these calls is answered `Unsupported`.
+#[tactic(auto, unfolding(crate::specs::Calls::file_row), using(crate::proofs::Kept::in_other_words))]
+pub fn file_call<H: Host>(
+    alloc: Global,
+    fs: &mut Fs,
+    host: &mut H,
+    caller: &mut Caller,
+    space: &mut Space,
+    number: u64,
+    args: [u64; 6],
+) -> Result<Answer, HostErr>
+    requires { Sound (stage fs.old (H.view host.old) caller.old space.old) }
+    ensures { Serves (file_row number) args (stage fs.old (H.view host.old) caller.old space.old)
+        (stage fs.new (H.view host.new) caller.new space.new) result
+        (H.count host.old) (H.count host.new) }
+{
+    let _before = host.faults();
+    match number {
+        GETCWD => getcwd(alloc, fs, host, caller, space, args),
+        MKDIRAT => mkdirat(alloc, fs, host, caller, space, args),
+        UNLINKAT => unlinkat(alloc, fs, host, caller, space, args),
+        SYMLINKAT => symlinkat(alloc, fs, host, caller, space, args),
+        LINKAT => linkat(alloc, fs, host, caller, space, args),
+        FACCESSAT => faccessat(alloc, fs, host, caller, space, args),
+        CHDIR => chdir(alloc, fs, host, caller, space, args),
+        FCHMODAT => fchmodat(alloc, fs, host, caller, space, args),
+        READLINKAT => readlinkat(alloc, fs, host, caller, space, args),
+        NEWFSTATAT => newfstatat(alloc, fs, host, caller, space, args),
+        UMASK => Ok(umask(caller, args)),
+        RENAMEAT2 => renameat2(alloc, fs, host, caller, space, args),
+        _ => Ok(Answer::Unsupported),
+    }
+}

@@ -1,0 +1,23 @@
+// What the calls on files work on.
+ghost use Rattle.std.specs.Prelude.{◌≡◌};
+ghost use Rattle.dt_virt.specs.declared.clock.TheConstants.{READING_TICKS as TICKS};
+ghost use Rattle.dt_virt.specs.Clock.{later};
+
+use dt_tree::Tree;
+use dt_virt::{Clock, READING_TICKS, TICK_LIMIT};
+
+/// What the calls on files work on: the file tree and the logical time.
+#[derive(Drop)]
+pub struct Fs {
+    pub tree: Tree,
+    pub clock: Clock,
+}
+
+impl Fs {
+    // The stamp of a call that makes, adds, moves or takes away a name: the time after the time that it takes.
+    pub(crate) fn next_stamp(&self) -> u64
+        ensures { result ≡ later self.now.clock TICKS }
+    {
+        (self.clock.ticks() + READING_TICKS).min(TICK_LIMIT)
+    }
+}

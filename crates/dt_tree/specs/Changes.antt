@@ -1,0 +1,125 @@
+-- What the calls that change a file tree make of it (mkdir(2), symlink(2), link(2), unlink(2), rename(2), chmod(2), write(2),
+-- truncate(2)). A node goes with its last name and hold. What they give where a node or a name is missing nobody reads:
+-- callers see to it that it is there.
+use Rattle.std.specs.Prelude.{ℕ, ◌+◌, ◌-◌, ◌==◌, not, ◌&&◌, Bool, List, Option, None, Some, unwrap_or, option_map, if◌then◌else◌}
+use Rattle.std.specs.Ordering.{nat_cmp}
+use Rattle.std.specs.FinMap.{FinMap, empty, get, insert, remove}
+use Rattle.dt_base.specs.Bytes.{overwritten, padded, resized}
+use Rattle.dt_base.specs.declared.image.What.{What}
+use Rattle.dt_base.specs.declared.image.What.TheVariants.{File, Dir, Link}
+use Rattle.dt_host.specs.World.{Forest, Node, file, dir, link, entry, content, with_node, with_bytes, with_entry, without_entry, without_node}
+use Rattle.dt_tree.specs.declared.limits.TheConstants.{ROOT}
+use Rattle.dt_tree.specs.Shape.{names_of}
+use Rattle.dt_tree.specs.FileTree.{Attributes, FileTree, holds_of}
+
+-- with another shape
+abbrev pub with_shape : FileTree → Forest → FileTree
+with_shape t v = record t { shape = v }
+
+-- a map with this at a key, if there is something
+abbrev pub put_back : {X : Type 0} → FinMap nat_cmp X → ℕ → Option X → FinMap nat_cmp X
+put_back m n None = m
+put_back m n (Some x) = insert m n x
+
+-- with the attributes of a node changed
+unfoldable pub with_attributes : FileTree → ℕ → (Attributes → Attributes) → FileTree
+with_attributes t n change = record t { attributes = put_back t.attributes n (option_map change (get t.attributes n)) }
+
+-- attributes with another stamp
+abbrev pub with_stamp : ℕ → Attributes → Attributes
+with_stamp stamp a = record a { stamp = stamp }
+
+-- with another mode
+abbrev pub with_mode : ℕ → Attributes → Attributes
+with_mode mode a = record a { mode = mode }
+
+-- with one hold more
+abbrev pub one_more : Attributes → Attributes
+one_more a = record a { holds = a.holds + 1 }
+
+-- with one hold fewer
+abbrev pub one_fewer : Attributes → Attributes
+one_fewer a = record a { holds = a.holds - 1 }
+
+-- a node was modified at this time
+abbrev pub stamped : FileTree → ℕ → ℕ → FileTree
+stamped t n stamp = with_attributes t n (with_stamp stamp)
+
+-- a node but the root that has neither names nor holds
+abbrev pub is_unused : FileTree → ℕ → Bool
+is_unused t n = not (n == ROOT) && (names_of t.shape n == 0) && (holds_of t n == 0)
+
+-- without a node
+abbrev pub without : FileTree → ℕ → FileTree
+without t n = record t { shape = without_node t.shape n; attributes = remove t.attributes n }
+
+-- a node goes where nothing names or holds it
+unfoldable pub swept : FileTree → ℕ → FileTree
+swept t n = if is_unused t n then without t n else t
+
+-- the same of what stood in an entry, if something did
+abbrev pub swept_found : Option ℕ → FileTree → FileTree
+swept_found None t = t
+swept_found (Some n) t = swept t n
+
+-- the node of a file with its bytes, of a directory without entries, of a link with its target
+abbrev pub new_node : What → Node
+new_node (File bytes) = file bytes
+new_node Dir = dir empty
+new_node (Link target) = link target
+
+-- a new node, without a name yet, has the next inode
+abbrev pub with_made : FileTree → Node → ℕ → ℕ → FileTree
+with_made t node mode stamp = record {
+  shape = with_node t.shape t.next node;
+  attributes = insert t.attributes t.next (record { mode = mode; stamp = stamp; holds = 0 });
+  next = t.next + 1;
+}
+
+-- a new node and its name
+unfoldable pub created : FileTree → ℕ → List ℕ → Node → ℕ → ℕ → FileTree
+created t d name node mode stamp =
+    let new = with_made t node mode stamp in
+    with_shape new (with_entry new.shape d name t.next)
+
+-- a directory, a link or a file is made: it and the directory that names it have the stamp
+unfoldable pub made : FileTree → ℕ → List ℕ → What → ℕ → ℕ → FileTree
+made t d name what mode stamp = stamped (created t d name (new_node what) mode stamp) d stamp
+
+-- a node has one name more
+unfoldable pub linked : FileTree → ℕ → List ℕ → ℕ → ℕ → FileTree
+linked t d name n stamp = stamped (with_shape t (with_entry t.shape d name n)) d stamp
+
+-- a name goes, and its node if that was its last name and nothing holds it
+unfoldable pub unlinked : FileTree → ℕ → List ℕ → ℕ → FileTree
+unlinked t d name stamp =
+    swept_found (entry t.shape d name) (stamped (with_shape t (without_entry t.shape d name)) d stamp)
+
+-- a name moves, in the place of one that may be there, whose node goes as if it were unlinked
+unfoldable pub renamed : FileTree → ℕ → List ℕ → ℕ → List ℕ → ℕ → FileTree
+renamed t from old to new stamp =
+    let n = unwrap_or (entry t.shape from old) 0 in
+    let shape = with_entry (without_entry t.shape from old) to new n in
+    swept_found (entry t.shape to new) (stamped (stamped (with_shape t shape) from stamp) to stamp)
+
+-- a node has another mode
+abbrev pub chmodded : FileTree → ℕ → ℕ → FileTree
+chmodded t n mode = with_attributes t n (with_mode mode)
+
+-- a node is held once more
+abbrev pub held : FileTree → ℕ → FileTree
+held t n = with_attributes t n one_more
+
+-- a node is held once less, and goes if it has no name and that was its last hold
+unfoldable pub released : FileTree → ℕ → FileTree
+released t n = swept (with_attributes t n one_fewer) n
+
+-- bytes are written over a file from an offset on, with zeros in the gap where that lies past its end; the gap is filled also
+-- where there are no bytes, which a call that writes none does not come to
+unfoldable pub written : FileTree → ℕ → ℕ → List ℕ → ℕ → FileTree
+written t n offset bytes stamp =
+    stamped (with_shape t (with_bytes t.shape n (overwritten (padded (content t.shape n) offset) offset bytes))) n stamp
+
+-- a file has another length: cut, or with zeros behind its bytes
+unfoldable pub truncated : FileTree → ℕ → ℕ → ℕ → FileTree
+truncated t n len stamp = stamped (with_shape t (with_bytes t.shape n (resized (content t.shape n) len))) n stamp
