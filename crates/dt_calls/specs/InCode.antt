@@ -28,7 +28,7 @@ shared_of c w = record {
   files = c.files;
   process = c.process;
   clock = c.fs.clock;
-  rand = c.rand;
+  rand = c.fs.rand;
 }
 
 -- a container

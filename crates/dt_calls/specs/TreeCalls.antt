@@ -1,4 +1,4 @@
--- The system calls on the file tree, served by their rows.
+-- The system calls on the file tree, on time and on random bytes, served by their rows.
 use Rattle.std.specs.Prelude.{ℕ, List, [], ◌∷◌}
 use Rattle.dt_base.specs.declared.abi.TheConstants.{A0, A1, A2, A3, A4, A5}
 use Rattle.dt_base.specs.declared.answer.Answer.{Answer}
@@ -15,15 +15,22 @@ abbrev pub arguments : Machine → List ℕ
 arguments m =
     register m A0 ∷ register m A1 ∷ register m A2 ∷ register m A3 ∷ register m A4 ∷ register m A5 ∷ []
 
--- what a call on the tree sees
+-- what such a call sees
 abbrev pub scene_of : Shared → Machine → Scene
-scene_of c m = record { tree = c.tree; clock = c.clock; caller = c.process.caller; space = m.space }
+scene_of c m = record {
+  tree = c.tree;
+  clock = c.clock;
+  rand = c.rand;
+  caller = c.process.caller;
+  space = m.space;
+}
 
 -- what is shared, as such a call leaves it
 abbrev pub with_scene : Shared → Scene → Shared
 with_scene c s = record c {
   tree = s.tree;
   clock = s.clock;
+  rand = s.rand;
   process = record c.process { caller = s.caller };
 }
 

@@ -105,7 +105,7 @@ impl Container {
         ensures home { IfOk result (λ l. l ≡ Launch.Started → IsHome self.new FIRST_PID) }
         ensures cause { HasCause (H.count host.old) (H.count host.new) (IsErrOf result HostErr.Failed) }
     {
-        let random = self.shared.rand.start16();
+        let random = self.shared.fs.rand.start16();
         match program_at(alloc, host, &self.shared.fs.tree, command, &random)? {
             Ok(program) => {
                 self.shared.process.program_break = Break {

@@ -25,30 +25,29 @@ pub struct Process {
     pub end: Option<End>,
 }
 
-/// All of a container but the machines of its processes: the file tree and the logical time, the open files, the
-/// process as others see it, and the seed's words.
+/// All of a container but the machines of its processes: the file tree, the logical time and the seed's words, the open
+/// files, and the process as others see it.
 #[derive(Drop)]
 pub struct Shared {
     pub fs: Fs,
     pub files: Descriptors,
     pub process: Process,
-    pub rand: Rand,
 }
 
 impl Shared {
     /// What the first process finds on this tree, whose root is its working directory: time 0, and the words of a seed.
     pub fn new(alloc: Global, tree: Tree, seed: u64) -> Result<Self, NoMemory>
         ensures { IfOk result (λ s. s ≡ record {
-          fs = record { tree = tree; clock = 0 };
+          fs = record { tree = tree; clock = 0; rand = seeded_by seed };
           files = first_table;
           process = first_process;
-          rand = seeded_by seed;
         }) }
     {
         Ok(Shared {
             fs: Fs {
                 tree,
                 clock: Clock::new(),
+                rand: Rand::new(seed),
             },
             files: Descriptors::first(alloc)?,
             process: Process {
@@ -59,7 +58,6 @@ impl Shared {
                 program_break: Break { start: 0, end: 0 },
                 end: None,
             },
-            rand: Rand::new(seed),
         })
     }
 }

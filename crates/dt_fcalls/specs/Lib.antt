@@ -7,5 +7,7 @@ pub mod Unlink
 pub mod Rename
 pub mod Stat
 pub mod Status
+pub mod Time
+pub mod Random
 pub mod Calls
 pub mod Sound

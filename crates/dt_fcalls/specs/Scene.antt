@@ -8,11 +8,13 @@ use Rattle.dt_space.specs.Space.{PageView}
 use Rattle.dt_tree.specs.FileTree.{FileTree}
 use Rattle.dt_virt.specs.declared.clock.TheConstants.{READING_TICKS}
 use Rattle.dt_virt.specs.Clock.{later}
+use Rattle.dt_virt.specs.Words.{Seeded}
 
--- the file tree, the logical time, the process that calls, and its pages
+-- the file tree, the logical time, the seed's words, the process that calls, and its pages
 pub record Scene : Type 0 where
   pub tree : FileTree
   pub clock : ℕ
+  pub rand : Seeded
   pub caller : Caller
   pub space : List PageView
 

@@ -26,7 +26,13 @@ stage fs world caller space = record { fs = fs; world = world; caller = caller; 
 
 -- the scene that a stage stands for
 abbrev pub scene : Stage → Scene
-scene g = record { tree = tree_of g.fs.tree g.world.forest; clock = g.fs.clock; caller = g.caller; space = g.space }
+scene g = record {
+  tree = tree_of g.fs.tree g.world.forest;
+  clock = g.fs.clock;
+  rand = g.fs.rand;
+  caller = g.caller;
+  space = g.space;
+}
 
 -- the table stands for a tree with the host's nodes, and the working directory is a directory of it and held
 pub record Sound (g : Stage) : Type 0 where

@@ -3,7 +3,8 @@ use Rattle.std.specs.Prelude.{ℕ, ◌+◌, ◌-◌, ◌/◌, ◌%◌, ◌==◌,
 use Rattle.dt_base.specs.Fields.{with_field}
 use Rattle.dt_tree.specs.declared.limits.TheConstants.{DT_DIR, DT_REG, DT_LNK}
 use Rattle.dt_tree.specs.declared.meta.Meta.{Meta}
-use Rattle.dt_fcalls.specs.declared.stat.TheConstants.{STAT_LEN, ST_DEV, ST_INO, ST_MODE, ST_NLINK, ST_SIZE, ST_BLKSIZE, ST_BLOCKS, ST_ATIME, ST_MTIME, ST_CTIME, NANOSECONDS, S_IFREG, S_IFDIR, S_IFLNK, DEVICE, BLOCK_SIZE, SECTOR_SIZE, FIRST_SECOND, SECOND_TICKS}
+use Rattle.dt_fcalls.specs.declared.stat.TheConstants.{STAT_LEN, ST_DEV, ST_INO, ST_MODE, ST_NLINK, ST_SIZE, ST_BLKSIZE, ST_BLOCKS, ST_ATIME, ST_MTIME, ST_CTIME, NANOSECONDS, S_IFREG, S_IFDIR, S_IFLNK, DEVICE, BLOCK_SIZE, SECTOR_SIZE}
+use Rattle.dt_fcalls.specs.declared.time.TheConstants.{FIRST_SECOND, SECOND_TICKS}
 
 -- the bits of a mode that tell the type of a node
 abbrev pub type_bits : ℕ → ℕ

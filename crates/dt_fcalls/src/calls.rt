@@ -1,11 +1,14 @@
-// The calls on files, by their numbers.
+// The calls on files, time and random bytes, by their numbers.
 ghost use Rattle.dt_fcalls.specs.Calls.{file_row};
 ghost use Rattle.dt_fcalls.specs.Sound.{Sound, Serves, stage};
 
 use crate::fs::Fs;
 use crate::names::{linkat, mkdirat, renameat2, symlinkat, unlinkat};
 use crate::nodes::{chdir, faccessat, fchmodat, umask};
+use crate::numbers::{CLOCK_GETTIME, CLOCK_NANOSLEEP, GETRANDOM, GETTIMEOFDAY, NANOSLEEP};
+use crate::random::getrandom;
 use crate::status::{getcwd, newfstatat, readlinkat};
+use crate::time::{clock_gettime, clock_nanosleep, gettimeofday, nanosleep};
 use dt_base::abi::{
     CHDIR, FACCESSAT, FCHMODAT, GETCWD, LINKAT, MKDIRAT, NEWFSTATAT, READLINKAT, RENAMEAT2,
     SYMLINKAT, UMASK, UNLINKAT,
@@ -43,8 +46,13 @@ pub fn file_call<H: Host>(
         FCHMODAT => fchmodat(alloc, fs, host, caller, space, args),
         READLINKAT => readlinkat(alloc, fs, host, caller, space, args),
         NEWFSTATAT => newfstatat(alloc, fs, host, caller, space, args),
+        NANOSLEEP => nanosleep(fs, host, caller, space, args),
+        CLOCK_GETTIME => clock_gettime(fs, host, caller, space, args),
+        CLOCK_NANOSLEEP => clock_nanosleep(fs, host, caller, space, args),
         UMASK => Ok(umask(caller, args)),
+        GETTIMEOFDAY => gettimeofday(fs, host, caller, space, args),
         RENAMEAT2 => renameat2(alloc, fs, host, caller, space, args),
+        GETRANDOM => getrandom(alloc, fs, host, caller, space, args),
         _ => Ok(Answer::Unsupported),
     }
 }

@@ -1,20 +1,22 @@
-// What the calls on files work on.
+// What the calls work on.
 ghost use Rattle.std.specs.Prelude.{◌≡◌};
 ghost use Rattle.dt_virt.specs.declared.clock.TheConstants.{READING_TICKS as TICKS};
 ghost use Rattle.dt_virt.specs.Clock.{later};
 
 use dt_tree::Tree;
-use dt_virt::{Clock, READING_TICKS, TICK_LIMIT};
+use dt_virt::{Clock, READING_TICKS, Rand, TICK_LIMIT};
 
-/// What the calls on files work on: the file tree and the logical time.
+/// What the calls on files, time and random bytes work on: the file tree, the logical time, and the seed's words.
 #[derive(Drop)]
 pub struct Fs {
     pub tree: Tree,
     pub clock: Clock,
+    pub rand: Rand,
 }
 
 impl Fs {
-    // The stamp of a call that makes, adds, moves or takes away a name: the time after the time that it takes.
+    // The time after a reading, or the stamp of a call that makes, adds, moves or takes away a name: the time after the
+    // time that it takes.
     pub(crate) fn next_stamp(&self) -> u64
         ensures { result ≡ later self.now.clock TICKS }
     {

@@ -1,4 +1,5 @@
-//! The calls on files and directories, one row each: what a path leads to, and what the call makes of the file tree.
+//! The calls on files and directories, one row each: what a path leads to, and what the call makes of the file tree;
+//! and those on time and random bytes.
 #![tactic(auto)]
 
 mod arguments;
@@ -7,13 +8,18 @@ mod fs;
 pub mod modes;
 mod names;
 mod nodes;
+pub mod numbers;
 pub mod places;
+pub mod random;
 pub mod stat;
 mod status;
+pub mod time;
 
 pub use arguments::{path_argument, start_of};
 pub use calls::file_call;
 pub use fs::Fs;
 pub use names::{linkat, mkdirat, renameat2, symlinkat, unlinkat};
 pub use nodes::{chdir, faccessat, fchmodat, umask};
+pub use random::getrandom;
 pub use status::{getcwd, newfstatat, readlinkat};
+pub use time::{clock_gettime, clock_nanosleep, gettimeofday, nanosleep};

@@ -3,6 +3,7 @@ ghost use Rattle.std.specs.Prelude.{◌≡◌, ◌+◌, ◌≤◌, length, repli
 ghost use Rattle.dt_fcalls.specs.declared.stat.TheConstants.{STAT_LEN as LEN, NANOSECONDS as HALF};
 ghost use Rattle.dt_fcalls.specs.Stat.{type_bits, st_mode, st_blocks, with_identity, with_size, with_time, with_times, stat_of};
 
+use crate::time::{FIRST_SECOND, SECOND_TICKS};
 use dt_base::abi::{AT_EMPTY_PATH, AT_NO_AUTOMOUNT, AT_SYMLINK_NOFOLLOW};
 use dt_base::{put32, put64};
 use dt_tree::{DT_DIR, DT_LNK, DT_REG, Meta};
@@ -63,12 +64,6 @@ pub const BLOCK_SIZE: u32 = 4_096;
 
 /// Bytes of a sector, which st_blocks counts (stat(2)).
 pub const SECTOR_SIZE: u64 = 512;
-
-/// The second at which logical time begins: 2000-01-01 00:00:00 UTC, in seconds since 1970.
-pub const FIRST_SECOND: u64 = 946_684_800;
-
-/// Nanoseconds of a second.
-pub const SECOND_TICKS: u64 = 1_000_000_000;
 
 // The bits of a mode that tell the type of a node.
 fn type_bits(kind: u8) -> u32

@@ -10,4 +10,6 @@ mod memory;
 #[cfg(test)]
 mod programs;
 #[cfg(test)]
+mod time;
+#[cfg(test)]
 mod trees;

@@ -1,4 +1,4 @@
-// Calls on the file tree.
+// Calls on the file tree, on time and on random bytes.
 ghost use Rattle.std.specs.Prelude.{◌≡◌, None, IfOk, IsErrOf};
 ghost use Rattle.dt_host.specs.Cause.{HasCause};
 ghost use Rattle.dt_calls.specs.TreeCalls.{arguments, tree_call};
@@ -14,7 +14,7 @@ use dt_host::{Host, HostErr};
 use dt_rv64::Machine;
 use std::alloc::Global;
 
-/// Serves the call of a number, if it is one on the file tree.
+/// Serves the call of a number, if it is one on the file tree, on time or on random bytes.
 #[tactic(auto, unfolding(crate::specs::TreeCalls::tree_call))]
 pub fn call<H: Host>(
     alloc: Global,

@@ -1,0 +1,207 @@
+// Guests that read clocks, sleep and draw random bytes.
+use dt_base::NoMemory;
+use dt_testing::{Call, Does, HELLO_INDEX, MEMORY, keeping};
+use std::alloc::Global;
+use std::process::Abort;
+use std::test::Fail;
+
+const WRITE: u32 = 64;
+
+const NANOSLEEP: u32 = 101;
+
+const CLOCK_GETTIME: u32 = 113;
+
+const CLOCK_NANOSLEEP: u32 = 115;
+
+const GETTIMEOFDAY: u32 = 169;
+
+const GETRANDOM: u32 = 278;
+
+const CYCLE: u16 = 0xc00;
+
+// Errno as answers.
+const EFAULT: i64 = -14;
+
+const EINVAL: i64 = -22;
+
+// The second of 2000-01-01, since 1970.
+const YEAR_2000: i64 = 946_684_800;
+
+fn read_counter() -> Does {
+    Does::Counter(CYCLE)
+}
+
+// A number is stored at an offset of the guest's memory.
+fn put(offset: i64, number: i64) -> Does {
+    Does::Store(MEMORY.saturating_add(offset), number.to_le_bytes())
+}
+
+// So many bytes at an offset of the memory are shown on stream 2.
+fn show(offset: i64, count: i64) -> Does {
+    Does::Call(WRITE, 2, MEMORY.saturating_add(offset), count)
+}
+
+fn shown(text: &mut Vec<u8>, alloc: Global, bytes: &[u8]) -> Result<(), NoMemory> {
+    let count = bytes.len();
+    text.extend_from_slice(format!(in alloc; "out 2 {count}\n")?.as_bytes())?;
+    text.extend_from_slice(bytes)?;
+    Ok(text.push(b'\n')?)
+}
+
+// The bytes of some numbers, 8 each.
+fn words(alloc: Global, numbers: &[i64]) -> Result<Vec<u8>, NoMemory> {
+    let mut bytes = Vec::new(alloc);
+    for number in numbers {
+        bytes.extend_from_slice(&number.to_le_bytes())?;
+    }
+    Ok(bytes)
+}
+
+// A guest under seed 0 shows these bytes, and then its answers.
+fn expect(
+    rt: &impl Abort,
+    alloc: Global,
+    acts: &[Does],
+    outs: &[&[u8]],
+    answers: &[i64],
+) -> Result<(), Fail> {
+    let program = keeping(alloc, acts)?;
+    let files = [
+        ("img/image.json", HELLO_INDEX),
+        ("img/hello", program.as_slice()),
+    ];
+    let came = Call::new("run\nimg\n--seed\n0\n--\n/hello", &files).make(alloc)?;
+    let mut want = Vec::new(alloc);
+    want.extend_from_slice(b"dettrace 1\n".as_slice())?;
+    for out in outs {
+        shown(&mut want, alloc, out)?;
+    }
+    shown(&mut want, alloc, &words(alloc, answers)?)?;
+    want.extend_from_slice(b"exit 1 code 0\nverdict ended".as_slice())?;
+    assert_eq!(rt; came.before_tree(), want.as_slice());
+    Ok(())
+}
+
+#[test]
+fn time_passes_by_readings_and_sleeps(rt: HostRuntime) -> Result<(), Fail> {
+    let alloc = rt.alloc();
+    let acts = [
+        read_counter(),
+        Does::Call(CLOCK_GETTIME, 0, MEMORY, 0),
+        show(0, 16),
+        put(0, 5_000_000_000),
+        put(8, 0),
+        Does::Call(NANOSLEEP, MEMORY, 0, 0),
+        read_counter(),
+        read_counter(),
+    ];
+    let told = words(alloc, &[YEAR_2000, 2_000])?;
+    // The clock stands still at its limit.
+    let limit = 4_611_686_018_427_387_903;
+    expect(
+        &rt,
+        alloc,
+        &acts,
+        &[told.as_slice()],
+        &[1_000, 0, 16, 0, limit, limit],
+    )
+}
+
+#[test]
+fn a_sleep_until_a_time_ends_then(rt: HostRuntime) -> Result<(), Fail> {
+    let alloc = rt.alloc();
+    let acts = [
+        put(0, YEAR_2000 + 3),
+        put(8, 7),
+        Does::Call(CLOCK_NANOSLEEP, 0, 1, MEMORY),
+        read_counter(),
+        // A time that has passed.
+        put(0, 1),
+        Does::Call(CLOCK_NANOSLEEP, 1, 1, MEMORY),
+        // The same for wall time, in 1970.
+        Does::Call(CLOCK_NANOSLEEP, 0, 1, MEMORY),
+        read_counter(),
+        // A length by the clock of a boot: a second and seven nanoseconds.
+        Does::Call(CLOCK_NANOSLEEP, 7, 0, MEMORY),
+        read_counter(),
+    ];
+    let answers = [0, 3_000_001_007, 0, 0, 3_000_002_007, 0, 4_000_003_014];
+    expect(&rt, alloc, &acts, &[], &answers)
+}
+
+#[test]
+fn clocks_tell_wall_time_or_that_since_the_start(rt: HostRuntime) -> Result<(), Fail> {
+    let alloc = rt.alloc();
+    let acts = [
+        put(0, 3),
+        put(8, 7),
+        Does::Call(NANOSLEEP, MEMORY, 0, 0),
+        Does::Call(CLOCK_GETTIME, 5, MEMORY + 16, 0),
+        Does::Call(CLOCK_GETTIME, 7, MEMORY + 32, 0),
+        put(64, -1),
+        Does::Call(GETTIMEOFDAY, MEMORY + 48, MEMORY + 64, 0),
+        // A time zone alone takes no time, and neither does nothing at all.
+        Does::Call(GETTIMEOFDAY, 0, MEMORY + 64, 0),
+        Does::Call(GETTIMEOFDAY, 0, 0, 0),
+        show(16, 56),
+        read_counter(),
+    ];
+    let told = [YEAR_2000 + 3, 1_007, 3, 2_007, YEAR_2000 + 3, 3, 0];
+    let answers = [0, 0, 0, 0, 0, 0, 56, 3_000_004_007];
+    expect(&rt, alloc, &acts, &[&words(alloc, &told)?], &answers)
+}
+
+// Words 0 to 2 of stream 0 of seed 0 are 138fbe4a d2db86a0 35f20c48, by the same ChaCha20 written apart.
+#[test]
+fn random_bytes_are_whole_words_of_the_seed(rt: HostRuntime) -> Result<(), Fail> {
+    let alloc = rt.alloc();
+    let acts = [
+        Does::Call(GETRANDOM, MEMORY, 5, 0),
+        Does::Call(GETRANDOM, 0, 0, 0),
+        Does::Call(GETRANDOM, MEMORY + 5, 4, 7),
+        show(0, 9),
+        read_counter(),
+    ];
+    let drawn = b"\x13\x8f\xbe\x4a\xd2\x35\xf2\x0c\x48".as_slice();
+    expect(&rt, alloc, &acts, &[drawn], &[5, 0, 4, 9, 1_000])
+}
+
+#[test]
+fn refused_calls_take_no_time_and_draw_no_word(rt: HostRuntime) -> Result<(), Fail> {
+    let alloc = rt.alloc();
+    let acts = [
+        put(8, 1_000_000_000),
+        put(24, -1),
+        put(32, -1),
+        Does::Call(NANOSLEEP, 0, 0, 0),
+        Does::Call(NANOSLEEP, MEMORY, 0, 0),
+        Does::Call(NANOSLEEP, MEMORY + 16, 0, 0),
+        Does::Call(NANOSLEEP, MEMORY + 32, 0, 0),
+        Does::Call(CLOCK_GETTIME, 8, MEMORY, 0),
+        Does::Call(CLOCK_GETTIME, -1, MEMORY, 0),
+        Does::Call(CLOCK_GETTIME, 7, 0, 0),
+        Does::Call(CLOCK_NANOSLEEP, 2, 0, 0),
+        Does::Call(CLOCK_NANOSLEEP, 1, 2, 0),
+        Does::Call(CLOCK_NANOSLEEP, 1, 1, 0),
+        Does::Call(CLOCK_NANOSLEEP, 1, 1, MEMORY),
+        Does::Call(GETTIMEOFDAY, 8, 0, 0),
+        Does::Call(GETTIMEOFDAY, MEMORY, 8, 0),
+        Does::Call(GETRANDOM, MEMORY, 4, 8),
+        Does::Call(GETRANDOM, 0, 1, 0),
+        Does::Call(GETRANDOM, MEMORY, -1, 0),
+        Does::Call(GETRANDOM, MEMORY, 4, 0),
+        show(0, 4),
+        read_counter(),
+    ];
+    let answers = [
+        EFAULT, EINVAL, EINVAL, EINVAL, EINVAL, EINVAL, EFAULT, EINVAL, EINVAL, EFAULT, EINVAL,
+        EFAULT, EFAULT, EINVAL, EFAULT, EFAULT, 4, 4, 1_000,
+    ];
+    expect(
+        &rt,
+        alloc,
+        &acts,
+        &[b"\x13\x8f\xbe\x4a".as_slice()],
+        &answers,
+    )
+}
