@@ -1,4 +1,0 @@
-pub mod Counting
-pub mod Slots
-pub mod Backing
-pub mod Starting

@@ -1,4 +1,0 @@
-pub mod Descriptions
-pub mod Holding
-pub mod Backs
-pub mod inner
