@@ -1,5 +1,5 @@
-# The machine's speed beside that of a plain loop in Rust, and how the times of a tree and of memory grow. Nothing that
-# is timed here is a test.
+# The machine's speed beside that of a plain loop in Rust, how the times of a tree and of memory grow, and calls a second
+# beside qemu-riscv64. Nothing that is timed here is a test.
 
 .PHONY: bench
 
@@ -13,3 +13,5 @@ bench:
 	sh bench/compare.sh crates/dt_bench/out/dt_bench bench/out/plain
 	sh bench/best.sh crates/dt_bench_tree/out/dt_bench_tree 7
 	sh bench/best.sh crates/dt_bench_memory/out/dt_bench_memory 5
+	./dettrace run examples/hello -- /hello >bench/out/hello
+	python3 bench/calls/run.py crates/dettrace/out/dettrace

@@ -3,7 +3,7 @@ use Rattle.std.specs.Prelude.{ℕ, ℤ, ◌%◌, ◌^◌, min}
 use Rattle.std.specs.Int.{w32, cast_signed}
 use Rattle.dt_base.specs.declared.limits.TheConstants.{TRANSFER_LIMIT}
 
--- an argument that C declares as an `int`: its low 32 bits
+-- an argument with 32 bits: its low 32 bits
 abbrev pub low_word : ℕ → ℕ
 low_word argument = argument % 2 ^ 32
 

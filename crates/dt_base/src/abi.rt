@@ -31,6 +31,18 @@ pub const A7: u8 = 17;
 /// getcwd(2), by its number (asm-generic/unistd.h, as all numbers of calls here).
 pub const GETCWD: u64 = 17;
 
+/// dup(2)
+pub const DUP: u64 = 23;
+
+/// dup3(2)
+pub const DUP3: u64 = 24;
+
+/// fcntl(2)
+pub const FCNTL: u64 = 25;
+
+/// ioctl(2)
+pub const IOCTL: u64 = 29;
+
 /// mkdirat(2)
 pub const MKDIRAT: u64 = 34;
 
@@ -42,6 +54,9 @@ pub const SYMLINKAT: u64 = 36;
 
 /// linkat(2)
 pub const LINKAT: u64 = 37;
+
+/// ftruncate(2)
+pub const FTRUNCATE: u64 = 46;
 
 /// faccessat(2)
 pub const FACCESSAT: u64 = 48;
@@ -58,11 +73,29 @@ pub const OPENAT: u64 = 56;
 /// close(2)
 pub const CLOSE: u64 = 57;
 
+/// getdents64(2)
+pub const GETDENTS64: u64 = 61;
+
+/// lseek(2)
+pub const LSEEK: u64 = 62;
+
 /// read(2)
 pub const READ: u64 = 63;
 
 /// write(2)
 pub const WRITE: u64 = 64;
+
+/// readv(2)
+pub const READV: u64 = 65;
+
+/// writev(2)
+pub const WRITEV: u64 = 66;
+
+/// pread64(2)
+pub const PREAD64: u64 = 67;
+
+/// pwrite64(2)
+pub const PWRITE64: u64 = 68;
 
 /// readlinkat(2)
 pub const READLINKAT: u64 = 78;
@@ -70,14 +103,29 @@ pub const READLINKAT: u64 = 78;
 /// newfstatat(2)
 pub const NEWFSTATAT: u64 = 79;
 
+/// fstat(2)
+pub const FSTAT: u64 = 80;
+
 /// exit(2)
 pub const EXIT: u64 = 93;
 
 /// exit_group(2)
 pub const EXIT_GROUP: u64 = 94;
 
+/// nanosleep(2)
+pub const NANOSLEEP: u64 = 101;
+
+/// clock_gettime(2)
+pub const CLOCK_GETTIME: u64 = 113;
+
+/// clock_nanosleep(2)
+pub const CLOCK_NANOSLEEP: u64 = 115;
+
 /// umask(2)
 pub const UMASK: u64 = 166;
+
+/// gettimeofday(2)
+pub const GETTIMEOFDAY: u64 = 169;
 
 /// brk(2)
 pub const BRK: u64 = 214;
@@ -93,6 +141,9 @@ pub const MPROTECT: u64 = 226;
 
 /// renameat2(2)
 pub const RENAMEAT2: u64 = 276;
+
+/// getrandom(2)
+pub const GETRANDOM: u64 = 278;
 
 /// All rights that a page may be asked for: PROT_READ, PROT_WRITE and PROT_EXEC (mmap(2)).
 pub const PROT_ALL: u32 = 7;
@@ -111,6 +162,79 @@ pub const MAP_NORESERVE: u64 = 0x4000;
 
 /// The mapping is fit for a stack.
 pub const MAP_STACK: u64 = 0x2_0000;
+
+/// To open for writing alone (open(2), asm-generic/fcntl.h, as all flags that begin with O). Without it and the next one
+/// it is for reading.
+pub const O_WRONLY: u32 = 0x1;
+
+/// To open for reading and writing.
+pub const O_RDWR: u32 = 0x2;
+
+/// The two bits of the access mode.
+pub const O_ACCMODE: u32 = 0x3;
+
+/// A file is made where nothing is there.
+pub const O_CREAT: u32 = 0x40;
+
+/// With O_CREAT: nothing may be there.
+pub const O_EXCL: u32 = 0x80;
+
+/// A terminal does not become the controlling one (there is none).
+pub const O_NOCTTY: u32 = 0x100;
+
+/// A file is cut to no bytes.
+pub const O_TRUNC: u32 = 0x200;
+
+/// Each write goes to the end of the file.
+pub const O_APPEND: u32 = 0x400;
+
+/// Calls don't wait.
+pub const O_NONBLOCK: u32 = 0x800;
+
+/// Offsets have 64 bits, as they have here anyway.
+pub const O_LARGEFILE: u32 = 0x8000;
+
+/// Only a directory is opened.
+pub const O_DIRECTORY: u32 = 0x1_0000;
+
+/// A link that is the last name is not followed.
+pub const O_NOFOLLOW: u32 = 0x2_0000;
+
+/// The descriptor is closed at execve(2).
+pub const O_CLOEXEC: u32 = 0x8_0000;
+
+/// The lowest free descriptor from one on is a duplicate (fcntl(2), asm-generic/fcntl.h, as all that begin with F).
+pub const F_DUPFD: u64 = 0;
+
+/// The flags of the descriptor are told.
+pub const F_GETFD: u64 = 1;
+
+/// The flags of the descriptor are set.
+pub const F_SETFD: u64 = 2;
+
+/// The access mode and the flags of the open file description are told.
+pub const F_GETFL: u64 = 3;
+
+/// The flags of the open file description are set.
+pub const F_SETFL: u64 = 4;
+
+/// As F_DUPFD, and the duplicate is closed at execve(2).
+pub const F_DUPFD_CLOEXEC: u64 = 1030;
+
+/// The one flag of a descriptor: it is closed at execve(2).
+pub const FD_CLOEXEC: u64 = 1;
+
+/// An offset counts from the start of the file (lseek(2), as the next two).
+pub const SEEK_SET: u32 = 0;
+
+/// It counts from where the next read or write goes on.
+pub const SEEK_CUR: u32 = 1;
+
+/// It counts from the end of the file.
+pub const SEEK_END: u32 = 2;
+
+/// How many buffers a call may name (readv(2), IOV_MAX).
+pub const IOV_MAX: u32 = 1024;
 
 /// The dirfd that stands for the working directory (openat(2)).
 pub const AT_FDCWD: i32 = -100;
@@ -148,14 +272,14 @@ pub const SIGBUS: u8 = 7;
 /// An access to memory that is not there, or lacks the right.
 pub const SIGSEGV: u8 = 11;
 
-/// The 32 bits that count of an argument which C declares as an `int`: a descriptor, flags, a mode.
+/// The 32 bits that count of an argument with 32 bits: a descriptor, flags, a mode.
 pub fn low_word(argument: u64) -> u32
     ensures { result ≡ low_word argument }
 {
     (argument & 0xffff_ffff) as u32
 }
 
-/// The same 32 bits of an argument that may be negative: a dirfd.
+/// The same 32 bits of an argument that may be negative: a dirfd, a count of buffers.
 pub fn signed_word(argument: u64) -> i32
     ensures { result ≡ signed_word argument }
 {

@@ -20,6 +20,9 @@ pub const SEGMENT_LIMIT: u32 = 65_536;
 /// Bytes of a file.
 pub const FILE_LIMIT: u64 = 16_777_216;
 
+/// The greatest offset at which a read or a write may go on (lseek(2)): 2^62.
+pub const OFFSET_LIMIT: u64 = 0x4000_0000_0000_0000;
+
 /// Bytes of an image's index.
 pub const INDEX_LIMIT: u64 = 4_194_304;
 

@@ -1,6 +1,6 @@
 -- What a stop of a process asks for, and the system calls by their numbers (syscall(2), riscv64).
 use Rattle.std.specs.Prelude.{ℕ, ◌||◌, ◌==◌, if◌then◌else◌}
-use Rattle.dt_base.specs.declared.abi.TheConstants.{A0, A7, OPENAT, CLOSE, READ, WRITE, EXIT, EXIT_GROUP, BRK, MUNMAP, MMAP, MPROTECT}
+use Rattle.dt_base.specs.declared.abi.TheConstants.{A0, A7, EXIT, EXIT_GROUP, BRK, MUNMAP, MMAP, MPROTECT}
 use Rattle.dt_base.specs.Abi.{exit_code}
 use Rattle.dt_base.specs.declared.event.End.TheVariants.{Code, Signal}
 use Rattle.dt_rv64.specs.declared.machine.Machine.{Machine}
@@ -10,8 +10,7 @@ use Rattle.dt_rv64.specs.Effects.{register}
 use Rattle.dt_calls.specs.declared.call.effect.Outcome.TheVariants.{Done, Ends}
 use Rattle.dt_calls.specs.Container.{Shared}
 use Rattle.dt_calls.specs.Effect.{Effect, quiet, reads_counter}
-use Rattle.dt_calls.specs.FileCalls.{open_call, close_call, read_call, write_call}
-use Rattle.dt_calls.specs.TreeCalls.{tree_call}
+use Rattle.dt_calls.specs.FileCalls.{file_call}
 use Rattle.dt_calls.specs.MemoryCalls.{brk_call, munmap_call, mmap_call, mprotect_call}
 
 -- exit(2) and exit_group(2): the process ends with a code
@@ -21,16 +20,12 @@ exit_call c m = quiet c m (Ends (Code (exit_code (register m A0))))
 -- what the call of a number does
 unfoldable pub call_of : ℕ → Shared → Machine → Effect
 call_of number c m =
-    if number == OPENAT then open_call c m
-    else if number == CLOSE then close_call c m
-    else if number == READ then read_call c m
-    else if number == WRITE then write_call c m
-    else if (number == EXIT) || (number == EXIT_GROUP) then exit_call c m
+    if (number == EXIT) || (number == EXIT_GROUP) then exit_call c m
     else if number == BRK then brk_call c m
     else if number == MUNMAP then munmap_call c m
     else if number == MMAP then mmap_call c m
     else if number == MPROTECT then mprotect_call c m
-    else tree_call number c m
+    else file_call number c m
 
 -- a call is served by its number, a counter is read, a fault's signal ends the process, and at the end of a slice it goes on
 unfoldable pub served : Shared → Machine → Stop → Effect

@@ -1,14 +1,17 @@
 -- What a stop that is served does.
-use Rattle.std.specs.Prelude.{ℕ, ◌-◌, ◌^◌, List, []}
+use Rattle.std.specs.Prelude.{ℕ, ◌-◌, ◌^◌, List, [], ◌∷◌, length}
+use Rattle.dt_base.specs.declared.answer.Answer.{Answer}
+use Rattle.dt_base.specs.declared.answer.Answer.TheVariants as answer
 use Rattle.dt_base.specs.declared.errno.Errno.{Errno}
 use Rattle.dt_base.specs.declared.event.Event.{Event}
+use Rattle.dt_base.specs.declared.event.Event.TheVariants.{Out}
 use Rattle.dt_base.specs.Errno.{errno_number}
 use Rattle.dt_rv64.specs.declared.machine.Machine.{Machine}
 use Rattle.dt_rv64.specs.Effects.{answered, counter_read}
 use Rattle.dt_virt.specs.declared.clock.TheConstants.{READING_TICKS}
 use Rattle.dt_virt.specs.Clock.{later}
 use Rattle.dt_calls.specs.declared.call.effect.Outcome.{Outcome}
-use Rattle.dt_calls.specs.declared.call.effect.Outcome.TheVariants.{Done}
+use Rattle.dt_calls.specs.declared.call.effect.Outcome.TheVariants.{Done, Unsupported}
 use Rattle.dt_calls.specs.Container.{Shared}
 
 -- what is shared and the process's own machine after its stop was served, what the process did that shows, and what becomes of it
@@ -29,6 +32,18 @@ done c m value = quiet c (answered m value) Done
 -- the call is refused: its answer is minus the errno
 abbrev pub refused : Shared → Machine → Errno → Effect
 refused c m errno = done c m (2 ^ 64 - errno_number errno)
+
+-- the call is done, and bytes go out on a stream: their number is its answer, and they are one event
+abbrev pub puts_out : Shared → Machine → ℕ → List ℕ → Effect
+puts_out c m stream bytes =
+    record { shared = c; machine = answered m (length bytes); events = Out stream bytes ∷ []; outcome = Done }
+
+-- a call of this number gives its answer
+abbrev pub answers : Shared → Machine → ℕ → Answer → Effect
+answers c m number (answer.Value value) = done c m value
+answers c m number (answer.Refused errno) = refused c m errno
+answers c m number (answer.Output stream bytes) = puts_out c m stream bytes
+answers c m number answer.Unsupported = quiet c m (Unsupported number)
 
 -- a counter is read into a register: the reading takes its time, and gives the time after it
 abbrev pub reads_counter : Shared → Machine → ℕ → Effect

@@ -25,7 +25,7 @@ pub record ContainerView : Type 0 where
 abbrev pub shared_of : SharedInCode → World → Shared
 shared_of c w = record {
   tree = tree_of c.fs.tree w.forest;
-  files = c.files;
+  files = c.fs.files;
   process = c.process;
   clock = c.fs.clock;
   rand = c.fs.rand;

@@ -1,12 +1,9 @@
-pub mod Descriptors
-pub mod Holds
 pub mod Container
 pub mod Lookup
 pub mod Launch
 pub mod Effect
 pub mod FileCalls
 pub mod MemoryCalls
-pub mod TreeCalls
 pub mod Call
 pub mod Settle
 pub mod InCode

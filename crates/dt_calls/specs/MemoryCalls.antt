@@ -1,8 +1,6 @@
 -- The system calls on a process's memory: brk(2), mmap(2), munmap(2), mprotect(2).
 use Rattle.std.specs.Prelude.{ℕ}
 use Rattle.dt_base.specs.declared.abi.TheConstants.{A0, A1, A2, A3, MMAP, MUNMAP, MPROTECT}
-use Rattle.dt_base.specs.declared.answer.Answer.{Answer}
-use Rattle.dt_base.specs.declared.answer.Answer.TheVariants as answer
 use Rattle.dt_rv64.specs.declared.machine.Machine.{Machine}
 use Rattle.dt_rv64.specs.Effects.{register}
 use Rattle.dt_mcalls.specs.Called.{Called}
@@ -10,15 +8,8 @@ use Rattle.dt_mcalls.specs.Brk.{Moved, brk_of}
 use Rattle.dt_mcalls.specs.Mmap.{mmap_of}
 use Rattle.dt_mcalls.specs.Munmap.{munmap_of}
 use Rattle.dt_mcalls.specs.Mprotect.{mprotect_of}
-use Rattle.dt_calls.specs.declared.call.effect.Outcome.TheVariants.{Unsupported}
 use Rattle.dt_calls.specs.Container.{Shared, with_break}
-use Rattle.dt_calls.specs.Effect.{Effect, quiet, done, refused}
-
--- a call of this number gives its answer
-abbrev pub answers : Shared → Machine → ℕ → Answer → Effect
-answers c m number (answer.Value value) = done c m value
-answers c m number (answer.Refused errno) = refused c m errno
-answers c m number answer.Unsupported = quiet c m (Unsupported number)
+use Rattle.dt_calls.specs.Effect.{Effect, done, answers}
 
 -- a call of this number leaves the process's pages so, and gives its answer
 abbrev pub called : Shared → Machine → ℕ → Called → Effect

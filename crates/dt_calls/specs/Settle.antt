@@ -10,8 +10,7 @@ use Rattle.dt_calls.specs.declared.container.Served.{Served}
 use Rattle.dt_calls.specs.declared.container.Served.TheVariants.{Done, Ended, Unsupported}
 use Rattle.dt_calls.specs.Container.{Shared, Container}
 use Rattle.dt_tree.specs.Changes.{released}
-use Rattle.dt_calls.specs.Descriptors.{last_table}
-use Rattle.dt_calls.specs.Holds.{without_holds}
+use Rattle.dt_fds.specs.Holding.{dropped, over}
 use Rattle.dt_calls.specs.Effect.{Effect}
 use Rattle.dt_calls.specs.Call.{served}
 
@@ -20,9 +19,9 @@ pub record Settled : Type 0 where
   pub container : Container
   pub served : Served
 
--- all descriptors of a process are closed
+-- all descriptors of the process are closed
 abbrev pub closed : Shared → Shared
-closed c = record c { tree = without_holds c.tree c.files; files = last_table }
+closed c = let left = dropped c.process.caller.vpid (over c.tree c.files) in record c { tree = left.tree; files = left.files }
 
 -- a process that ended has nothing open, holds its working directory no longer, and its end is kept
 abbrev pub ended : Shared → End → Shared

@@ -1,29 +1,13 @@
--- What is shared in code, where its host's nodes fit it.
-use Rattle.std.specs.Prelude.{◌≡◌, ℕ, ◌+◌, [], ◌∷◌, Option, Some, None}
+-- What holds between stops of a container in code, with the nodes of its host.
+use Rattle.std.specs.Prelude.{◌≡◌, ℕ, ◌+◌, Option, Some, None}
 use Rattle.dt_base.specs.declared.event.End.{End}
-use Rattle.dt_host.specs.World.{World, Forest, IsFile, IsDir}
+use Rattle.dt_fds.specs.Backs.{AllIn, descriptions_of}
+use Rattle.dt_host.specs.World.{World, IsDir}
 use Rattle.dt_tree.specs.FileTree.{holds_of}
 use Rattle.dt_tree.specs.Shape.{one_for}
 use Rattle.dt_tree.specs.Table.{Stands, shape_of, tree_of}
 use Rattle.dt_calls.specs.declared.shared.Process.{Process}
 use Rattle.dt_calls.specs.declared.shared.Shared.{Shared}
-use Rattle.dt_calls.specs.declared.descriptors.Description.{Description}
-use Rattle.dt_calls.specs.declared.descriptors.Description.TheVariants.{Input, Stream, File, Directory}
-use Rattle.dt_calls.specs.Descriptors.{Table}
-use Rattle.dt_calls.specs.Holds.{holds_in}
-
--- a description that names a file or a directory names one of the tree
-abbrev pub IsIn : Forest → Option Description → Type 0
-IsIn v None = Unit {0}
-IsIn v (Some Input) = Unit {0}
-IsIn v (Some (Stream stream)) = Unit {0}
-IsIn v (Some (File n offset)) = IsFile v n
-IsIn v (Some (Directory n)) = IsDir v n
-
--- so does each description of a table
-abbrev pub AllIn : Forest → Table → Type 0
-AllIn v [] = Unit {0}
-AllIn v (found ∷ table) = IsIn v found × AllIn v table
 
 -- how often a directory is held by a process of this end whose working directory it is: once while that lives
 abbrev pub held_while : Option End → ℕ → ℕ → ℕ
@@ -38,6 +22,6 @@ cwd_holds process n = held_while process.end process.caller.cwd n
 -- lives is a directory of it, and each node is held once for each description and each working directory that names it
 pub record IsSound (c : Shared) (w : World) : Type 0 where
   pub stands : Stands c.fs.tree w.forest
-  pub opens : AllIn (shape_of c.fs.tree w.forest) c.files
+  pub all_in : AllIn (shape_of c.fs.tree w.forest) c.fs.files
   pub cwd : c.process.end ≡ None → IsDir (shape_of c.fs.tree w.forest) c.process.caller.cwd
-  pub holds : (n : ℕ) → holds_of (tree_of c.fs.tree w.forest) n ≡ holds_in n c.files + cwd_holds c.process n
+  pub holds : (n : ℕ) → holds_of (tree_of c.fs.tree w.forest) n ≡ descriptions_of c.fs.files n + cwd_holds c.process n

@@ -11,14 +11,10 @@ ghost use Rattle.dt_calls.specs.Sound.{IsSound};
 mod effect;
 mod files;
 mod memory;
-mod output;
-mod tree;
 
 use crate::shared::Shared;
 use dt_base::End;
-use dt_base::abi::{
-    A0, A7, BRK, CLOSE, EXIT, EXIT_GROUP, MMAP, MPROTECT, MUNMAP, OPENAT, READ, WRITE, exit_code,
-};
+use dt_base::abi::{A0, A7, BRK, EXIT, EXIT_GROUP, MMAP, MPROTECT, MUNMAP, exit_code};
 use dt_host::{Host, HostErr};
 use dt_rv64::{Machine, Stop};
 pub use effect::{Effect, Outcome};
@@ -67,16 +63,12 @@ fn call<H: Host>(
 {
     let _before = host.faults();
     match machine.reg(A7) {
-        OPENAT => files::openat(alloc, host, shared, machine),
-        CLOSE => files::close(alloc, host, shared, machine),
-        READ => files::read(alloc, host, shared, machine),
-        WRITE => Ok(output::write(alloc, shared, machine)?),
         EXIT | EXIT_GROUP => Ok(exit(alloc, machine)),
         BRK => Ok(memory::brk(alloc, shared, machine)?),
-        MUNMAP => Ok(memory::munmap(alloc, machine)),
+        MUNMAP => Ok(memory::munmap(alloc, machine)?),
         MMAP => Ok(memory::mmap(alloc, machine)?),
-        MPROTECT => Ok(memory::mprotect(alloc, machine)),
-        number => tree::call(alloc, host, shared, machine, number),
+        MPROTECT => Ok(memory::mprotect(alloc, machine)?),
+        number => files::call(alloc, host, shared, machine, number),
     }
 }
 

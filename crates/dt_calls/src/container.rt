@@ -55,12 +55,13 @@ pub struct Container {
 
 impl Model for Container {
     ghost use Rattle.std.specs.Coded.{codes};
+    ghost use Rattle.dt_fds.specs.inner.Codes.{descriptions_code};
     ghost use Rattle.dt_tree.specs.inner.Codes.{table_code};
     ghost use Rattle.dt_calls.specs.InCode.{ContainerView};
 
     ghost Value = { ContainerView };
 
-    ghost coded = { Prim.hlevel (codes, table_code) };
+    ghost coded = { Prim.hlevel (codes, table_code, descriptions_code) };
 
     ghost view = { λ c. record { shared = c.shared; machine = c.machine; events = c.events.items } };
 }

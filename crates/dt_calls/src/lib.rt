@@ -3,7 +3,6 @@
 
 mod call;
 mod container;
-mod descriptors;
 mod launch;
 mod lookup;
 pub mod numbers;

@@ -1,15 +1,18 @@
 // What the processes of a container share.
-ghost use Rattle.std.specs.Prelude.{◌≡◌, IfOk};
+ghost use Rattle.std.specs.Prelude.{◌≡◌, ℕ, IfOk};
+ghost use Rattle.dt_fds.specs.Backs.{AllIn, descriptions_of};
+ghost use Rattle.dt_fds.specs.Descriptions.{first_files};
+ghost use Rattle.dt_host.specs.World.{Forest};
 ghost use Rattle.dt_virt.specs.Words.{seeded_by};
 ghost use Rattle.dt_calls.specs.Container.{first_process};
-ghost use Rattle.dt_calls.specs.Descriptors.{first_table};
+ghost use Rattle.dt_calls.specs.declared.numbers.TheConstants.{FIRST_PID as FIRST};
 
-use crate::descriptors::{Description, Descriptors};
-use crate::numbers::FIRST_UMASK;
+use crate::numbers::{FIRST_PID, FIRST_UMASK};
 use dt_base::{Caller, End, NoMemory};
-use dt_fcalls::Fs;
+use dt_fds::Files;
 use dt_host::{Host, HostErr};
 use dt_mcalls::Break;
+use dt_scene::Fs;
 use dt_tree::{ROOT, Tree};
 use dt_virt::{Clock, Rand};
 use std::alloc::Global;
@@ -17,7 +20,7 @@ use std::alloc::Global;
 /// What others may see of a process.
 #[derive(Clone, Copy, Debug)]
 pub struct Process {
-    /// Its working directory and its file mode mask.
+    /// Its pid, its working directory and its file mode mask.
     pub caller: Caller,
     /// The address behind its data, and the least that this may be.
     pub program_break: Break,
@@ -25,33 +28,35 @@ pub struct Process {
     pub end: Option<End>,
 }
 
-/// All of a container but the machines of its processes: the file tree, the logical time and the seed's words, the open
-/// files, and the process as others see it.
+/// All of a container but the machines of its processes: the file tree, the open files, the logical time and the seed's
+/// words, and the process as others see it.
 #[derive(Drop)]
 pub struct Shared {
     pub fs: Fs,
-    pub files: Descriptors,
     pub process: Process,
 }
 
 impl Shared {
-    /// What the first process finds on this tree, whose root is its working directory: time 0, and the words of a seed.
+    /// What the first process finds on this tree, whose root is its working directory: the input and the output streams
+    /// are open, the time is 0, and the words are those of a seed.
     pub fn new(alloc: Global, tree: Tree, seed: u64) -> Result<Self, NoMemory>
-        ensures { IfOk result (λ s. s ≡ record {
-          fs = record { tree = tree; clock = 0; rand = seeded_by seed };
-          files = first_table;
+        ensures value { IfOk result (λ s. s ≡ record {
+          fs = record { tree = tree; files = first_files FIRST; clock = 0; rand = seeded_by seed };
           process = first_process;
         }) }
+        ensures nodes { IfOk result (λ s. (n : ℕ) → descriptions_of s.fs.files n ≡ 0) }
+        ensures all_in { IfOk result (λ s. (v : Forest) → AllIn v s.fs.files) }
     {
         Ok(Shared {
             fs: Fs {
                 tree,
+                files: Files::first(alloc, FIRST_PID)?,
                 clock: Clock::new(),
                 rand: Rand::new(seed),
             },
-            files: Descriptors::first(alloc)?,
             process: Process {
                 caller: Caller {
+                    vpid: FIRST_PID,
                     cwd: ROOT,
                     umask: FIRST_UMASK,
                 },
@@ -63,13 +68,9 @@ impl Shared {
 }
 
 impl Shared {
-    ghost use Rattle.std.specs.Prelude.{None, Some, [], length, true, false, IfOk, OnOk, IfSome, IsErrOf, ◌<◌};
+    ghost use Rattle.std.specs.Prelude.{None, OnOk, IsErrOf};
     ghost use Rattle.dt_host.specs.Cause.{HasCause};
-    ghost use Rattle.dt_host.specs.World.{World};
-    ghost use Rattle.dt_tree.specs.FileTree.{holds_of};
-    ghost use Rattle.dt_tree.specs.Table.{Stands, tree_of};
-    ghost use Rattle.dt_calls.specs.Holds.{node_of, without_hold};
-    ghost use Rattle.dt_calls.specs.Settle.{closed, ended};
+    ghost use Rattle.dt_calls.specs.Settle.{ended};
     ghost use Rattle.dt_calls.specs.InCode.{shared_of};
     ghost use Rattle.dt_calls.specs.Sound.{IsSound};
 
@@ -82,69 +83,13 @@ impl Shared {
         ensures sound { OnOk result (IsSound self.new (H.view host.new)) }
         ensures cause { HasCause (H.count host.old) (H.count host.new) (IsErrOf result HostErr.Failed) }
     {
-        self.close_all(host)?;
-        self.fs.tree.release(host, self.process.caller.cwd)?;
+        let _before = host.faults();
+        let caller = self.process.caller;
+        self.fs
+            .files
+            .drop_all(host, &mut self.fs.tree, caller.vpid)?;
+        self.fs.tree.release(host, caller.cwd)?;
         self.process.end = Some(end);
         Ok(())
-    }
-
-    // Closes all descriptors, from the last to the first.
-    fn close_all<H: Host>(&mut self, host: &mut H) -> Result<(), HostErr>
-        requires { IsSound self.old (H.view host.old) }
-        ensures tree { OnOk result
-            (shared_of self.new (H.view host.new) ≡ closed (shared_of self.old (H.view host.old))) }
-        ensures process { OnOk result (self.new.process ≡ self.old.process) }
-        ensures sound { OnOk result (IsSound self.new (H.view host.new)) }
-        ensures cause { HasCause (H.count host.old) (H.count host.new) (IsErrOf result HostErr.Failed) }
-    {
-        let _before = host.faults();
-        while self.close_last(host)? {}
-        Ok(())
-    }
-
-    // Closes the last descriptor of the table, where there is one.
-    fn close_last<H: Host>(&mut self, host: &mut H) -> Result<bool, HostErr>
-        requires { IsSound self.old (H.view host.old) }
-        ensures closed { OnOk result (closed (shared_of self.new (H.view host.new))
-            ≡ closed (shared_of self.old (H.view host.old))) }
-        ensures last { IfOk result (λ more. more ≡ false → self.new.files ≡ []) }
-        ensures fewer { IfOk result (λ more. more ≡ true → length self.new.files < length self.old.files) }
-        ensures process { OnOk result (self.new.process ≡ self.old.process) }
-        ensures sound { OnOk result (IsSound self.new (H.view host.new)) }
-        ensures cause { HasCause (H.count host.old) (H.count host.new) (IsErrOf result HostErr.Failed) }
-    {
-        let _before = host.faults();
-        match self.files.pop() {
-            Some(found) => {
-                self.let_go(host, found)?;
-                Ok(true)
-            }
-            None => Ok(false),
-        }
-    }
-
-    /// Gives up the hold of what a descriptor stood for.
-    pub fn let_go<H: Host>(
-        &mut self,
-        host: &mut H,
-        found: Option<Description>,
-    ) -> Result<(), HostErr>
-        requires stands { Stands self.old.fs.tree (H.view host.old).forest }
-        requires held { IfSome (node_of found)
-            (λ n. 0 < holds_of (tree_of self.old.fs.tree (H.view host.old).forest) n) }
-        ensures tree { OnOk result (shared_of self.new (H.view host.new)
-            ≡ record (shared_of self.old (H.view host.old)) {
-              tree = without_hold (tree_of self.old.fs.tree (H.view host.old).forest) (node_of found);
-            }) }
-        ensures stands { OnOk result (Stands self.new.fs.tree (H.view host.new).forest) }
-        ensures cause { HasCause (H.count host.old) (H.count host.new) (IsErrOf result HostErr.Failed) }
-    {
-        let _before = host.faults();
-        match found {
-            Some(Description::File { inode, .. } | Description::Directory { inode }) => {
-                self.fs.tree.release(host, inode)
-            }
-            Some(Description::Input | Description::Stream(_)) | None => Ok(()),
-        }
     }
 }

@@ -2,5 +2,7 @@ pub mod Texts
 pub mod Filled
 pub mod Drawn
 pub mod Kept
+pub mod Described
+pub mod Opening
 pub mod Moved
 pub mod May

@@ -13,9 +13,11 @@ use Rattle.dt_tree.specs.Table.{Table, Stands, shape_of, tree_of}
 use Rattle.dt_tree.proofs.Changing.{IsTreeBut-with_attributes}
 use Rattle.dt_tree.proofs.Holding.{holds-held, holds-released, shape-held, IsFile-released, IsDir-released}
 use Rattle.dt_tree.proofs.Namings.{one_for-same, one_for-other}
-use Rattle.dt_fcalls.specs.declared.fs.Fs.{Fs}
+use Rattle.dt_scene.specs.declared.fs.Fs.{Fs}
 use Rattle.dt_fcalls.specs.Nodes.{with_cwd}
-use Rattle.dt_fcalls.specs.Sound.{Sound, Ends, stage}
+use Rattle.dt_fds.specs.Backs.{AllIn, descriptions_of}
+use Rattle.dt_scene.proofs.Kept.{all_in-through, cwd_held}
+use Rattle.dt_scene.specs.Sound.{Sound, Ends, stage}
 
 one_for-flip : (n q : ℕ) → one_for n q ≡ one_for q n
 one_for-flip n q = elim (cases_eq n q) [
@@ -71,13 +73,19 @@ reaches_moved fs new w v caller space n before now sound is stands tree later = 
   served = cc;
   sound = record {
     stands = stands;
-    is_dir = subst (λ t. IsDir t.shape n) (sym tree) (new-dir t n caller.cwd sound.stands.tree live sound.held is);
-    held = subst (λ t. 1 ≤ holds_of t n) (sym tree) (new-held t n caller.cwd sound.stands.tree live sound.held);
+    is_dir = subst (λ t. IsDir t.shape n) (sym tree) (new-dir t n caller.cwd sound.stands.tree live some is);
+    all_in = subst (λ t. AllIn t.shape fs.files) (sym tree) (let new = released (held t n) caller.cwd in all_in-through fs.files t.shape new.shape open-file open-dir sound.all_in);
+    enough = λ q.
+        let now = ap (λ t. holds_of t q) tree in
+        omega (arith, sound.enough q, holds-moved t n caller.cwd sound.stands.tree live some q);
   };
   others = record {
-    holds = λ q. ap (λ t. holds_of t q + one_for q caller.cwd) tree ∙ holds-moved t n caller.cwd sound.stands.tree live sound.held q;
-    files = λ q enough file. subst (λ t. IsFile t.shape q) (sym tree) (files-moved t n caller.cwd sound.stands.tree live sound.held q enough file);
-    dirs = λ q enough dir. subst (λ t. IsDir t.shape q) (sym tree) (dirs-moved t n caller.cwd sound.stands.tree live sound.held q enough dir);
+    vpid = refl;
+    holds = λ q.
+        let now = ap (λ t. holds_of t q) tree in
+        omega (arith, holds-moved t n caller.cwd sound.stands.tree live some q);
+    files = λ q enough file. subst (λ t. IsFile t.shape q) (sym tree) (files-moved t n caller.cwd sound.stands.tree live some q (omega arith) file);
+    dirs = λ q enough dir. subst (λ t. IsDir t.shape q) (sym tree) (dirs-moved t n caller.cwd sound.stands.tree live some q (omega arith) dir);
   };
   cause = record { later = later; rose = λ failed. cc };
 }
@@ -87,3 +95,12 @@ reaches_moved fs new w v caller space n before now sound is stands tree later = 
 
     live : IsLive t.shape n
     live = IsLive-IsDir t.shape n is
+
+    some : 1 ≤ holds_of t caller.cwd
+    some = cwd_held fs w caller space sound
+
+    open-file : (q : ℕ) → 1 ≤ descriptions_of fs.files q → IsFile t.shape q → (let new = released (held t n) caller.cwd in IsFile new.shape q)
+    open-file q one file = files-moved t n caller.cwd sound.stands.tree live some q (omega (arith, sound.enough q)) file
+
+    open-dir : (q : ℕ) → 1 ≤ descriptions_of fs.files q → IsDir t.shape q → (let new = released (held t n) caller.cwd in IsDir new.shape q)
+    open-dir q one dir = dirs-moved t n caller.cwd sound.stands.tree live some q (omega (arith, sound.enough q)) dir

@@ -1,14 +1,13 @@
--- The calls on files, time and random bytes, by their numbers (syscall(2), riscv64).
+-- The calls on paths, names, time and random bytes, by their numbers (syscall(2), riscv64).
 use Rattle.std.specs.Prelude.{ℕ, ◌==◌, List, if◌then◌else◌}
-use Rattle.dt_base.specs.declared.abi.TheConstants.{GETCWD, MKDIRAT, UNLINKAT, SYMLINKAT, LINKAT, FACCESSAT, CHDIR, FCHMODAT, READLINKAT, NEWFSTATAT, UMASK, RENAMEAT2}
-use Rattle.dt_base.specs.declared.answer.Answer.TheVariants.{Unsupported}
-use Rattle.dt_fcalls.specs.declared.numbers.TheConstants.{NANOSLEEP, CLOCK_GETTIME, CLOCK_NANOSLEEP, GETTIMEOFDAY, GETRANDOM}
+use Rattle.dt_base.specs.declared.abi.TheConstants.{GETCWD, MKDIRAT, UNLINKAT, SYMLINKAT, LINKAT, FACCESSAT, CHDIR, FCHMODAT, READLINKAT, NEWFSTATAT, UMASK, RENAMEAT2, OPENAT, FSTAT, NANOSLEEP, CLOCK_GETTIME, CLOCK_NANOSLEEP, GETTIMEOFDAY, GETRANDOM}
 use Rattle.dt_fcalls.specs.Names.{mkdirat_row, symlinkat_row, linkat_row}
 use Rattle.dt_fcalls.specs.Nodes.{umask_row, faccessat_row, fchmodat_row, chdir_row}
+use Rattle.dt_fcalls.specs.Open.{openat_row}
 use Rattle.dt_fcalls.specs.Random.{getrandom_row}
 use Rattle.dt_fcalls.specs.Rename.{renameat2_row}
-use Rattle.dt_fcalls.specs.Scene.{Scene, Row}
-use Rattle.dt_fcalls.specs.Status.{getcwd_row, readlinkat_row, newfstatat_row}
+use Rattle.dt_scene.specs.Scene.{Scene, Row, unsupported}
+use Rattle.dt_fcalls.specs.Status.{getcwd_row, readlinkat_row, newfstatat_row, fstat_row}
 use Rattle.dt_fcalls.specs.Time.{nanosleep_row, clock_gettime_row, clock_nanosleep_row, gettimeofday_row}
 use Rattle.dt_fcalls.specs.Unlink.{unlinkat_row}
 
@@ -23,8 +22,10 @@ file_row number args s =
     else if number == FACCESSAT then faccessat_row args s
     else if number == CHDIR then chdir_row args s
     else if number == FCHMODAT then fchmodat_row args s
+    else if number == OPENAT then openat_row args s
     else if number == READLINKAT then readlinkat_row args s
     else if number == NEWFSTATAT then newfstatat_row args s
+    else if number == FSTAT then fstat_row args s
     else if number == NANOSLEEP then nanosleep_row args s
     else if number == CLOCK_GETTIME then clock_gettime_row args s
     else if number == CLOCK_NANOSLEEP then clock_nanosleep_row args s
@@ -32,4 +33,4 @@ file_row number args s =
     else if number == GETTIMEOFDAY then gettimeofday_row args s
     else if number == RENAMEAT2 then renameat2_row args s
     else if number == GETRANDOM then getrandom_row args s
-    else record { next = s; answer = Unsupported }
+    else unsupported s

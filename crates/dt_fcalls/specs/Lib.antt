@@ -1,4 +1,3 @@
-pub mod Scene
 pub mod Arguments
 pub mod Places
 pub mod Nodes
@@ -10,4 +9,5 @@ pub mod Status
 pub mod Time
 pub mod Random
 pub mod Calls
-pub mod Sound
+pub mod Open
+pub mod inner

@@ -8,24 +8,16 @@ use Rattle.dt_base.specs.declared.errno.Errno.TheVariants.{Exist, Inval, NoEnt, 
 use Rattle.dt_base.specs.declared.image.What.{What}
 use Rattle.dt_base.specs.declared.image.What.TheVariants.{Dir, Link}
 use Rattle.dt_base.specs.declared.limits.TheConstants.{LINK_MODE}
-use Rattle.dt_tree.specs.Calls.{Done, make_node_of, add_name_of}
+use Rattle.dt_tree.specs.Calls.{make_node_of, add_name_of}
 use Rattle.dt_tree.specs.Shape.{is_dir}
 use Rattle.dt_walk.specs.declared.place.Place.{Place}
 use Rattle.dt_fcalls.specs.declared.modes.TheConstants.{DIR_MODES}
 use Rattle.dt_fcalls.specs.declared.places.LastLink.{LastLink}
 use Rattle.dt_fcalls.specs.declared.places.LastLink.TheVariants.{Follow, Keep, KeepWithoutSlash}
-use Rattle.dt_fcalls.specs.Arguments.{argument, has_only, has, path_argument}
+use Rattle.dt_scene.specs.Arguments.{argument, has_only, has}
+use Rattle.dt_fcalls.specs.Arguments.{path_argument}
 use Rattle.dt_fcalls.specs.Places.{place_at, on_place, on_path}
-use Rattle.dt_fcalls.specs.Scene.{Scene, Row, refused, changes, stamp}
-
--- a row by the answer of a call of the tree
-abbrev pub by_answer : {A : Type 0} → Scene → Result A Errno → Done A → Row
-by_answer s (Ok value) d = changes s d.tree
-by_answer s (Err errno) d = refused s errno
-
--- a call of the tree is the whole row: where it is done its time has passed, and the answer is 0
-abbrev pub by_done : {A : Type 0} → Scene → Done A → Row
-by_done s d = by_answer s d.answer d
+use Rattle.dt_scene.specs.Scene.{Scene, Row, refused, stamp, by_done}
 
 -- a row, unless there is a reason to refuse it
 abbrev pub unless_refused : Scene → Option Errno → Row → Row

@@ -10,9 +10,9 @@ use Rattle.dt_tree.specs.Shape.{is_dir}
 use Rattle.dt_fcalls.specs.declared.modes.TheConstants.{PERMISSIONS}
 use Rattle.dt_fcalls.specs.declared.places.LastLink.TheVariants.{Follow}
 use Rattle.dt_fcalls.specs.declared.places.TheConstants.{CWD_DIRFD}
-use Rattle.dt_fcalls.specs.Arguments.{argument}
+use Rattle.dt_scene.specs.Arguments.{argument}
 use Rattle.dt_fcalls.specs.Places.{on_path}
-use Rattle.dt_fcalls.specs.Scene.{Scene, Row, refused, answers}
+use Rattle.dt_scene.specs.Scene.{Scene, Row, refused, answers}
 
 -- umask(2): the old mask is the answer
 unfoldable pub umask_row : List ℕ → Scene → Row

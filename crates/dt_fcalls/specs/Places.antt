@@ -12,7 +12,7 @@ use Rattle.dt_walk.specs.Walk.{walk_of, ends_in_slash}
 use Rattle.dt_fcalls.specs.declared.places.LastLink.{LastLink}
 use Rattle.dt_fcalls.specs.declared.places.LastLink.TheVariants.{Follow, Keep, KeepWithoutSlash}
 use Rattle.dt_fcalls.specs.Arguments.{path_argument, start_of}
-use Rattle.dt_fcalls.specs.Scene.{Scene, Row, refused}
+use Rattle.dt_scene.specs.Scene.{Scene, Row, refused}
 
 -- whether a link that is the last name of a path is followed
 abbrev pub last_of : LastLink → List ℕ → Last
@@ -28,7 +28,7 @@ place_from s rule path (Ok start) = walk_of s.tree.shape start path (last_of rul
 -- the place of a path that was read
 abbrev pub place_of : Scene → ℕ → LastLink → Result (List ℕ) Errno → Result Place Errno
 place_of s dirfd rule (Err errno) = Err errno
-place_of s dirfd rule (Ok path) = place_from s rule path (start_of s.caller.cwd dirfd path)
+place_of s dirfd rule (Ok path) = place_from s rule path (start_of s dirfd path)
 
 -- the place of the path at an address
 unfoldable pub place_at : Scene → ℕ → ℕ → LastLink → Result Place Errno

@@ -7,8 +7,8 @@ use Rattle.dt_space.specs.Space.{PageView}
 use Rattle.dt_space.specs.Write.{stored}
 use Rattle.dt_virt.specs.Words.{drawn, rest_after}
 use Rattle.dt_fcalls.specs.declared.random.TheConstants.{GRND_ALL}
-use Rattle.dt_fcalls.specs.Arguments.{argument}
-use Rattle.dt_fcalls.specs.Scene.{Scene, Row, refused, answers}
+use Rattle.dt_scene.specs.Arguments.{argument}
+use Rattle.dt_scene.specs.Scene.{Scene, Row, refused, answers}
 
 -- so many bytes came into a buffer, and their words are used up: EFAULT where the buffer may not be written
 abbrev pub drawn_into : Scene → ℕ → Result (List PageView) Miss → Row

@@ -3,32 +3,43 @@ use Rattle.std.specs.Prelude.{ℕ, ◌+◌, ◌-◌, ◌/◌, ◌%◌, ◌==◌,
 use Rattle.dt_base.specs.Fields.{with_field}
 use Rattle.dt_tree.specs.declared.limits.TheConstants.{DT_DIR, DT_REG, DT_LNK}
 use Rattle.dt_tree.specs.declared.meta.Meta.{Meta}
-use Rattle.dt_fcalls.specs.declared.stat.TheConstants.{STAT_LEN, ST_DEV, ST_INO, ST_MODE, ST_NLINK, ST_SIZE, ST_BLKSIZE, ST_BLOCKS, ST_ATIME, ST_MTIME, ST_CTIME, NANOSECONDS, S_IFREG, S_IFDIR, S_IFLNK, DEVICE, BLOCK_SIZE, SECTOR_SIZE}
+use Rattle.dt_fcalls.specs.declared.stat.TheConstants.{STAT_LEN, ST_DEV, ST_INO, ST_MODE, ST_NLINK, ST_SIZE, ST_BLKSIZE, ST_BLOCKS, ST_ATIME, ST_MTIME, ST_CTIME, NANOSECONDS, S_IFREG, S_IFDIR, S_IFLNK, DEVICE, BLOCK_SIZE, SECTOR_SIZE, STREAM_INODE, STREAM_MODE}
+use Rattle.dt_fcalls.specs.declared.stat.Status.{Status}
 use Rattle.dt_fcalls.specs.declared.time.TheConstants.{FIRST_SECOND, SECOND_TICKS}
 
 -- the bits of a mode that tell the type of a node
 abbrev pub type_bits : ℕ → ℕ
 type_bits kind = if kind == DT_DIR then S_IFDIR else if kind == DT_LNK then S_IFLNK else S_IFREG
 
--- st_mode: the type and the mode
-abbrev pub st_mode : Meta → ℕ
-st_mode meta = bit_or (type_bits meta.kind) meta.mode
-
 -- st_blocks: the sectors of a file's bytes, the last one counted whole; no other node has any
 abbrev pub st_blocks : Meta → ℕ
 st_blocks meta = if meta.kind == DT_REG then (meta.size + (SECTOR_SIZE - 1)) / SECTOR_SIZE else 0
 
+-- the status of a node
+abbrev pub status_of : ℕ → Meta → Status
+status_of n meta = record {
+  inode = n;
+  mode = bit_or (type_bits meta.kind) meta.mode;
+  nlink = meta.nlink;
+  size = meta.size;
+  blocks = st_blocks meta;
+  stamp = meta.stamp;
+}
+
+-- the status of the input and of the output streams: a character device, which nothing changes
+abbrev pub stream_status : Status
+stream_status = record { inode = STREAM_INODE; mode = STREAM_MODE; nlink = 1; size = 0; blocks = 0; stamp = 0 }
+
 -- what tells which node it is
-abbrev pub with_identity : ℕ → Meta → List ℕ → List ℕ
-with_identity n meta bytes =
-    with_field 4 (with_field 4 (with_field 8 (with_field 8 bytes ST_DEV DEVICE) ST_INO n)
-    ST_MODE (st_mode meta)) ST_NLINK meta.nlink
+abbrev pub with_identity : Status → List ℕ → List ℕ
+with_identity status bytes =
+    with_field 4 (with_field 4 (with_field 8 (with_field 8 bytes ST_DEV DEVICE) ST_INO status.inode)
+    ST_MODE status.mode) ST_NLINK status.nlink
 
 -- what tells its size
-abbrev pub with_size : Meta → List ℕ → List ℕ
-with_size meta bytes =
-    with_field 8 (with_field 4 (with_field 8 bytes ST_SIZE meta.size) ST_BLKSIZE BLOCK_SIZE)
-    ST_BLOCKS (st_blocks meta)
+abbrev pub with_size : Status → List ℕ → List ℕ
+with_size status bytes =
+    with_field 8 (with_field 4 (with_field 8 bytes ST_SIZE status.size) ST_BLKSIZE BLOCK_SIZE) ST_BLOCKS status.blocks
 
 -- a time: the second, and the nanosecond in it
 abbrev pub with_time : ℕ → ℕ → List ℕ → List ℕ
@@ -40,6 +51,15 @@ with_time at stamp bytes =
 abbrev pub with_times : ℕ → List ℕ → List ℕ
 with_times stamp bytes = with_time ST_CTIME stamp (with_time ST_MTIME stamp (with_time ST_ATIME stamp bytes))
 
--- the status of a node; what no field covers is 0
-unfoldable pub stat_of : ℕ → Meta → List ℕ
-stat_of n meta = with_times meta.stamp (with_size meta (with_identity n meta (replicate STAT_LEN 0)))
+-- the bytes of a status; what no field covers is 0
+unfoldable pub status_bytes : Status → List ℕ
+status_bytes status =
+    with_times status.stamp (with_size status (with_identity status (replicate STAT_LEN 0)))
+
+-- the bytes of a node's status
+abbrev pub stat_of : ℕ → Meta → List ℕ
+stat_of n meta = status_bytes (status_of n meta)
+
+-- the bytes of the status of the input and of the output streams
+abbrev pub stream_stat : List ℕ
+stream_stat = status_bytes stream_status

@@ -1,37 +1,26 @@
--- The calls that tell of a node or a path: getcwd(2), readlinkat(2), newfstatat(2).
+-- The calls that tell of a node or a path: getcwd(2), readlinkat(2), fstat(2), newfstatat(2).
 use Rattle.std.specs.Prelude.{ℕ, Bool, true, false, not, ◌&&◌, List, [], ◌∷◌, ◌++◌, length, take, Option, None, Some, Result, Ok, Err, nat_lt, int_le, pos, if◌then◌else◌}
 use Rattle.std.specs.Ordering.{int_eq}
 use Rattle.dt_base.specs.Abi.{low_word, signed_word}
 use Rattle.dt_base.specs.declared.abi.TheConstants.{AT_FDCWD, AT_EMPTY_PATH, AT_SYMLINK_NOFOLLOW}
 use Rattle.dt_base.specs.declared.errno.Errno.{Errno}
-use Rattle.dt_base.specs.declared.errno.Errno.TheVariants.{NoEnt, BadF, Inval, Range, Fault as BadAddress}
+use Rattle.dt_base.specs.declared.errno.Errno.TheVariants.{NoEnt, Inval, Range}
+use Rattle.dt_fds.specs.declared.desc.DescKind.{DescKind}
+use Rattle.dt_fds.specs.declared.desc.DescKind.TheVariants.{File, Dir, Input, Stream}
 use Rattle.dt_host.specs.World.{target_at}
-use Rattle.dt_space.specs.declared.access.Miss.{Miss}
 use Rattle.dt_space.specs.Space.{PageView}
-use Rattle.dt_space.specs.Write.{stored}
 use Rattle.dt_tree.specs.Above.{path_of}
 use Rattle.dt_tree.specs.declared.meta.Meta.{Meta}
 use Rattle.dt_tree.specs.Meta.{meta_of}
 use Rattle.dt_fcalls.specs.declared.places.LastLink.{LastLink}
 use Rattle.dt_fcalls.specs.declared.places.LastLink.TheVariants.{Follow, KeepWithoutSlash}
 use Rattle.dt_fcalls.specs.declared.stat.TheConstants.{STAT_FLAGS}
-use Rattle.dt_fcalls.specs.Arguments.{argument, has_only, has, text_argument}
+use Rattle.dt_scene.specs.Arguments.{argument, has_only, has}
+use Rattle.dt_fcalls.specs.Arguments.{text_argument}
 use Rattle.dt_fcalls.specs.Places.{on_path}
-use Rattle.dt_fcalls.specs.Scene.{Scene, Row, refused, answers}
-use Rattle.dt_fcalls.specs.Stat.{stat_of}
-
--- the pages after a buffer is filled, and the answer
-abbrev pub filled : Scene → ℕ → Result (List PageView) Miss → Row
-filled s value (Err miss) = refused s BadAddress
-filled s value (Ok pages) = answers (record s { space = pages }) value
-
--- these bytes go to a buffer, and this is the answer: EFAULT where one of the bytes may not be written
-abbrev pub fills : Scene → ℕ → List ℕ → ℕ → Row
-fills s buffer bytes value = filled s value (stored s.space buffer bytes)
-
--- these bytes go to a buffer, and their number is the answer
-abbrev pub fills_whole : Scene → ℕ → List ℕ → Row
-fills_whole s buffer bytes = fills s buffer bytes (length bytes)
+use Rattle.dt_scene.specs.Scene.{Scene, Row, refused, described, on_description}
+use Rattle.dt_fcalls.specs.Stat.{stat_of, stream_stat}
+use Rattle.dt_scene.specs.Filling.{fills, fills_whole}
 
 -- a text goes to a buffer, its NUL included: ERANGE where the buffer is too short
 abbrev pub fills_text : Scene → ℕ → ℕ → List ℕ → Row
@@ -71,10 +60,26 @@ fills_status s buffer n (Some meta) = fills s buffer (stat_of n meta) 0
 abbrev pub tells_status : ℕ → ℕ → Scene → Row
 tells_status buffer n s = fills_status s buffer n (meta_of s.tree n)
 
--- the status of what a dirfd stands for, which is the working directory: no other descriptor is one yet
+-- the status of what a description is of is told
+abbrev pub tells_kind : ℕ → DescKind → Scene → Row
+tells_kind buffer (File n) s = tells_status buffer n s
+tells_kind buffer (Dir n) s = tells_status buffer n s
+tells_kind buffer Input s = fills s buffer stream_stat 0
+tells_kind buffer (Stream stream) s = fills s buffer stream_stat 0
+
+-- the status of what a descriptor refers to is told
+unfoldable pub tells_descriptor : ℕ → ℕ → Scene → Row
+tells_descriptor fd buffer s = on_description s (described s fd) (λ desc. tells_kind buffer desc.kind s)
+
+-- fstat(2)
+unfoldable pub fstat_row : List ℕ → Scene → Row
+fstat_row args s = tells_descriptor (low_word (argument args 0)) (argument args 1) s
+
+-- the status of what a dirfd stands for: the working directory, or what an open descriptor refers to
 abbrev pub tells_dirfd : Scene → ℕ → ℕ → Row
 tells_dirfd s dirfd buffer =
-    if int_eq (signed_word dirfd) AT_FDCWD then tells_status buffer s.caller.cwd s else refused s BadF
+    if int_eq (signed_word dirfd) AT_FDCWD then tells_status buffer s.caller.cwd s
+    else tells_descriptor (low_word dirfd) buffer s
 
 -- the text is there, and empty
 abbrev pub is_empty_text : Result (List ℕ) Errno → Bool

@@ -12,8 +12,8 @@ use Rattle.dt_virt.specs.declared.clock.TheConstants.{READING_TICKS, TICK_LIMIT}
 use Rattle.dt_virt.specs.Clock.{later}
 use Rattle.dt_fcalls.specs.declared.time.TheConstants.{FIRST_SECOND, SECOND_TICKS, MICROSECOND_TICKS, CLOCK_REALTIME, CLOCK_MONOTONIC, CLOCK_REALTIME_COARSE, CLOCK_BOOTTIME, TIMER_ABSTIME, TIME_LEN, TIMEZONE_LEN}
 use Rattle.dt_fcalls.specs.declared.time.Timespec.{Timespec}
-use Rattle.dt_fcalls.specs.Arguments.{argument}
-use Rattle.dt_fcalls.specs.Scene.{Scene, Row, refused, answers}
+use Rattle.dt_scene.specs.Arguments.{argument}
+use Rattle.dt_scene.specs.Scene.{Scene, Row, refused, answers}
 
 -- the clock tells wall time
 abbrev pub is_wall : ℕ → Bool

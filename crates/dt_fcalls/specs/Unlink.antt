@@ -10,10 +10,11 @@ use Rattle.dt_tree.specs.Shape.{is_dir, is_bare}
 use Rattle.dt_walk.specs.declared.place.Place.{Place}
 use Rattle.dt_walk.specs.Placed.{is_dot, is_dot_dot, is_special}
 use Rattle.dt_fcalls.specs.declared.places.LastLink.TheVariants.{Keep}
-use Rattle.dt_fcalls.specs.Arguments.{argument, has_only, has}
-use Rattle.dt_fcalls.specs.Names.{by_done, unless_refused}
+use Rattle.dt_scene.specs.Arguments.{argument, has_only, has}
+use Rattle.dt_scene.specs.Scene.{by_done}
+use Rattle.dt_fcalls.specs.Names.{unless_refused}
 use Rattle.dt_fcalls.specs.Places.{place_at, on_place, on_node}
-use Rattle.dt_fcalls.specs.Scene.{Scene, Row, refused, stamp}
+use Rattle.dt_scene.specs.Scene.{Scene, Row, refused, stamp}
 
 -- why `.`, `..` or the empty name, which no entry can have, can't go
 abbrev pub special_refusal : Bool → List ℕ → Errno

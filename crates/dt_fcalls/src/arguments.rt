@@ -1,10 +1,17 @@
-// The arguments of a call: texts and paths.
+// The texts and paths that a call is handed, and where a path begins.
 ghost use Rattle.std.specs.Prelude.{◌≡◌, IfOk, IsTrue};
 ghost use Rattle.dt_base.specs.Path.{has_no_nul};
-ghost use Rattle.dt_fcalls.specs.Arguments.{text_argument, path_argument, start_of};
+ghost use Rattle.dt_fcalls.specs.Arguments.{text_argument, path_argument, dir_described, start_of};
+ghost use Rattle.dt_host.specs.World.{IsDir};
+ghost use Rattle.dt_scene.specs.Scene.{described};
+ghost use Rattle.dt_scene.specs.Sound.{Sound, stage, scene};
+ghost use Rattle.dt_tree.specs.Table.{shape_of};
 
-use dt_base::abi::{AT_FDCWD, signed_word};
-use dt_base::{Blob, Errno, NoMemory, PATH_LIMIT, begins_with_slash};
+use dt_base::abi::{AT_FDCWD, low_word, signed_word};
+use dt_base::{Blob, Caller, Errno, NoMemory, PATH_LIMIT, begins_with_slash};
+use dt_fds::DescKind;
+use dt_host::Host;
+use dt_scene::Fs;
 use dt_space::{Space, TextErr};
 use dt_tree::ROOT;
 
@@ -22,7 +29,7 @@ pub(crate) fn text_argument(space: &Space, at: u64) -> Result<Result<Blob, Errno
 }
 
 /// The path at an address, which is not empty.
-pub fn path_argument(space: &Space, at: u64) -> Result<Result<Blob, Errno>, NoMemory>
+pub(crate) fn path_argument(space: &Space, at: u64) -> Result<Result<Blob, Errno>, NoMemory>
     ensures value { IfOk result (λ path. path ≡ path_argument space.now at) }
     ensures no_nul { IfOk result (λ path. IfOk path (λ bytes. IsTrue (has_no_nul bytes))) }
 {
@@ -32,15 +39,48 @@ pub fn path_argument(space: &Space, at: u64) -> Result<Result<Blob, Errno>, NoMe
     }
 }
 
+// The directory that a descriptor refers to.
+#[tactic(auto, using(crate::proofs::Described::is_there))]
+fn dir_described<H: Host>(
+    fs: &Fs,
+    host: &H,
+    caller: &Caller,
+    space: &Space,
+    fd: u32,
+) -> Result<u64, Errno>
+    requires { Sound (stage fs.now (H.view host.now) caller.now space.now) }
+    ensures value { result ≡ dir_described
+        (described (scene (stage fs.now (H.view host.now) caller.now space.now)) fd) }
+    ensures is_dir { IfOk result (IsDir (shape_of fs.now.tree (H.view host.now).forest)) }
+{
+    let Some(desc) = fs.files.look(caller.vpid, fd) else {
+        return Err(Errno::BadF);
+    };
+    match desc.kind {
+        DescKind::Dir(n) => Ok(n),
+        DescKind::File(_) | DescKind::Input | DescKind::Stream(_) => Err(Errno::NotDir),
+    }
+}
+
 /// Where a path is looked up first.
-pub fn start_of(cwd: u64, dirfd: u64, path: &[u8]) -> Result<u64, Errno>
-    ensures { result ≡ start_of cwd dirfd path.now }
+pub(crate) fn start_of<H: Host>(
+    fs: &Fs,
+    host: &H,
+    caller: &Caller,
+    space: &Space,
+    dirfd: u64,
+    path: &[u8],
+) -> Result<u64, Errno>
+    requires { Sound (stage fs.now (H.view host.now) caller.now space.now) }
+    ensures value { result ≡ start_of
+        (scene (stage fs.now (H.view host.now) caller.now space.now)) dirfd path.now }
+    ensures is_dir { IfOk result (IsDir (shape_of fs.now.tree (H.view host.now).forest)) }
 {
     if begins_with_slash(path) {
         return Ok(ROOT);
     }
     if signed_word(dirfd) == AT_FDCWD {
-        return Ok(cwd);
+        return Ok(caller.cwd);
     }
-    Err(Errno::BadF)
+    dir_described(fs, host, caller, space, low_word(dirfd))
 }

@@ -1,20 +1,21 @@
 // The calls on files, time and random bytes, by their numbers.
 ghost use Rattle.dt_fcalls.specs.Calls.{file_row};
-ghost use Rattle.dt_fcalls.specs.Sound.{Sound, Serves, stage};
+ghost use Rattle.dt_scene.specs.Sound.{Sound, Serves, stage};
 
-use crate::fs::Fs;
 use crate::names::{linkat, mkdirat, renameat2, symlinkat, unlinkat};
 use crate::nodes::{chdir, faccessat, fchmodat, umask};
-use crate::numbers::{CLOCK_GETTIME, CLOCK_NANOSLEEP, GETRANDOM, GETTIMEOFDAY, NANOSLEEP};
+use crate::open::openat;
 use crate::random::getrandom;
-use crate::status::{getcwd, newfstatat, readlinkat};
+use crate::status::{fstat, getcwd, newfstatat, readlinkat};
 use crate::time::{clock_gettime, clock_nanosleep, gettimeofday, nanosleep};
 use dt_base::abi::{
-    CHDIR, FACCESSAT, FCHMODAT, GETCWD, LINKAT, MKDIRAT, NEWFSTATAT, READLINKAT, RENAMEAT2,
-    SYMLINKAT, UMASK, UNLINKAT,
+    CHDIR, CLOCK_GETTIME, CLOCK_NANOSLEEP, FACCESSAT, FCHMODAT, FSTAT, GETCWD, GETRANDOM,
+    GETTIMEOFDAY, LINKAT, MKDIRAT, NANOSLEEP, NEWFSTATAT, OPENAT, READLINKAT, RENAMEAT2, SYMLINKAT,
+    UMASK, UNLINKAT,
 };
 use dt_base::{Answer, Caller};
 use dt_host::{Host, HostErr};
+use dt_scene::Fs;
 use dt_space::Space;
 use std::alloc::Global;
 
@@ -44,8 +45,10 @@ pub fn file_call<H: Host>(
         FACCESSAT => faccessat(alloc, fs, host, caller, space, args),
         CHDIR => chdir(alloc, fs, host, caller, space, args),
         FCHMODAT => fchmodat(alloc, fs, host, caller, space, args),
+        OPENAT => openat(alloc, fs, host, caller, space, args),
         READLINKAT => readlinkat(alloc, fs, host, caller, space, args),
         NEWFSTATAT => newfstatat(alloc, fs, host, caller, space, args),
+        FSTAT => fstat(fs, host, caller, space, args),
         NANOSLEEP => nanosleep(fs, host, caller, space, args),
         CLOCK_GETTIME => clock_gettime(fs, host, caller, space, args),
         CLOCK_NANOSLEEP => clock_nanosleep(fs, host, caller, space, args),

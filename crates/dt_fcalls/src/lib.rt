@@ -4,22 +4,20 @@
 
 mod arguments;
 mod calls;
-mod fs;
 pub mod modes;
 mod names;
 mod nodes;
-pub mod numbers;
+pub mod open;
 pub mod places;
 pub mod random;
 pub mod stat;
 mod status;
 pub mod time;
 
-pub use arguments::{path_argument, start_of};
 pub use calls::file_call;
-pub use fs::Fs;
 pub use names::{linkat, mkdirat, renameat2, symlinkat, unlinkat};
 pub use nodes::{chdir, faccessat, fchmodat, umask};
+pub use open::openat;
 pub use random::getrandom;
-pub use status::{getcwd, newfstatat, readlinkat};
+pub use status::{fstat, getcwd, newfstatat, readlinkat};
 pub use time::{clock_gettime, clock_nanosleep, gettimeofday, nanosleep};

@@ -3,22 +3,22 @@ ghost use Rattle.std.specs.Prelude.{◌≡◌, ◌≤◌, IsTrue, IfOk};
 ghost use Rattle.dt_base.specs.Image.{is_good_what, is_target};
 ghost use Rattle.dt_tree.specs.Calls.{IsNewName};
 ghost use Rattle.dt_tree.specs.Table.{shape_of, tree_of};
-ghost use Rattle.dt_fcalls.specs.Arguments.{argument};
+ghost use Rattle.dt_scene.specs.Arguments.{argument};
 ghost use Rattle.dt_fcalls.specs.Places.{IsFound, place_at};
 ghost use Rattle.dt_fcalls.specs.Names.{masked, makes_node, makes_link, new_refusal, mkdirat_row, symlinkat_row};
-ghost use Rattle.dt_fcalls.specs.Sound.{Sound, Serves, Ends, stage, scene};
+ghost use Rattle.dt_scene.specs.Sound.{Sound, Serves, Ends, stage, scene};
 
 mod link;
 mod rename;
 mod unlink;
 
 use crate::arguments::path_argument;
-use crate::fs::Fs;
 use crate::modes::DIR_MODES;
 use crate::places::{LastLink, place_at};
 use dt_base::abi::low_word;
 use dt_base::{Answer, Blob, Caller, Errno, LINK_MODE, What};
 use dt_host::{CallErr, Host, HostErr};
+use dt_scene::Fs;
 use dt_space::Space;
 use dt_walk::Place;
 pub use link::linkat;
@@ -27,7 +27,7 @@ use std::alloc::Global;
 pub use unlink::unlinkat;
 
 // A mode without the bits of a mask.
-fn masked(mode: u32, umask: u32) -> u32
+pub(crate) fn masked(mode: u32, umask: u32) -> u32
     ensures value { result ≡ masked mode umask }
     ensures within { result ≤ mode }
 {

@@ -10,19 +10,19 @@ ghost use Rattle.dt_tree.specs.Shape.{is_link};
 ghost use Rattle.dt_tree.specs.Table.{Stands, shape_of, tree_of};
 ghost use Rattle.dt_walk.specs.declared.place.Last.TheVariants.{Follow as followed};
 ghost use Rattle.dt_walk.specs.Placed.{IsPlaceIn, IsFollowed};
-ghost use Rattle.dt_fcalls.specs.Arguments.{argument};
+ghost use Rattle.dt_scene.specs.Arguments.{argument};
 ghost use Rattle.dt_fcalls.specs.Nodes.{umask_row, faccessat_row, chmods, fchmodat_row, with_cwd, chdir_row};
 ghost use Rattle.dt_fcalls.specs.declared.places.TheConstants.{CWD_DIRFD as FROM_CWD};
 ghost use Rattle.dt_fcalls.specs.Places.{place_at};
-ghost use Rattle.dt_fcalls.specs.Scene.{Scene};
-ghost use Rattle.dt_fcalls.specs.Sound.{Sound, Serves, Ends, stage, scene};
+ghost use Rattle.dt_scene.specs.Scene.{Scene};
+ghost use Rattle.dt_scene.specs.Sound.{Sound, Serves, Ends, stage, scene};
 
-use crate::fs::Fs;
 use crate::modes::PERMISSIONS;
 use crate::places::{CWD_DIRFD, LastLink, place_at};
 use dt_base::abi::{ACCESS_ALL, low_word};
 use dt_base::{Answer, Caller, Errno, MODE_LIMIT};
 use dt_host::{Host, HostErr};
+use dt_scene::Fs;
 use dt_space::Space;
 use dt_tree::Tree;
 use dt_walk::Place;
@@ -34,6 +34,7 @@ pub fn umask(caller: &mut Caller, args: [u64; 6]) -> Answer
     ensures row { (s : Scene) → s.caller ≡ caller.old
         → umask_row args s ≡ record { next = record s { caller = caller.new }; answer = result } }
     ensures cwd { caller.new.cwd ≡ caller.old.cwd }
+    ensures vpid { caller.new.vpid ≡ caller.old.vpid }
 {
     let old = caller.umask;
     caller.umask = low_word(args[0]) & PERMISSIONS;

@@ -7,13 +7,13 @@ ghost use Rattle.dt_tree.specs.Table.{Stands, shape_of};
 ghost use Rattle.dt_walk.specs.Placed.{IsPlaceIn, IsNamedWell, IsFollowed};
 ghost use Rattle.dt_walk.specs.Walk.{walk_of};
 ghost use Rattle.dt_fcalls.specs.Places.{last_of, place_at};
-ghost use Rattle.dt_fcalls.specs.Sound.{Sound, stage, scene};
+ghost use Rattle.dt_scene.specs.Sound.{Sound, stage, scene};
 
 use crate::arguments::{path_argument, start_of};
-use crate::fs::Fs;
 use dt_base::abi::AT_FDCWD;
 use dt_base::{Caller, Errno};
 use dt_host::{CallErr, Host, HostErr};
+use dt_scene::Fs;
 use dt_space::Space;
 use dt_tree::Tree;
 use dt_walk::{Last, Place, ends_in_slash, walk};
@@ -74,7 +74,7 @@ pub(crate) fn place_at<H: Host>(
 {
     let _before = host.faults();
     match path_argument(space, address)? {
-        Ok(path) => match start_of(caller.cwd, dirfd, path.as_slice()) {
+        Ok(path) => match start_of(fs, host, caller, space, dirfd, path.as_slice()) {
             Ok(start) => walk_from(alloc, &fs.tree, host, start, path.as_slice(), rule),
             Err(errno) => Ok(Err(errno)),
         },
@@ -83,7 +83,7 @@ pub(crate) fn place_at<H: Host>(
 }
 
 // The place of a path from a directory.
-fn walk_from<H: Host>(
+pub(crate) fn walk_from<H: Host>(
     alloc: Global,
     tree: &Tree,
     host: &mut H,

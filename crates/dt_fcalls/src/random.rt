@@ -1,14 +1,14 @@
 //! The call that draws random bytes (getrandom(2)).
 ghost use Rattle.std.specs.Prelude.{IsOk};
 ghost use Rattle.dt_fcalls.specs.Random.{draws, getrandom_row};
-ghost use Rattle.dt_fcalls.specs.Sound.{Sound, Serves, Ends, stage};
+ghost use Rattle.dt_scene.specs.Sound.{Sound, Serves, Ends, stage};
 ghost use Rattle.dt_space.specs.declared.access.TheConstants.{WRITE};
 ghost use Rattle.dt_space.specs.Space.{load};
 
-use crate::fs::Fs;
 use dt_base::abi::{byte_count, low_word};
 use dt_base::{Answer, Caller, Errno};
 use dt_host::{Host, HostErr};
+use dt_scene::Fs;
 use dt_space::Space;
 use std::alloc::Global;
 

@@ -1,7 +1,7 @@
 //! The layout of `struct stat` on 64-bit RISC-V, and what its fields hold (asm-generic/stat.h).
 ghost use Rattle.std.specs.Prelude.{◌≡◌, ◌+◌, ◌≤◌, length, replicate};
 ghost use Rattle.dt_fcalls.specs.declared.stat.TheConstants.{STAT_LEN as LEN, NANOSECONDS as HALF};
-ghost use Rattle.dt_fcalls.specs.Stat.{type_bits, st_mode, st_blocks, with_identity, with_size, with_time, with_times, stat_of};
+ghost use Rattle.dt_fcalls.specs.Stat.{type_bits, st_blocks, status_of, stream_status, with_identity, with_size, with_time, with_times, status_bytes, stat_of, stream_stat};
 
 use crate::time::{FIRST_SECOND, SECOND_TICKS};
 use dt_base::abi::{AT_EMPTY_PATH, AT_NO_AUTOMOUNT, AT_SYMLINK_NOFOLLOW};
@@ -56,6 +56,13 @@ pub const S_IFDIR: u32 = 0o040_000;
 /// A symbolic link.
 pub const S_IFLNK: u32 = 0o120_000;
 
+/// The type and the mode of the input and of the output streams: a character device that its owner reads and writes, and its
+/// group writes.
+pub const STREAM_MODE: u32 = 0o020_620;
+
+/// The inode of the input and of the output streams, past all inodes of a tree.
+pub const STREAM_INODE: u64 = 0x1_0000_0000;
+
 /// The number of the one device.
 pub const DEVICE: u64 = 1;
 
@@ -87,27 +94,86 @@ fn blocks(meta: &Meta) -> u64
     }
 }
 
-// Puts what tells which node it is.
-fn put_identity(bytes: &mut [u8], inode: u64, meta: &Meta)
-    requires { length bytes.old ≡ LEN }
-    ensures value { bytes.new ≡ with_identity inode meta.now bytes.old }
-    ensures length { length bytes.new ≡ LEN }
-{
-    put64(bytes, ST_DEV, DEVICE);
-    put64(bytes, ST_INO, inode);
-    put32(bytes, ST_MODE, type_bits(meta.kind) | meta.mode);
-    put32(bytes, ST_NLINK, meta.nlink);
+/// What a status tells.
+#[derive(Clone, Copy, Debug)]
+pub struct Status {
+    pub inode: u64,
+    /// The type and the mode.
+    pub mode: u32,
+    pub nlink: u32,
+    /// The size in bytes.
+    pub size: u64,
+    /// The sectors that it takes.
+    pub blocks: u64,
+    /// The logical time of its last change.
+    pub stamp: u64,
 }
 
-// Puts what tells its size.
-fn put_size(bytes: &mut [u8], meta: &Meta)
-    requires { length bytes.old ≡ LEN }
-    ensures value { bytes.new ≡ with_size meta.now bytes.old }
-    ensures length { length bytes.new ≡ LEN }
-{
-    put64(bytes, ST_SIZE, meta.size);
-    put32(bytes, ST_BLKSIZE, BLOCK_SIZE);
-    put64(bytes, ST_BLOCKS, blocks(meta));
+impl Status {
+    // The status of a node.
+    fn of_node(inode: u64, meta: &Meta) -> Self
+        ensures { result ≡ status_of inode meta.now }
+    {
+        Status {
+            inode,
+            mode: type_bits(meta.kind) | meta.mode,
+            nlink: meta.nlink,
+            size: meta.size,
+            blocks: blocks(meta),
+            stamp: meta.stamp,
+        }
+    }
+
+    // The status of the input and of the output streams.
+    fn of_stream() -> Self
+        ensures { result ≡ stream_status }
+    {
+        Status {
+            inode: STREAM_INODE,
+            mode: STREAM_MODE,
+            nlink: 1,
+            size: 0,
+            blocks: 0,
+            stamp: 0,
+        }
+    }
+
+    // Puts what tells which node it is.
+    fn put_identity(self, bytes: &mut [u8])
+        requires { length bytes.old ≡ LEN }
+        ensures value { bytes.new ≡ with_identity self bytes.old }
+        ensures length { length bytes.new ≡ LEN }
+    {
+        put64(bytes, ST_DEV, DEVICE);
+        put64(bytes, ST_INO, self.inode);
+        put32(bytes, ST_MODE, self.mode);
+        put32(bytes, ST_NLINK, self.nlink);
+    }
+
+    // Puts what tells its size.
+    fn put_size(self, bytes: &mut [u8])
+        requires { length bytes.old ≡ LEN }
+        ensures value { bytes.new ≡ with_size self bytes.old }
+        ensures length { length bytes.new ≡ LEN }
+    {
+        put64(bytes, ST_SIZE, self.size);
+        put32(bytes, ST_BLKSIZE, BLOCK_SIZE);
+        put64(bytes, ST_BLOCKS, self.blocks);
+    }
+
+    // Its bytes.
+    #[tactic(auto, unfolding(crate::specs::Stat::status_bytes))]
+    fn bytes(self) -> [u8; STAT_LEN]
+        ensures { result ≡ status_bytes self }
+    {
+        let mut bytes = [0; STAT_LEN];
+        self.put_identity(&mut bytes);
+        self.put_size(&mut bytes);
+        put_time(&mut bytes, ST_ATIME, self.stamp);
+        put_time(&mut bytes, ST_MTIME, self.stamp);
+        put_time(&mut bytes, ST_CTIME, self.stamp);
+        bytes
+    }
 }
 
 // Puts a time at an offset.
@@ -122,15 +188,15 @@ fn put_time(bytes: &mut [u8], at: usize, stamp: u64)
 }
 
 /// The bytes of a node's status.
-#[tactic(auto, unfolding(crate::specs::Stat::stat_of))]
 pub(crate) fn stat_of(inode: u64, meta: &Meta) -> [u8; STAT_LEN]
     ensures { result ≡ stat_of inode meta.now }
 {
-    let mut bytes = [0; STAT_LEN];
-    put_identity(&mut bytes, inode, meta);
-    put_size(&mut bytes, meta);
-    put_time(&mut bytes, ST_ATIME, meta.stamp);
-    put_time(&mut bytes, ST_MTIME, meta.stamp);
-    put_time(&mut bytes, ST_CTIME, meta.stamp);
-    bytes
+    Status::of_node(inode, meta).bytes()
+}
+
+/// The bytes of the status of the input and of the output streams.
+pub(crate) fn stream_stat() -> [u8; STAT_LEN]
+    ensures { result ≡ stream_stat }
+{
+    Status::of_stream().bytes()
 }

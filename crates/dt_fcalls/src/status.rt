@@ -5,43 +5,22 @@ ghost use Rattle.dt_host.specs.World.{target_at};
 ghost use Rattle.dt_tree.specs.Above.{path_of};
 ghost use Rattle.dt_tree.specs.Table.{shape_of};
 ghost use Rattle.dt_walk.specs.Placed.{IsPlaceIn};
-ghost use Rattle.dt_fcalls.specs.Arguments.{argument};
+ghost use Rattle.dt_scene.specs.Arguments.{argument};
 ghost use Rattle.dt_fcalls.specs.Places.{place_at};
-ghost use Rattle.dt_fcalls.specs.Sound.{Sound, Serves, Ends, Reaches, stage, scene};
-ghost use Rattle.dt_fcalls.specs.Status.{fills, getcwd_row, tells_target, readlinkat_row};
+ghost use Rattle.dt_scene.specs.Sound.{Sound, Serves, Ends, stage, scene};
+ghost use Rattle.dt_fcalls.specs.Status.{getcwd_row, tells_target, readlinkat_row};
 
 mod node;
 
-use crate::fs::Fs;
 use crate::places::{LastLink, place_at};
 use dt_base::abi::{low_word, signed_word};
 use dt_base::{Answer, Blob, Caller, Errno, NoMemory};
 use dt_host::{Host, HostErr};
+use dt_scene::{Fs, fill};
 use dt_space::Space;
 use dt_walk::Place;
-pub use node::newfstatat;
+pub use node::{fstat, newfstatat};
 use std::alloc::Global;
-
-// Fills a buffer, and answers this value.
-pub(crate) fn fill<H: Host>(
-    fs: &Fs,
-    host: &H,
-    caller: &Caller,
-    space: &mut Space,
-    buffer: u64,
-    bytes: &[u8],
-    value: u64,
-) -> Result<Answer, HostErr>
-    requires { Sound (stage fs.now (H.view host.now) caller.now space.old) }
-    ensures { Reaches (fills (scene (stage fs.now (H.view host.now) caller.now space.old)) buffer bytes.now value)
-        (stage fs.now (H.view host.now) caller.now space.old) (stage fs.now (H.view host.now) caller.now space.new)
-        result (H.count host.now) (H.count host.now) }
-{
-    if space.write_bytes(buffer, bytes).is_err() {
-        return Ok(Answer::Refused(Errno::Fault));
-    }
-    Ok(Answer::Value(value))
-}
 
 // A text and the NUL that ends it.
 fn with_nul(alloc: Global, text: &Blob) -> Result<Vec<u8>, NoMemory>

@@ -1,14 +1,14 @@
 //! The calls on time (nanosleep(2), clock_gettime(2), clock_nanosleep(2), gettimeofday(2)), and what they count in.
 ghost use Rattle.std.specs.Prelude.{◌≡◌, ◌≤◌, ℕ, IsTrue, length, min, max};
 ghost use Rattle.dt_space.specs.Write.{stored};
-ghost use Rattle.dt_fcalls.specs.Arguments.{argument};
-ghost use Rattle.dt_fcalls.specs.Sound.{Sound, Serves, Ends, Reaches, stage, scene};
+ghost use Rattle.dt_scene.specs.Arguments.{argument};
+ghost use Rattle.dt_scene.specs.Sound.{Sound, Serves, Ends, Reaches, stage, scene};
 ghost use Rattle.dt_fcalls.specs.Time.{is_wall, first_second, time_of, timespec_bytes, timeval_bytes, may_fill, with_filled, time_at, ticks_in, ticks_at, is_for_sleep, sleeps_by, told, tells_time_of_day, clock_gettime_row, gettimeofday_row, nanosleep_row, clock_nanosleep_row};
 
-use crate::fs::Fs;
 use dt_base::abi::low_word;
 use dt_base::{Answer, Caller, Errno, put64};
 use dt_host::{Host, HostErr};
+use dt_scene::Fs;
 use dt_space::Space;
 use dt_virt::{Clock, TICK_LIMIT};
 

@@ -34,6 +34,8 @@ const EXIT: u32 = 93;
 pub enum Does {
     /// The call of this number with three arguments.
     Call(u32, i64, i64, i64),
+    /// The call of this number with five arguments.
+    Ask(u32, [i64; 5]),
     /// A counter is read.
     Counter(u16),
     /// Eight bytes are stored at an address of its memory.
@@ -71,12 +73,23 @@ fn perform(guest: &mut Guest, act: Does) -> Result<(), NoMemory> {
             guest.li(A2, third)?;
             guest.call(number)
         }
+        Does::Ask(number, arguments) => ask(guest, number, arguments),
         Does::Counter(counter) => guest.ins(Instr::ReadCounter { rd: A0, counter }),
         Does::Store(at, bytes) => {
             guest.li(A0, i64::from_le_bytes(bytes))?;
             keep(guest, at)
         }
     }
+}
+
+// Makes a call with arguments in the registers from a0 on.
+fn ask(guest: &mut Guest, number: u32, arguments: [i64; 5]) -> Result<(), NoMemory> {
+    let mut register = A0;
+    for argument in arguments {
+        guest.li(register, argument)?;
+        register = register.wrapping_add(1);
+    }
+    guest.call(number)
 }
 
 // Stores a0 at an address.

@@ -20,9 +20,13 @@ const EBADF: i64 = -9;
 
 const EFAULT: i64 = -14;
 
+const EEXIST: i64 = -17;
+
 const ENOTDIR: i64 = -20;
 
 const EISDIR: i64 = -21;
+
+const EINVAL: i64 = -22;
 
 const EMFILE: i64 = -24;
 
@@ -215,10 +219,10 @@ fn paths_from_the_root_and_from_the_working_directory(rt: HostRuntime) -> Result
         // One that begins with no slash, where the low 32 bits of the directory are those of the working directory.
         (Does::Call(OPENAT, AT_FDCWD, PATH + 6, 0), Some(4)),
         (Does::Call(OPENAT, 0xffff_ff9c, PATH + 6, 0), Some(5)),
-        // No other directory is looked at for a path from the root, and no other is one.
+        // No other directory is looked at for a path from the root. What is not open is none, and neither is a file.
         (Does::Call(OPENAT, 77, PATH + 4, 0), Some(6)),
         (Does::Call(OPENAT, 77, PATH + 6, 0), Some(EBADF)),
-        (Does::Call(OPENAT, 3, PATH + 6, 0), Some(EBADF)),
+        (Does::Call(OPENAT, 3, PATH + 6, 0), Some(ENOTDIR)),
         (Does::Call(OPENAT, AT_FDCWD, PATH + 7, 0), Some(ENOENT)),
         (Does::Call(OPENAT, 77, PATH + 7, 0), Some(ENOENT)),
         (Does::Call(OPENAT, AT_FDCWD, 0, 0), Some(EFAULT)),
@@ -334,22 +338,98 @@ fn a_process_has_64_descriptors(rt: HostRuntime) -> Result<(), Fail> {
     expect_answers(&rt, alloc, &rows)
 }
 
+// The status of a run that opens `/f` with these flags, and what its report says before the tree.
+fn shown_with_flags(
+    alloc: Global,
+    dirfd: i64,
+    path: i64,
+    flags: i64,
+) -> Result<(u8, Vec<u8>), Fail> {
+    let acts = [
+        Does::Store(PATH, *b"/f\0\0\0\0\0\0"),
+        Does::Call(OPENAT, dirfd, path, flags),
+    ];
+    let program = keeping(alloc, &acts)?;
+    let files = image(b"abc", &program);
+    let came = Call::new("run\nimg\n--\n/p", &files).make(alloc)?;
+    Ok((came.status, Vec::from_slice(alloc, came.before_tree())?))
+}
+
+// A run that opens a path with these flags ends there, since they are not supported.
+fn expect_unsupported(
+    rt: &impl Abort,
+    alloc: Global,
+    dirfd: i64,
+    path: i64,
+    flags: i64,
+) -> Result<(), Fail> {
+    let (status, came) = shown_with_flags(alloc, dirfd, path, flags)?;
+    let want = b"dettrace 1\nverdict unsupported 1 56".as_slice();
+    assert_eq!(rt; status, 10, "{flags}");
+    assert_eq!(rt; came.as_slice(), want, "{flags}");
+    Ok(())
+}
+
 #[test]
-fn flags_are_not_known_yet(rt: HostRuntime) -> Result<(), Fail> {
+fn other_flags_and_an_access_of_3_are_not_supported(rt: HostRuntime) -> Result<(), Fail> {
     let alloc = rt.alloc();
-    for (flags, status) in [(1, 10), (0x80000, 10), (0x1_0000_0000, 0)] {
-        let acts = [
-            Does::Store(PATH, *b"/f\0\0\0\0\0\0"),
-            Does::Call(OPENAT, AT_FDCWD, PATH, flags),
-        ];
-        let program = keeping(alloc, &acts)?;
-        let files = image(b"abc", &program);
-        let came = Call::new("run\nimg\n--\n/p", &files).make(alloc)?;
-        assert_eq!(rt; came.status, status, "{flags}");
-        if status == 10 {
-            let shown = b"dettrace 1\nverdict unsupported 1 56".as_slice();
-            assert_eq!(rt; came.before_tree(), shown, "{flags}");
-        }
+    let rows = [
+        3,
+        0x43,
+        0x243,
+        0x1_0043,
+        4,
+        8,
+        0x10,
+        0x20,
+        0x1000,
+        0x2000,
+        0x4000,
+        0x4_0000,
+        0x10_0000,
+        0x20_0000,
+        0x40_0000,
+        0x1_1040,
+        0x8000_0000,
+        -1,
+        0x1_0000_0003,
+    ];
+    for flags in rows {
+        expect_unsupported(&rt, alloc, AT_FDCWD, PATH, flags)?;
+        // They are looked at before the path and the dirfd.
+        expect_unsupported(&rt, alloc, 77, 0, flags)?;
+    }
+    Ok(())
+}
+
+#[test]
+fn each_flag_that_is_known_is_supported(rt: HostRuntime) -> Result<(), Fail> {
+    let alloc = rt.alloc();
+    // Flags are the low 32 bits.
+    let rows = [
+        (1, 3),
+        (2, 3),
+        (0x40, 3),
+        (0x80, 3),
+        (0xc0, EEXIST),
+        (0x100, 3),
+        (0x200, 3),
+        (0x400, 3),
+        (0x800, 3),
+        (0x8000, 3),
+        (0x1_0000, ENOTDIR),
+        (0x1_0040, EINVAL),
+        (0x2_0000, 3),
+        (0x8_0000, 3),
+        (0xa_8f42, 3),
+        (0x1_0000_0000, 3),
+        (0x10_0000_0000_0001, 3),
+    ];
+    for (flags, answer) in rows {
+        let (status, came) = shown_with_flags(alloc, AT_FDCWD, PATH, flags)?;
+        assert_eq!(rt; status, 0, "{flags}");
+        let want = answers_shown(alloc, &[answer])?;
+        assert_eq!(rt; came.as_slice(), want.as_slice(), "{flags}");
     }
     Ok(())
 }

@@ -2,6 +2,8 @@
 #![tactic(auto)]
 
 #[cfg(test)]
+mod descriptors;
+#[cfg(test)]
 mod files;
 #[cfg(test)]
 mod full;
@@ -9,6 +11,8 @@ mod full;
 mod memory;
 #[cfg(test)]
 mod programs;
+#[cfg(test)]
+mod runs;
 #[cfg(test)]
 mod time;
 #[cfg(test)]

@@ -19,6 +19,9 @@ const GETRANDOM: u32 = 278;
 
 const CYCLE: u16 = 0xc00;
 
+// The first address behind a guest's memory.
+const END: i64 = MEMORY + 0x1_0000;
+
 // Errno as answers.
 const EFAULT: i64 = -14;
 
@@ -204,4 +207,103 @@ fn refused_calls_take_no_time_and_draw_no_word(rt: HostRuntime) -> Result<(), Fa
         &[b"\x13\x8f\xbe\x4a".as_slice()],
         &answers,
     )
+}
+
+#[test]
+fn a_clock_and_flags_are_their_low_32_bits(rt: HostRuntime) -> Result<(), Fail> {
+    let alloc = rt.alloc();
+    let acts = [
+        put(0, 3),
+        put(8, 7),
+        Does::Call(CLOCK_GETTIME, 0x1_0000_0001, MEMORY + 16, 0),
+        Does::Call(CLOCK_GETTIME, 0x1_0000_0000, MEMORY + 32, 0),
+        Does::Call(CLOCK_GETTIME, 0x1_0000_0008, MEMORY + 32, 0),
+        Does::Call(CLOCK_GETTIME, 0xffff_ffff, MEMORY + 32, 0),
+        // Until a time, and then for a time.
+        Does::Call(CLOCK_NANOSLEEP, 0x1_0000_0001, 0x1_0000_0001, MEMORY),
+        Does::Call(CLOCK_NANOSLEEP, 0x1_0000_0007, 0x1_0000_0000, MEMORY),
+        Does::Call(CLOCK_NANOSLEEP, 0x1_0000_0002, 0, MEMORY),
+        Does::Call(CLOCK_NANOSLEEP, 1, 0x1_0000_0002, MEMORY),
+        Does::Call(GETRANDOM, MEMORY + 48, 1, 0x1_0000_0007),
+        Does::Call(GETRANDOM, MEMORY + 48, 1, 0x1_0000_0008),
+        show(16, 33),
+        read_counter(),
+    ];
+    let mut told = words(alloc, &[0, 1_000, YEAR_2000, 2_000])?;
+    told.push(0x13)?;
+    let answers = [
+        0,
+        0,
+        EINVAL,
+        EINVAL,
+        0,
+        0,
+        EINVAL,
+        EINVAL,
+        1,
+        EINVAL,
+        33,
+        6_000_001_014,
+    ];
+    expect(&rt, alloc, &acts, &[told.as_slice()], &answers)
+}
+
+#[test]
+fn a_time_zone_is_written_over_the_time(rt: HostRuntime) -> Result<(), Fail> {
+    let alloc = rt.alloc();
+    let acts = [
+        put(0, 3),
+        put(8, 7_000),
+        put(48, -1),
+        Does::Call(NANOSLEEP, MEMORY, 0, 0),
+        // Over the microsecond, over the second, and over the low half of the second.
+        Does::Call(GETTIMEOFDAY, MEMORY + 16, MEMORY + 24, 0),
+        Does::Call(GETTIMEOFDAY, MEMORY + 32, MEMORY + 32, 0),
+        Does::Call(GETTIMEOFDAY, MEMORY + 56, MEMORY + 52, 0),
+        show(16, 56),
+        read_counter(),
+    ];
+    let told = [YEAR_2000 + 3, 0, 0, 9, 0xffff_ffff, 0, 10];
+    let answers = [0, 0, 0, 0, 56, 3_000_011_000];
+    expect(&rt, alloc, &acts, &[&words(alloc, &told)?], &answers)
+}
+
+#[test]
+fn a_buffer_whose_last_bytes_are_missing_is_left_alone(rt: HostRuntime) -> Result<(), Fail> {
+    let alloc = rt.alloc();
+    let acts = [
+        put(0, -1),
+        put(8, -1),
+        Does::Store(END - 16, [0xff; 8]),
+        Does::Store(END - 8, [0xff; 8]),
+        Does::Call(CLOCK_GETTIME, 7, END - 15, 0),
+        Does::Call(GETTIMEOFDAY, END - 15, MEMORY, 0),
+        Does::Call(GETTIMEOFDAY, 0, END - 7, 0),
+        // Neither of the two is written where one can't be.
+        Does::Call(GETTIMEOFDAY, MEMORY, END - 7, 0),
+        Does::Call(GETRANDOM, END - 3, 4, 0),
+        show(0, 16),
+        Does::Call(WRITE, 2, END - 16, 16),
+        Does::Call(NANOSLEEP, END - 15, 0, 0),
+        Does::Call(CLOCK_NANOSLEEP, 1, 0, END - 15),
+        Does::Call(CLOCK_GETTIME, 7, END - 16, 0),
+        Does::Call(WRITE, 2, END - 16, 16),
+        Does::Call(NANOSLEEP, END - 16, 0, 0),
+        Does::Call(GETRANDOM, END - 4, 4, 0),
+        Does::Call(WRITE, 2, END - 4, 4),
+        read_counter(),
+    ];
+    let kept = words(alloc, &[-1, -1])?;
+    let told = words(alloc, &[0, 1_000])?;
+    let drawn = Vec::from_slice(alloc, b"\x13\x8f\xbe\x4a".as_slice())?;
+    let answers = [
+        EFAULT, EFAULT, EFAULT, EFAULT, EFAULT, 16, 16, EFAULT, EFAULT, 0, 16, 0, 4, 4, 3_000,
+    ];
+    let outs = [
+        kept.as_slice(),
+        kept.as_slice(),
+        told.as_slice(),
+        drawn.as_slice(),
+    ];
+    expect(&rt, alloc, &acts, &outs, &answers)
 }

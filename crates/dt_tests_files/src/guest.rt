@@ -69,9 +69,16 @@ fn make_call(alloc: Global, guest: &mut Guest, row: &Row, kept: i64) -> Result<(
     guest.li(T0, ANSWERS.saturating_add(kept))?;
     keep(guest, A0, 0)?;
     keep(guest, T1, 8)?;
+    show(guest, row)
+}
+
+// Writes what a call shows of its buffer to stream 1.
+fn show(guest: &mut Guest, row: &Row) -> Result<(), NoMemory> {
     match row.3 {
         After::Shows(text) => write(guest, 1, BUFFER, (text.len() & 0xfff) as i64 + 1),
         After::Tells(_) => write(guest, 1, BUFFER, 128),
+        After::Fills(bytes) => write(guest, 1, BUFFER, (bytes.len() & 0xfff) as i64),
+        After::Lists(_) => write(guest, 1, BUFFER, row.2),
         _ => Ok(()),
     }
 }
@@ -96,19 +103,30 @@ fn load(
             point_at(guest, register, text, label)
         }
         Arg::A(count) => point_at(guest, register, vec![in alloc; b'a'; count]?, label),
+        Arg::V(ranges) => point_at(guest, register, iovecs(alloc, ranges)?, label),
     }
 }
 
-// Loads the address of a text, which stands behind the three instructions that do so and jump over it.
+// The bytes of a list of `struct iovec`.
+fn iovecs(alloc: Global, ranges: &[(i64, i64)]) -> Result<Vec<u8>, NoMemory> {
+    let mut bytes = Vec::new(alloc);
+    for (address, length) in ranges {
+        bytes.extend_from_slice(&address.to_le_bytes())?;
+        bytes.extend_from_slice(&length.to_le_bytes())?;
+    }
+    Ok(bytes)
+}
+
+// Loads the address of bytes, which stand behind the three instructions that do so and jump over them.
 fn point_at(
     guest: &mut Guest,
     register: u8,
-    mut text: Vec<u8>,
+    mut bytes: Vec<u8>,
     label: u32,
 ) -> Result<(), NoMemory> {
     // A NUL, and then as many as make it a multiple of 4.
-    for _ in 0..4 - (text.len() & 3) {
-        text.push(0)?;
+    for _ in 0..4 - (bytes.len() & 3) {
+        bytes.push(0)?;
     }
     guest.ins(Instr::Auipc {
         rd: register,
@@ -120,7 +138,7 @@ fn point_at(
         imm: 12,
     })?;
     guest.jump(label)?;
-    guest.bytes(&text)?;
+    guest.bytes(&bytes)?;
     guest.label(label)
 }
 

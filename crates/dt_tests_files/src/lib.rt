@@ -9,6 +9,8 @@ mod report;
 #[cfg(test)]
 mod row;
 #[cfg(test)]
+mod run;
+#[cfg(test)]
 mod table;
 #[cfg(test)]
 mod tests;

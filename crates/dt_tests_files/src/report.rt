@@ -1,5 +1,5 @@
 // What a report shows of the calls of a table.
-use crate::row::{After, Row, Status};
+use crate::row::{After, Entry, Row, Status};
 use sha2::{Digest, Sha256};
 use std::alloc::{AllocError, Global};
 
@@ -42,7 +42,13 @@ fn add_shown(alloc: Global, text: &mut Vec<u8>, after: After) -> Result<(), Allo
             let bytes = stat(alloc, status)?;
             add_event(alloc, text, 1, &bytes)
         }
-        _ => Ok(()),
+        After::Lists(entries) => {
+            let bytes = dirents(alloc, entries)?;
+            add_event(alloc, text, 1, &bytes)
+        }
+        After::Fills(bytes) => add_event(alloc, text, 1, bytes),
+        After::Puts(stream, bytes) => add_event(alloc, text, stream, bytes),
+        After::Stays | After::Ticks => Ok(()),
     }
 }
 
@@ -58,6 +64,24 @@ fn add_event(
     text.extend_from_slice(bytes)?;
     text.push(b'\n')?;
     Ok(())
+}
+
+// Records of a directory, one behind the other.
+fn dirents(alloc: Global, entries: &[Entry]) -> Result<Vec<u8>, AllocError> {
+    let mut bytes = Vec::new(alloc);
+    for (inode, kind, name) in entries {
+        // As many zeros as end the record at a multiple of 8, and one at least. The fields before the name have 19 bytes.
+        let zeros = 8 - (name.len().wrapping_add(3) & 7);
+        let length = (name.len() & 0xff) + 19 + zeros;
+        bytes.extend_from_slice(&inode.to_le_bytes())?;
+        // d_off, which is not used.
+        bytes.extend_from_slice(&[0; 8])?;
+        bytes.extend_from_slice(&(length as u16).to_le_bytes())?;
+        bytes.push(*kind)?;
+        bytes.extend_from_slice(name.as_bytes())?;
+        bytes.extend_from_slice([0; 8].get(..zeros).unwrap_or(&[]))?;
+    }
+    Ok(bytes)
 }
 
 // The members of `struct stat` in order (asm-generic/stat.h). The times of access, modification and change are one.
@@ -83,9 +107,9 @@ fn stat(alloc: Global, status: Status) -> Result<Vec<u8>, AllocError> {
     Ok(bytes)
 }
 
-/// The line of the program, which has inode 3 and was not changed.
-pub fn program_line(alloc: Global, program: &[u8]) -> Result<String, AllocError> {
+/// The line of the program, which has this inode and was not changed.
+pub fn program_line(alloc: Global, inode: u64, program: &[u8]) -> Result<String, AllocError> {
     let size = program.len();
     let digest = hex::encode(alloc, Sha256::digest(program))?;
-    format!(in alloc; "file 3 0755 0 {size} {digest} /p\n")
+    format!(in alloc; "file {inode} 0755 0 {size} {digest} /p\n")
 }

@@ -9,9 +9,14 @@ pub enum Arg {
     T(&'static str),
     /// The address of so many letters `a` and a NUL.
     A(usize),
+    /// The address of a list of ranges, each with its address and its length (readv(2)).
+    V(&'static [(i64, i64)]),
 }
 
-/// The status of a node, as newfstatat(2) gives it: the inode, the type and the mode, the link count, the size in bytes,
+/// An entry of a directory, as getdents64(2) gives it: the inode, the type and the name.
+pub type Entry = (u64, u8, &'static str);
+
+/// The status of a node, as fstat(2) gives it: the inode, the type and the mode, the link count, the size in bytes,
 /// the sectors, and the stamp in nanoseconds.
 #[derive(Clone, Copy, Debug)]
 pub struct Status {
@@ -34,6 +39,12 @@ pub enum After {
     Shows(&'static str),
     /// It takes no time, and its buffer begins with this status.
     Tells(Status),
+    /// It takes no time, and its buffer begins with these bytes.
+    Fills(&'static [u8]),
+    /// It takes no time, and its buffer begins with these entries, which fill as many bytes as it answers.
+    Lists(&'static [Entry]),
+    /// It takes no time, and writes these bytes to this stream.
+    Puts(u8, &'static [u8]),
 }
 
 /// A call: its number, its arguments, its answer, and what else comes of it.

@@ -1,6 +1,6 @@
 -- What the calls that change a file tree make of it (mkdir(2), symlink(2), link(2), unlink(2), rename(2), chmod(2), write(2),
--- truncate(2)). A node goes with its last name and hold. What they give where a node or a name is missing nobody reads:
--- callers see to it that it is there.
+-- truncate(2)). A node goes with its last name and hold. Each change is of nodes and names that are there: its callers see
+-- to that.
 use Rattle.std.specs.Prelude.{ℕ, ◌+◌, ◌-◌, ◌==◌, not, ◌&&◌, Bool, List, Option, None, Some, unwrap_or, option_map, if◌then◌else◌}
 use Rattle.std.specs.Ordering.{nat_cmp}
 use Rattle.std.specs.FinMap.{FinMap, empty, get, insert, remove}

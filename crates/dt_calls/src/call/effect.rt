@@ -1,9 +1,10 @@
 // What a stop that is served does.
-ghost use Rattle.std.specs.Prelude.{◌≡◌, ◌-◌, ◌^◌, []};
+ghost use Rattle.std.specs.Prelude.{◌≡◌, ◌-◌, ◌^◌, [], ◌∷◌, length, IfOk, OnOk};
+ghost use Rattle.dt_base.specs.declared.event.Event.TheVariants.{Out};
 ghost use Rattle.dt_base.specs.Errno.{errno_number};
 ghost use Rattle.dt_rv64.specs.Effects.{answered};
 
-use dt_base::{End, Errno, Event};
+use dt_base::{Blob, End, Errno, Event, NoMemory};
 use dt_rv64::Machine;
 use std::alloc::Global;
 
@@ -54,5 +55,21 @@ impl Effect {
         ensures outcome { result.outcome ≡ Outcome.Done }
     {
         Effect::done(alloc, machine, u64::from(errno.number()).wrapping_neg())
+    }
+
+    /// The call is done: bytes go out on a stream, and their number is its answer.
+    pub fn puts_out(
+        alloc: Global,
+        machine: &mut Machine,
+        stream: u8,
+        bytes: Blob,
+    ) -> Result<Self, NoMemory>
+        ensures machine { OnOk result (machine.new ≡ answered machine.old (length bytes)) }
+        ensures events { IfOk result (λ e. e.events.items ≡ Out stream bytes ∷ []) }
+        ensures outcome { IfOk result (λ e. e.outcome ≡ Outcome.Done) }
+    {
+        let mut effect = Effect::done(alloc, machine, bytes.len() as u64);
+        effect.events.push(Event::Out(stream, bytes))?;
+        Ok(effect)
     }
 }

@@ -1,7 +1,8 @@
 // Calls on a process's memory.
 ghost use Rattle.std.specs.Prelude.{◌≡◌, IfOk};
 ghost use Rattle.dt_host.specs.World.{World};
-ghost use Rattle.dt_calls.specs.MemoryCalls.{answers, brk_call, munmap_call, mmap_call, mprotect_call};
+ghost use Rattle.dt_calls.specs.Effect.{answers};
+ghost use Rattle.dt_calls.specs.MemoryCalls.{brk_call, munmap_call, mmap_call, mprotect_call};
 ghost use Rattle.dt_calls.specs.InCode.{shared_of, effect_as};
 ghost use Rattle.dt_calls.specs.Sound.{IsSound};
 
@@ -27,8 +28,8 @@ pub fn brk(alloc: Global, shared: &mut Shared, machine: &mut Machine) -> Result<
 
 /// munmap(2)
 #[tactic(auto, unfolding(crate::specs::MemoryCalls::munmap_call))]
-pub fn munmap(alloc: Global, machine: &mut Machine) -> Effect
-    ensures { (c : _) → munmap_call c machine.old ≡ effect_as c machine.new result }
+pub fn munmap(alloc: Global, machine: &mut Machine) -> Result<Effect, NoMemory>
+    ensures { (c : _) → IfOk result (λ e. munmap_call c machine.old ≡ effect_as c machine.new e) }
 {
     let (address, len) = (machine.reg(A0), machine.reg(A1));
     let answer = dt_mcalls::munmap(&mut machine.space, address, len);
@@ -43,13 +44,13 @@ pub fn mmap(alloc: Global, machine: &mut Machine) -> Result<Effect, NoMemory>
     let (address, len) = (machine.reg(A0), machine.reg(A1));
     let (prot, flags) = (machine.reg(A2), machine.reg(A3));
     let answer = dt_mcalls::mmap(&mut machine.space, address, len, prot, flags)?;
-    Ok(answered(alloc, machine, MMAP, answer))
+    answered(alloc, machine, MMAP, answer)
 }
 
 /// mprotect(2)
 #[tactic(auto, unfolding(crate::specs::MemoryCalls::mprotect_call))]
-pub fn mprotect(alloc: Global, machine: &mut Machine) -> Effect
-    ensures { (c : _) → mprotect_call c machine.old ≡ effect_as c machine.new result }
+pub fn mprotect(alloc: Global, machine: &mut Machine) -> Result<Effect, NoMemory>
+    ensures { (c : _) → IfOk result (λ e. mprotect_call c machine.old ≡ effect_as c machine.new e) }
 {
     let (address, len, prot) = (machine.reg(A0), machine.reg(A1), machine.reg(A2));
     let answer = dt_mcalls::mprotect(&mut machine.space, address, len, prot);
@@ -57,12 +58,18 @@ pub fn mprotect(alloc: Global, machine: &mut Machine) -> Effect
 }
 
 /// Gives the answer of a call of this number.
-pub fn answered(alloc: Global, machine: &mut Machine, number: u64, answer: Answer) -> Effect
-    ensures { (c : _) → answers c machine.old number answer ≡ effect_as c machine.new result }
+pub fn answered(
+    alloc: Global,
+    machine: &mut Machine,
+    number: u64,
+    answer: Answer,
+) -> Result<Effect, NoMemory>
+    ensures { (c : _) → IfOk result (λ e. answers c machine.old number answer ≡ effect_as c machine.new e) }
 {
     match answer {
-        Answer::Value(value) => Effect::done(alloc, machine, value),
-        Answer::Refused(errno) => Effect::refused(alloc, machine, errno),
-        Answer::Unsupported => Effect::quiet(alloc, Outcome::Unsupported(number)),
+        Answer::Value(value) => Ok(Effect::done(alloc, machine, value)),
+        Answer::Refused(errno) => Ok(Effect::refused(alloc, machine, errno)),
+        Answer::Output(stream, bytes) => Effect::puts_out(alloc, machine, stream, bytes),
+        Answer::Unsupported => Ok(Effect::quiet(alloc, Outcome::Unsupported(number))),
     }
 }

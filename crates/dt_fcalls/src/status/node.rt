@@ -5,30 +5,23 @@ ghost use Rattle.dt_host.specs.World.{IsLive};
 ghost use Rattle.dt_tree.specs.Meta.{meta_of};
 ghost use Rattle.dt_tree.specs.Table.{shape_of, tree_of};
 ghost use Rattle.dt_walk.specs.Placed.{IsPlaceIn};
-ghost use Rattle.dt_fcalls.specs.Arguments.{argument, has, has_only};
+ghost use Rattle.dt_scene.specs.Arguments.{argument, has, has_only};
 ghost use Rattle.dt_fcalls.specs.Places.{place_at};
-ghost use Rattle.dt_fcalls.specs.Sound.{Sound, Serves, Ends, stage, scene};
-ghost use Rattle.dt_fcalls.specs.Status.{tells_status, is_of_dirfd, status_rule, newfstatat_row};
+ghost use Rattle.dt_scene.specs.Sound.{Sound, Serves, Ends, stage, scene};
+ghost use Rattle.dt_fcalls.specs.Status.{tells_status, tells_descriptor, is_of_dirfd, status_rule, fstat_row, newfstatat_row};
 
 use crate::arguments::text_argument;
-use crate::fs::Fs;
 use crate::places::{LastLink, place_at};
-use crate::stat::{STAT_FLAGS, stat_of};
-use crate::status::fill;
+use crate::stat::{STAT_FLAGS, stat_of, stream_stat};
 use dt_base::abi::{AT_EMPTY_PATH, AT_FDCWD, AT_SYMLINK_NOFOLLOW, low_word, signed_word};
 use dt_base::{Answer, Caller, Errno, NoMemory};
+use dt_fds::DescKind;
 use dt_host::{Host, HostErr};
+use dt_scene::{Fs, fill, has};
 use dt_space::Space;
 use dt_tree::Meta;
 use dt_walk::Place;
 use std::alloc::Global;
-
-// Whether all of a flag is among these.
-fn has(flags: u32, flag: u32) -> bool
-    ensures { result ≡ has flags flag }
-{
-    flags & flag == flag
-}
 
 // What becomes of a link that is the last name.
 fn status_rule(flags: u32) -> LastLink
@@ -102,9 +95,55 @@ fn tell_dirfd<H: Host>(
 {
     let _before = host.faults();
     if signed_word(args[0]) != AT_FDCWD {
-        return Ok(Answer::Refused(Errno::BadF));
+        return tell_descriptor(fs, host, caller, space, low_word(args[0]), args[2]);
     }
     tell_status(fs, host, caller, space, args[2], caller.cwd)
+}
+
+/// fstat(2): puts the 128 bytes of `struct stat` of what a descriptor refers to into a buffer, and answers 0. The errors
+/// are EBADF and EFAULT.
+#[tactic(auto, unfolding(crate::specs::Status::fstat_row), using(crate::proofs::Kept::in_other_words))]
+pub fn fstat<H: Host>(
+    fs: &Fs,
+    host: &mut H,
+    caller: &Caller,
+    space: &mut Space,
+    args: [u64; 6],
+) -> Result<Answer, HostErr>
+    requires { Sound (stage fs.now (H.view host.old) caller.now space.old) }
+    ensures { Serves fstat_row args (stage fs.now (H.view host.old) caller.now space.old)
+        (stage fs.now (H.view host.new) caller.now space.new) result
+        (H.count host.old) (H.count host.new) }
+{
+    tell_descriptor(fs, host, caller, space, low_word(args[0]), args[1])
+}
+
+// Tells the status of what a descriptor refers to.
+#[tactic(auto, unfolding(crate::specs::Status::tells_descriptor), using(crate::proofs::Kept::in_other_words, crate::proofs::Described::is_there))]
+fn tell_descriptor<H: Host>(
+    fs: &Fs,
+    host: &mut H,
+    caller: &Caller,
+    space: &mut Space,
+    fd: u32,
+    buffer: u64,
+) -> Result<Answer, HostErr>
+    requires { Sound (stage fs.now (H.view host.old) caller.now space.old) }
+    ensures { Ends (tells_descriptor fd buffer)
+        (stage fs.now (H.view host.old) caller.now space.old)
+        (stage fs.now (H.view host.new) caller.now space.new) result
+        (H.count host.old) (H.count host.new) }
+{
+    let _before = host.faults();
+    let Some(desc) = fs.files.look(caller.vpid, fd) else {
+        return Ok(Answer::Refused(Errno::BadF));
+    };
+    match desc.kind {
+        DescKind::File(n) | DescKind::Dir(n) => tell_status(fs, host, caller, space, buffer, n),
+        DescKind::Input | DescKind::Stream(_) => {
+            fill(fs, host, caller, space, buffer, &stream_stat(), 0)
+        }
+    }
 }
 
 // Tells the status of the node at the place of a path.

@@ -18,6 +18,14 @@ pub const EISDIR: i64 = -21;
 
 pub const EINVAL: i64 = -22;
 
+pub const EMFILE: i64 = -24;
+
+pub const ENOTTY: i64 = -25;
+
+pub const EFBIG: i64 = -27;
+
+pub const ESPIPE: i64 = -29;
+
 pub const ERANGE: i64 = -34;
 
 pub const ENAMETOOLONG: i64 = -36;

@@ -1,4 +1,4 @@
-use Rattle.std.proofs.Common.{◌≡◌, None, sym, ap, ◌∙◌}
+use Rattle.std.proofs.Common.{◌≡◌, sym, ap, ◌∙◌}
 use Rattle.dt_calls.specs.InCode.{shared_of}
 use Rattle.dt_calls.proofs.Processes.{served-keeps}
 use Rattle.dt_calls.proofs.container.Container.serve.Goals as goal

@@ -1,0 +1,38 @@
+use Rattle.std.proofs.Common.{ℕ, Ok, Err, sym, subst, arith}
+use Rattle.dt_base.specs.declared.answer.Answer.TheVariants.{Value}
+use Rattle.dt_fds.specs.Backs.{IsBacked, KeepsOthers as KeepsHolds, Does, at, holding as held_at}
+use Rattle.dt_fds.specs.Holding.{add_call}
+use Rattle.dt_host.specs.declared.error.CallErr.{CallErr}
+use Rattle.dt_scene.specs.Scene.{holding, by_outcome}
+use Rattle.dt_scene.specs.Sound.{Reaches, stage, scene}
+use Rattle.dt_scene.proofs.Kept.{reaches_held, reaches_same}
+use Rattle.dt_tree.specs.Calls.{UnlessFailed}
+use Rattle.dt_fcalls.specs.Open.{opens}
+use Rattle.dt_fcalls.proofs.open.open_desc.Goals as goal
+
+pub returns-in-Ok : goal.returns-in-Ok
+returns-in-Ok g c =
+    let w = g.H.Host.view c.args.host.now in
+    let old = stage c.args.fs.now w c.args.caller.now c.args.space.now in
+    let new = stage (record c.args.fs.now { tree = c.add.new.tree; files = c.add.new.self }) w c.args.caller.now c.args.space.now in
+    let s = scene old in
+    let count = g.H.Host.count c.args.host.now in
+    subst (λ fd. Reaches (opens c.args.flags c.args.desc s) old new (Ok (Value fd)) count count) (sym c.from.ensures)
+    (reaches_same _ _ _ _ _ _ _ (λ i. by_outcome (λ fd. fd) s (add_call c.args.caller.now.vpid c.args.desc (sym c.has.ensures i) (holding s)))
+    (reaches_held (λ fd. fd) _ c.args.fs.now c.add.new.tree c.add.new.self w w c.args.caller.now c.args.space.now (Ok c.in-Ok.fd) _ _
+    c.requires.sound c.in-Ok.ensures.backed c.in-Ok.ensures.others (omega arith) c.in-Ok.ensures.made))
+
+pub returns-in-Err-Errno : goal.returns-in-Err-Errno
+returns-in-Err-Errno g c =
+    let w = g.H.Host.view c.args.host.now in
+    let old = stage c.args.fs.now w c.args.caller.now c.args.space.now in
+    let s = scene old in
+    let new = at c.add.new.self c.add.new.tree w in
+    let same = c.in-Err-Errno.field-0-is in
+    reaches_same _ _ _ _ _ _ _ (λ i. by_outcome (λ fd. fd) s (add_call c.args.caller.now.vpid c.args.desc (sym c.has.ensures i) (holding s)))
+    (reaches_held (λ fd. fd) _ c.args.fs.now c.add.new.tree c.add.new.self w w c.args.caller.now c.args.space.now (Err c.in-Err-Errno.errno) _ _
+    c.requires.sound
+    (subst (λ (e : CallErr). UnlessFailed {A = ℕ} (Err e) (IsBacked new)) same c.in-Err-Errno.ensures.backed)
+    (subst (λ (e : CallErr). UnlessFailed {A = ℕ} (Err e) (KeepsHolds (holding s) (held_at new))) same c.in-Err-Errno.ensures.others)
+    (omega arith)
+    (subst (λ (e : CallErr). Does {A = ℕ} (Err e) (held_at new) (add_call c.args.caller.now.vpid c.args.desc c.has.result (holding s))) same c.in-Err-Errno.ensures.made))

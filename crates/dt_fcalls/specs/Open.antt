@@ -1,0 +1,146 @@
+-- The call that opens files and directories: openat(2).
+use Rattle.std.specs.Prelude.{ℕ, ◌==◌, ◌&&◌, ◌||◌, Bool, not, List, [], Option, None, Some, Result, Ok, Err, bit_and, if◌then◌else◌}
+use Rattle.std.specs.Option.{is_none}
+use Rattle.dt_base.specs.Abi.{low_word}
+use Rattle.dt_base.specs.declared.abi.TheConstants.{O_ACCMODE, O_CREAT, O_EXCL, O_TRUNC, O_APPEND, O_NONBLOCK, O_DIRECTORY, O_NOFOLLOW, O_CLOEXEC}
+use Rattle.dt_base.specs.declared.errno.Errno.{Errno}
+use Rattle.dt_base.specs.declared.errno.Errno.TheVariants.{NoEnt, Exist, NotDir, IsDir, Inval, MFile, Loop}
+use Rattle.dt_base.specs.declared.image.What.TheVariants as what
+use Rattle.dt_base.specs.declared.limits.TheConstants.{MODE_LIMIT}
+use Rattle.dt_fds.specs.declared.desc.Desc.{Desc}
+use Rattle.dt_fds.specs.declared.desc.DescKind.{DescKind}
+use Rattle.dt_fds.specs.declared.desc.DescKind.TheVariants.{File, Dir}
+use Rattle.dt_fds.specs.declared.desc.Spot.{Spot}
+use Rattle.dt_fds.specs.declared.desc.Spot.TheVariants.{At, After}
+use Rattle.dt_fds.specs.Descriptions.{table_of, lowest_free}
+use Rattle.dt_fds.specs.Holding.{add_call}
+use Rattle.dt_host.specs.World.{Forest}
+use Rattle.dt_tree.specs.Calls.{Done, make_node_of, cut_of}
+use Rattle.dt_tree.specs.FileTree.{FileTree}
+use Rattle.dt_tree.specs.Shape.{is_dir, is_link}
+use Rattle.dt_walk.specs.declared.place.Place.{Place}
+use Rattle.dt_fcalls.specs.declared.open.TheConstants.{OPEN_FLAGS}
+use Rattle.dt_fcalls.specs.declared.places.LastLink.{LastLink}
+use Rattle.dt_fcalls.specs.declared.places.LastLink.TheVariants.{Follow, Keep, KeepWithoutSlash}
+use Rattle.dt_fcalls.specs.Arguments.{path_argument, start_of}
+use Rattle.dt_fcalls.specs.Names.{masked, on_text, unless_refused}
+use Rattle.dt_fcalls.specs.Places.{place_from, on_place}
+use Rattle.dt_scene.specs.Arguments.{argument, has_only, has}
+use Rattle.dt_scene.specs.Scene.{Scene, Row, refused, unsupported, stamp, changed_to, holding, by_outcome}
+
+-- the access mode: 0 to read, 1 to write, 2 for both
+abbrev pub access_of : ℕ → ℕ
+access_of flags = bit_and flags O_ACCMODE
+
+-- only a new file is opened
+abbrev pub is_exclusive : ℕ → Bool
+is_exclusive flags = has flags O_CREAT && has flags O_EXCL
+
+-- whether a link that is the last name is followed
+abbrev pub open_rule : ℕ → LastLink
+open_rule flags = if is_exclusive flags then Keep else if has flags O_NOFOLLOW then KeepWithoutSlash else Follow
+
+-- a description as these flags ask for it
+abbrev pub desc_of : DescKind → Spot → ℕ → Desc
+desc_of kind spot flags = record {
+  kind = kind;
+  spot = spot;
+  access = access_of flags;
+  append = has flags O_APPEND;
+  nonblock = has flags O_NONBLOCK;
+}
+
+-- a file is opened at its start
+abbrev pub file_desc : ℕ → ℕ → Desc
+file_desc flags n = desc_of (File n) (At 0) flags
+
+-- a directory is opened at the start of its listing
+abbrev pub dir_desc : ℕ → ℕ → Desc
+dir_desc flags n = desc_of (Dir n) (After None) flags
+
+-- a description is opened under the lowest free descriptor, which is the answer
+abbrev pub opens : ℕ → Desc → Scene → Row
+opens flags desc s = by_outcome (λ fd. fd) s (add_call s.caller.vpid desc (has flags O_CLOEXEC) (holding s))
+
+-- what follows on a call of the tree that is done, once its time has passed
+abbrev pub by_changed : {A : Type 0} → Scene → Result A Errno → FileTree → (A → Scene → Row) → Row
+by_changed s (Err errno) t row = refused s errno
+by_changed s (Ok value) t row = row value (changed_to t s)
+
+-- the same, of what that call answers and leaves
+abbrev pub on_done : {A : Type 0} → Scene → Done A → (A → Scene → Row) → Row
+on_done s d row = by_changed s d.answer d.tree row
+
+-- a file is made at a place, with this mode
+abbrev pub makes_file : ℕ → Place → Scene → Done ℕ
+makes_file mode place s = make_node_of s.tree place.parent place.name (what.File []) mode (stamp s)
+
+-- a file is made at a place, and opened
+abbrev pub creates : ℕ → ℕ → Place → Scene → Row
+creates flags mode place s =
+    on_done s (makes_file (masked (bit_and mode MODE_LIMIT) s.caller.umask) place s)
+    (λ n next. opens flags (file_desc flags n) next)
+
+-- nothing is there: ENOENT without O_CREAT, EISDIR where the path ends in a slash, or that of a link at its end does
+abbrev pub opens_missing : ℕ → ℕ → Place → Scene → Row
+opens_missing flags mode place s =
+    if not (has flags O_CREAT) then refused s NoEnt
+    else if place.slash then refused s IsDir
+    else creates flags mode place s
+
+-- why a node is not opened, if so: EEXIST where only a new file is; ELOOP for a link; EISDIR for a directory that is to be
+-- written, made or cut; ENOTDIR for a file where only a directory is
+abbrev pub open_refusal : Forest → ℕ → ℕ → Option Errno
+open_refusal v flags n =
+    if is_exclusive flags then Some Exist
+    else if is_link v n then Some Loop
+    else if is_dir v n && (not (access_of flags == 0) || has flags O_CREAT || has flags O_TRUNC) then Some IsDir
+    else if not (is_dir v n) && has flags O_DIRECTORY then Some NotDir
+    else None
+
+-- a file is cut to no bytes
+abbrev pub cuts_file : ℕ → Scene → Done (Unit {0})
+cuts_file n s = cut_of s.tree n 0 (stamp s)
+
+-- a file is cut to no bytes, and opened
+abbrev pub cuts : ℕ → ℕ → Scene → Row
+cuts flags n s = on_done s (cuts_file n s) (λ done next. opens flags (file_desc flags n) next)
+
+-- a node that may be opened is
+abbrev pub opens_node : ℕ → ℕ → Scene → Row
+opens_node flags n s =
+    if is_dir s.tree.shape n then opens flags (dir_desc flags n) s
+    else if has flags O_TRUNC then cuts flags n s
+    else opens flags (file_desc flags n) s
+
+-- a node is opened, unless there is a reason not to
+abbrev pub opens_found : ℕ → ℕ → Scene → Row
+opens_found flags n s = unless_refused s (open_refusal s.tree.shape flags n) (opens_node flags n s)
+
+-- what stands at a place is opened, or made
+abbrev pub opens_at : ℕ → ℕ → Place → Option ℕ → Scene → Row
+opens_at flags mode place None s = opens_missing flags mode place s
+opens_at flags mode place (Some n) s = opens_found flags n s
+
+-- no descriptor is free
+abbrev pub is_full : Scene → Bool
+is_full s = is_none (lowest_free (table_of s.files s.caller.vpid) 0)
+
+-- the place of a path that is to be opened
+unfoldable pub place_of_path : Scene → ℕ → ℕ → List ℕ → Result Place Errno
+place_of_path s dirfd flags path = place_from s (open_rule flags) path (start_of s dirfd path)
+
+-- a path that was read is opened: EMFILE before anything is looked up
+unfoldable pub opens_path : ℕ → ℕ → ℕ → List ℕ → Scene → Row
+opens_path dirfd flags mode path s =
+    if is_full s then refused s MFile
+    else on_place s (place_of_path s dirfd flags path) (λ place. opens_at flags mode place place.node s)
+
+-- openat(2): flags that are not known, and an access mode of 3, are not supported
+unfoldable pub openat_row : List ℕ → Scene → Row
+openat_row args s =
+    let flags = low_word (argument args 2) in
+    if not (has_only flags OPEN_FLAGS) || (access_of flags == O_ACCMODE) then unsupported s
+    else if has flags O_CREAT && has flags O_DIRECTORY then refused s Inval
+    else on_text s (path_argument s.space (argument args 1))
+    (λ path. opens_path (argument args 0) flags (low_word (argument args 3)) path s)

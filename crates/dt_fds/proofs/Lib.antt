@@ -1,0 +1,4 @@
+pub mod Counting
+pub mod Slots
+pub mod Backing
+pub mod Starting

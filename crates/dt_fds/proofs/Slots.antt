@@ -1,0 +1,99 @@
+-- The slots of a table after a change of one.
+use Rattle.std.proofs.Common.{arith, ◌≡◌, ◌≢◌, ℕ, zero, suc, ◌+◌, drop, ◌<◌, ◌==◌, true, false, cond, [], ◌∷◌, Option, None, Some, refl, sym, ap, ◌∙◌}
+use Rattle.std.proofs.Common.{inl, inr}
+use Rattle.std.proofs.lemmas.Bool.{cases_eq}
+use Rattle.std.specs.Prelude.{slice_set, slice_get, get_or, unwrap_or, IfSome, option_map}
+use Rattle.std.specs.Option.{option_flatten, is_none}
+use Rattle.std.specs.List.{position}
+use Rattle.std.proofs.lemmas.List.Quantifiers.{position-Some}
+use Rattle.std.specs.Cmp.{nat_cmp_total}
+use Rattle.std.specs.FinMap.{remove, nat_cmp-IsAntisymmetric}
+use Rattle.std.proofs.lemmas.Option.{unwrap_or-slice_get}
+use Rattle.std.proofs.lemmas.List.{get_or-set_other, get_or-drop}
+use Rattle.dt_host.proofs.Maps.{get-insert_same}
+use Rattle.dt_fds.specs.declared.desc.Slot.{Slot}
+use Rattle.dt_fds.specs.Holding.{Holding, without, closed_below}
+use Rattle.dt_fds.specs.Descriptions.{Descriptions, Table, table_of, slot_at, descriptors_of, lowest_free, with_slot, swept, freed}
+
+flat : {X : Type 0} (found : Option (Option X)) → option_flatten found ≡ unwrap_or found None
+flat None = refl
+flat (Some found) = refl
+
+slot_is : (f : Descriptions) (p fd : ℕ) → slot_at f p fd ≡ get_or (table_of f p) fd None
+unfolding slot_at
+slot_is f p fd = flat (slice_get (table_of f p) fd) ∙ unwrap_or-slice_get (table_of f p) fd None
+
+cut : (table : Table) (fd : ℕ) → get_or (slice_set table fd None) fd None ≡ None
+cut [] fd = refl
+cut (x ∷ table) zero = refl
+cut (x ∷ table) (suc fd) = cut table fd
+
+table_placed : (f : Descriptions) (p fd : ℕ) (slot : Option Slot) → table_of (with_slot f p fd slot) p ≡ slice_set (table_of f p) fd slot
+unfolding with_slot
+table_placed f p fd slot = ap (λ found. unwrap_or found []) (get-insert_same nat_cmp_total nat_cmp-IsAntisymmetric f.tables p (slice_set (table_of f p) fd slot))
+
+table_freed : (f : Descriptions) (p fd k : ℕ) → table_of (freed f p fd k) p ≡ slice_set (table_of f p) fd None
+unfolding freed swept
+table_freed f p fd k = elim (descriptors_of (with_slot f p fd None) k == 0) as (λ b. table_of (cond b (record (with_slot f p fd None) { descs = remove (with_slot f p fd None).descs k }) (with_slot f p fd None)) p ≡ slice_set (table_of f p) fd None) [
+  | true ↦ table_placed f p fd None
+  | false ↦ table_placed f p fd None
+]
+
+-- that descriptor is free then
+pub slot-freed : (f : Descriptions) (p fd k : ℕ) → slot_at (freed f p fd k) p fd ≡ None
+slot-freed f p fd k = slot_is (freed f p fd k) p fd ∙ ap (λ t. get_or t fd None) (table_freed f p fd k) ∙ cut (table_of f p) fd
+
+-- and the others stay
+pub slot-freed_other : (f : Descriptions) (p fd k q : ℕ) → q ≢ fd → slot_at (freed f p fd k) p q ≡ slot_at f p q
+slot-freed_other f p fd k q apart =
+    slot_is (freed f p fd k) p q ∙ ap (λ t. get_or t q None) (table_freed f p fd k) ∙ get_or-set_other (table_of f p) fd q None None apart ∙ sym (slot_is f p q)
+
+pub slot-without : (h : Holding) (p fd : ℕ) → slot_at (without h p fd (slot_at h.files p fd)).files p fd ≡ None
+slot-without h p fd = by_found (slot_at h.files p fd) refl
+  where
+    by_found : (found : Option Slot) → slot_at h.files p fd ≡ found → slot_at (without h p fd found).files p fd ≡ None
+    by_found None e = e
+    by_found (Some slot) e = slot-freed h.files p fd slot.number
+
+pub slot-without_other : (h : Holding) (p fd q : ℕ) (found : Option Slot) → q ≢ fd → slot_at (without h p fd found).files p q ≡ slot_at h.files p q
+slot-without_other h p fd q None apart = refl
+slot-without_other h p fd q (Some slot) apart = slot-freed_other h.files p fd slot.number q apart
+
+none_is : {X : Type 0} (found : Option X) → is_none found ≡ true → found ≡ None
+none_is None e = refl
+none_is (Some x) e = cc
+
+-- the lowest free descriptor is free
+pub free-slot : (table : Table) (from : ℕ) → IfSome (lowest_free table from) (λ fd. get_or table fd None ≡ None)
+unfolding lowest_free
+free-slot table from = by_found (position is_none (drop from table)) refl
+  where
+    by_found : (found : Option ℕ) → position is_none (drop from table) ≡ found → IfSome (option_map (λ i. from + i) found) (λ fd. get_or table fd None ≡ None)
+    by_found None e = tt
+    by_found (Some i) e = sym (get_or-drop from table i None) ∙ none_is _ ((position-Some is_none (drop from table) i None e).1)
+
+pub free-slot_at : (f : Descriptions) (p from : ℕ) → IfSome (lowest_free (table_of f p) from) (λ fd. slot_at f p fd ≡ None)
+free-slot_at f p from = by_found (lowest_free (table_of f p) from) (free-slot (table_of f p) from)
+  where
+    by_found : (found : Option ℕ) → IfSome found (λ fd. get_or (table_of f p) fd None ≡ None) → IfSome found (λ fd. slot_at f p fd ≡ None)
+    by_found None h = tt
+    by_found (Some fd) h = slot_is f p fd ∙ h
+
+-- one more descriptor is closed
+pub closed-next : (p fd : ℕ) (h a b : Holding) → a ≡ closed_below p fd h → b ≡ without a p fd (slot_at a.files p fd) → b ≡ closed_below p (fd + 1) h
+unfolding closed_below
+closed-next p fd h a b same next =
+    let more : suc fd ≡ fd + 1 = omega arith in
+    next ∙ ap (λ h. without h p fd (slot_at h.files p fd)) same ∙ ap (λ n. closed_below p n h) more
+
+still_free : (p count : ℕ) (h : Holding) (fd : ℕ) → (fd < count → slot_at h.files p fd ≡ None) → fd < suc count → slot_at (without h p count (slot_at h.files p count)).files p fd ≡ None
+still_free p count h fd before less = elim (cases_eq fd count) [
+  | inl same ↦ ap (slot_at (without h p count (slot_at h.files p count)).files p) same ∙ slot-without h p count
+  | inr apart ↦ slot-without_other h p count fd (slot_at h.files p count) apart ∙ before (omega arith)
+]
+
+-- what is closed is free
+pub slot-closed : (p count : ℕ) (h : Holding) (fd : ℕ) → fd < count → (let left = closed_below p count h in slot_at left.files p fd ≡ None)
+unfolding closed_below
+slot-closed p zero h fd less = absurd (omega arith)
+slot-closed p (suc count) h fd less = still_free p count (closed_below p count h) fd (λ below. slot-closed p count h fd below) less

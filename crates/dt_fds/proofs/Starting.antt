@@ -1,0 +1,94 @@
+-- The open files of a first process.
+use Rattle.std.proofs.Common.{arith, ◌≡◌, ℕ, zero, suc, ◌<◌, length, Option, None, Some, refl, sym, ap, subst, ◌∙◌}
+use Rattle.std.specs.Prelude.{unwrap_or, is_some, IfSome, replicate}
+use Rattle.std.specs.List.{sum_by}
+use Rattle.std.specs.Ordering.{nat_cmp}
+use Rattle.std.specs.Cmp.{nat_cmp_total}
+use Rattle.std.specs.FinMap.{empty, insert, get-empty, nat_cmp-IsAntisymmetric}
+use Rattle.dt_host.proofs.Maps.{at_insert}
+use Rattle.dt_host.proofs.Totals.{total-insert, total-empty}
+use Rattle.dt_host.specs.Total.{weight}
+use Rattle.dt_host.specs.World.{Forest}
+use Rattle.dt_fds.specs.declared.desc.TheConstants.{DESCRIPTOR_LIMIT}
+use Rattle.dt_fds.specs.declared.desc.Desc.{Desc}
+use Rattle.dt_fds.specs.declared.desc.Slot.{Slot}
+use Rattle.dt_fds.specs.declared.desc.DescKind.TheVariants.{Input, Stream}
+use Rattle.dt_fds.specs.Descriptions.{Descriptions, IsDesc, Table, refers, inode_of, first_desc, table_of, lowest_free, with_slot, with_new, none_open, opened_at, opened_lowest, first_files}
+use Rattle.dt_fds.specs.Backs.{named_by, descriptions_of, IsIn, AllIn}
+use Rattle.dt_fds.specs.inner.Counts.{Counts}
+
+refers-free : (n k : ℕ) → sum_by (refers k) (replicate n None) ≡ 0
+refers-free zero k = refl
+refers-free (suc n) k = let rest = refers-free n k in omega arith
+
+-- a slot that is free
+abbrev free_slot : Option Slot
+free_slot = None
+
+free-length : (n : ℕ) → length (replicate n free_slot) ≡ n
+free-length zero = refl
+free-length (suc n) = let rest = free-length n in omega arith
+
+-- a process begins with nothing open
+pub counts-none : (p : ℕ) → Counts empty empty (insert empty p (replicate DESCRIPTOR_LIMIT None)) 1
+counts-none p = record {
+  counted = λ k.
+      let sum = total-insert nat_cmp_total (sum_by (refers k)) empty p (replicate DESCRIPTOR_LIMIT None) in
+      let start = total-empty nat_cmp_total (sum_by (refers k)) in
+      let none = refers-free DESCRIPTOR_LIMIT k in
+      let here = ap (weight (sum_by (refers k))) (get-empty nat_cmp p) in
+      let count = ap (λ (found : Option ℕ). unwrap_or found 0) (get-empty nat_cmp k) in
+      omega arith;
+  alive = λ k. subst (λ (found : Option ℕ). IfSome found (λ count. 0 < count)) (sym (get-empty nat_cmp k)) tt;
+  same = λ k. ap is_some (get-empty {X = ℕ} nat_cmp k) ∙ sym (ap is_some (get-empty {X = Desc} nat_cmp k));
+  good = λ k. subst (λ (found : Option Desc). IfSome found IsDesc) (sym (get-empty nat_cmp k)) tt;
+  fresh = λ k is. let none = ap is_some (get-empty {X = Desc} nat_cmp k) in cc;
+  sized = λ q. at_insert nat_cmp_total nat_cmp-IsAntisymmetric (λ found. IfSome found (λ table. length table ≡ DESCRIPTOR_LIMIT)) empty p _ q
+      (λ is. free-length DESCRIPTOR_LIMIT)
+      (λ apart. subst (λ (found : Option Table). IfSome found (λ table. length table ≡ DESCRIPTOR_LIMIT)) (sym (get-empty nat_cmp q)) tt);
+}
+
+-- no description is of a node
+abbrev pub OfNone : Descriptions → Type 0
+OfNone f = (n : ℕ) → descriptions_of f n ≡ 0
+
+nodes-none : (p : ℕ) → OfNone (none_open p)
+unfolding descriptions_of
+nodes-none p = λ n. total-empty nat_cmp_total (λ desc. named_by n (inode_of desc.kind))
+
+-- one of no node more
+nodes-lowest : (p : ℕ) (desc : Desc) (f : Descriptions) → inode_of desc.kind ≡ None → OfNone f → OfNone (opened_lowest p desc f)
+unfolding opened_lowest with_slot with_new descriptions_of
+nodes-lowest p desc f of_none h n = by_place (lowest_free (table_of f p) 0)
+  where
+    by_place : (place : Option ℕ) → descriptions_of (opened_at f p desc place) n ≡ 0
+    by_place None = h n
+    by_place (Some fd) =
+        let sum = total-insert nat_cmp_total (λ (desc : Desc). named_by n (inode_of desc.kind)) f.descs f.next desc in
+        let none = ap (named_by n) of_none in
+        omega (arith, h n)
+
+pub nodes-first_files : (p : ℕ) → OfNone (first_files p)
+unfolding first_files
+nodes-first_files p = nodes-lowest p _ _ refl (nodes-lowest p _ _ refl (nodes-lowest p _ _ refl (nodes-none p)))
+
+in-none : (v : Forest) (p : ℕ) → AllIn v (none_open p)
+in-none v p k = subst (λ (found : Option Desc). IfSome found (λ desc. IsIn v desc.kind)) (sym (get-empty nat_cmp k)) tt
+
+in-lowest : (v : Forest) (p : ℕ) (desc : Desc) (f : Descriptions) → IsIn v desc.kind → AllIn v f → AllIn v (opened_lowest p desc f)
+unfolding opened_lowest with_slot with_new
+in-lowest v p desc f is h = by_place (lowest_free (table_of f p) 0)
+  where
+    by_place : (place : Option ℕ) → AllIn v (opened_at f p desc place)
+    by_place None = h
+    by_place (Some fd) = λ k. at_insert nat_cmp_total nat_cmp-IsAntisymmetric (λ found. IfSome found (λ desc. IsIn v desc.kind)) f.descs f.next desc k (λ _. is) (λ apart. h k)
+
+pub in-first_files : (v : Forest) (p : ℕ) → AllIn v (first_files p)
+unfolding first_files
+in-first_files v p = in-lowest v p _ _ tt (in-lowest v p _ _ tt (in-lowest v p _ _ tt (in-none v p)))
+
+-- the descriptors are opened one after the other
+pub first_files-opened : (p : ℕ) (f0 f1 f2 f3 : Descriptions) (a b c : Desc) → f0 ≡ none_open p → a ≡ first_desc Input 0 → f1 ≡ opened_lowest p a f0 → b ≡ first_desc (Stream 1) 1 → f2 ≡ opened_lowest p b f1
+    → c ≡ first_desc (Stream 2) 1 → f3 ≡ opened_lowest p c f2 → f3 ≡ first_files p
+unfolding first_files
+first_files-opened p f0 f1 f2 f3 a b c none is_a first is_b second is_c third = cc

@@ -1,0 +1,170 @@
+-- Open file descriptions, and the tables of descriptors that refer to them (open(2), dup(2), close(2), fcntl(2)).
+use Rattle.std.specs.Prelude.{◌≡◌, ℕ, ◌+◌, ◌≤◌, ◌==◌, Bool, true, false, if◌then◌else◌, List, [], drop, replicate, Option, None, Some, option_map, slice_get, slice_set, unwrap_or}
+use Rattle.std.specs.Option.{is_none, option_flatten, option_and_then}
+use Rattle.std.specs.List.{position, sum_by}
+use Rattle.std.specs.Ordering.{nat_cmp}
+use Rattle.std.specs.FinMap.{FinMap, empty, get, insert, remove}
+use Rattle.dt_host.specs.Total.{total}
+use Rattle.dt_tree.specs.Changes.{put_back}
+use Rattle.dt_tree.specs.Shape.{one_for}
+use Rattle.dt_fds.specs.declared.desc.TheConstants.{DESCRIPTOR_LIMIT}
+use Rattle.dt_fds.specs.declared.desc.Desc.{Desc}
+use Rattle.dt_fds.specs.declared.desc.DescKind.{DescKind}
+use Rattle.dt_fds.specs.declared.desc.DescKind.TheVariants.{File, Dir, Input, Stream}
+use Rattle.dt_fds.specs.declared.desc.Spot.{Spot}
+use Rattle.dt_fds.specs.declared.desc.Spot.TheVariants.{At, After}
+use Rattle.dt_fds.specs.declared.desc.Slot.{Slot}
+
+-- the inode of a description, if it is of a file or a directory
+abbrev pub inode_of : DescKind → Option ℕ
+inode_of (File n) = Some n
+inode_of (Dir n) = Some n
+inode_of Input = None
+inode_of (Stream stream) = None
+
+-- it is of a directory
+abbrev pub is_of_dir : DescKind → Bool
+is_of_dir (File n) = false
+is_of_dir (Dir n) = true
+is_of_dir Input = false
+is_of_dir (Stream stream) = false
+
+-- the place is one of a listing, and no offset
+abbrev pub is_after : Spot → Bool
+is_after (At offset) = false
+is_after (After name) = true
+
+-- an output stream is 1 or 2
+abbrev pub IsKind : DescKind → Type 0
+IsKind (File n) = Unit {0}
+IsKind (Dir n) = Unit {0}
+IsKind Input = Unit {0}
+IsKind (Stream stream) = (1 ≤ stream) × (stream ≤ 2)
+
+-- a description: its stream is 1 or 2, if it is of one; its place is a name of a listing exactly if it is of a directory; and
+-- its access is 0, 1 or 2
+pub record IsDesc (desc : Desc) : Type 0 where
+  pub kind : IsKind desc.kind
+  pub place : is_after desc.spot ≡ is_of_dir desc.kind
+  pub access : desc.access ≤ 2
+
+-- a table of descriptors: at the index of each its slot, or nothing where it is free
+abbrev pub Table : Type 0
+Table = List (Option Slot)
+
+-- the open descriptions by number, the table of each process by its pid, and the number of the next new description
+pub record Descriptions : Type 0 where
+  pub descs : FinMap nat_cmp Desc
+  pub tables : FinMap nat_cmp Table
+  pub next : ℕ
+
+-- the table of a process; one that is not there has no descriptors
+abbrev pub table_of : Descriptions → ℕ → Table
+table_of f p = unwrap_or (get f.tables p) []
+
+-- the slot of a descriptor, if it is open
+unfoldable pub slot_at : Descriptions → ℕ → ℕ → Option Slot
+slot_at f p fd = option_flatten (slice_get (table_of f p) fd)
+
+-- the description that a slot refers to
+abbrev pub desc_of : Descriptions → Slot → Option Desc
+desc_of f slot = get f.descs slot.number
+
+-- the description that a descriptor refers to, if it is open
+unfoldable pub description_at : Descriptions → ℕ → ℕ → Option Desc
+description_at f p fd = option_and_then (desc_of f) (slot_at f p fd)
+
+-- the lowest free descriptor from a given one on
+unfoldable pub lowest_free : Table → ℕ → Option ℕ
+lowest_free table from = option_map (λ i. from + i) (position is_none (drop from table))
+
+-- how often a slot refers to a description
+abbrev pub refers : ℕ → Option Slot → ℕ
+refers k None = 0
+refers k (Some slot) = one_for slot.number k
+
+-- how many descriptors refer to a description, in all tables
+unfoldable pub descriptors_of : Descriptions → ℕ → ℕ
+descriptors_of f k = total (sum_by (refers k)) f.tables
+
+-- with this at a descriptor of a process
+unfoldable pub with_slot : Descriptions → ℕ → ℕ → Option Slot → Descriptions
+with_slot f p fd slot = record f { tables = insert f.tables p (slice_set (table_of f p) fd slot) }
+
+-- with a new description, under the next number
+unfoldable pub with_new : Descriptions → Desc → Descriptions
+with_new f desc = record f { descs = insert f.descs f.next desc; next = f.next + 1 }
+
+-- a new description, to which a descriptor refers
+abbrev pub opened : Descriptions → ℕ → ℕ → Desc → Bool → Descriptions
+opened f p fd desc cloexec =
+    with_slot (with_new f desc) p fd (Some (record { number = f.next; cloexec = cloexec }))
+
+-- a descriptor refers to what that slot refers to
+abbrev pub duplicated : Descriptions → ℕ → ℕ → Slot → Bool → Descriptions
+duplicated f p fd slot cloexec = with_slot f p fd (Some (record { number = slot.number; cloexec = cloexec }))
+
+-- a description goes where no descriptor refers to it
+unfoldable pub swept : Descriptions → ℕ → Descriptions
+swept f k = if descriptors_of f k == 0 then record f { descs = remove f.descs k } else f
+
+-- that description, where it goes
+unfoldable pub gone : Descriptions → ℕ → Option Desc
+gone f k = if descriptors_of f k == 0 then get f.descs k else None
+
+-- a descriptor, which referred to that description, is free, and the description goes if it was the last
+unfoldable pub freed : Descriptions → ℕ → ℕ → ℕ → Descriptions
+freed f p fd k = swept (with_slot f p fd None) k
+
+-- another value for a description
+unfoldable pub with_description : Descriptions → ℕ → (Desc → Desc) → Descriptions
+with_description f k change = record f { descs = put_back f.descs k (option_map change (get f.descs k)) }
+
+-- the same for what a slot refers to, if there is one
+abbrev pub changed : Descriptions → (Desc → Desc) → Option Slot → Descriptions
+changed f change None = f
+changed f change (Some slot) = with_description f slot.number change
+
+-- a description with another place
+abbrev pub at_place : Spot → Desc → Desc
+at_place spot desc = record desc { spot = spot }
+
+-- with other flags (fcntl(2), F_SETFL)
+abbrev pub with_flags : Bool → Bool → Desc → Desc
+with_flags append nonblock desc = record desc { append = append; nonblock = nonblock }
+
+-- a descriptor's close-on-exec bit, if it is open (fcntl(2), F_GETFD)
+abbrev pub cloexec_at : Descriptions → ℕ → ℕ → Option Bool
+cloexec_at f p fd = option_map (λ slot. slot.cloexec) (slot_at f p fd)
+
+-- with another close-on-exec bit, if the descriptor is open (F_SETFD)
+abbrev pub marked : Descriptions → ℕ → ℕ → Bool → Option Slot → Descriptions
+marked f p fd cloexec None = f
+marked f p fd cloexec (Some slot) = duplicated f p fd slot cloexec
+
+-- without the table of a process
+abbrev pub forgotten : Descriptions → ℕ → Descriptions
+forgotten f p = record f { tables = remove f.tables p }
+
+-- nothing is open: a process has a table whose descriptors are free
+abbrev pub none_open : ℕ → Descriptions
+none_open p = record { descs = empty; tables = insert empty p (replicate DESCRIPTOR_LIMIT None); next = 1 }
+
+-- a new description under this descriptor, if there is one
+abbrev pub opened_at : Descriptions → ℕ → Desc → Option ℕ → Descriptions
+opened_at f p desc None = f
+opened_at f p desc (Some fd) = opened f p fd desc false
+
+-- a new description under the lowest free descriptor
+unfoldable pub opened_lowest : ℕ → Desc → Descriptions → Descriptions
+opened_lowest p desc f = opened_at f p desc (lowest_free (table_of f p) 0)
+
+-- a description of the input or of a stream, as a process begins with it
+abbrev pub first_desc : DescKind → ℕ → Desc
+first_desc kind access = record { kind = kind; spot = At 0; access = access; append = false; nonblock = false }
+
+-- the first process has the input and the streams 1 and 2 under its lowest descriptors, in this order
+unfoldable pub first_files : ℕ → Descriptions
+first_files p =
+    opened_lowest p (first_desc (Stream 2) 1)
+    (opened_lowest p (first_desc (Stream 1) 1) (opened_lowest p (first_desc Input 0) (none_open p)))

@@ -1,0 +1,4 @@
+pub mod Descriptions
+pub mod Holding
+pub mod Backs
+pub mod inner

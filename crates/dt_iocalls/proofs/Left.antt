@@ -1,0 +1,89 @@
+-- What is left of a listing, and how much of it is asked for.
+use Rattle.std.proofs.Common.{arith, ◌≡◌, ◌≢◌, ℕ, zero, suc, ◌-◌, ◌*◌, ◌≤◌, ◌<◌, cond, true, false, Bool, List, [], ◌∷◌, ◌++◌, length, take, Option, Some, None, inl, inr, refl, sym, ap, ◌∙◌, length-append}
+use Rattle.std.proofs.lemmas.Bool.Decides.{nat_tests}
+use Rattle.std.specs.Prelude.{◌==◌, ◌&&◌, is_some, not, nat_le, slice_get, option_map}
+use Rattle.std.specs.Option.{is_none}
+use Rattle.dt_host.specs.World.{Forest, IsDir}
+use Rattle.dt_tree.specs.Above.{dot_dot, parent_at}
+use Rattle.dt_tree.specs.Shape.{names_of, LeadsUp, IsShaped, is_removed}
+use Rattle.dt_tree.specs.Table.{Table, Stands, shape_of}
+use Rattle.dt_tree.specs.declared.list.Listed.{Listed}
+use Rattle.dt_tree.proofs.Aboves.{parent_is, no_parent}
+use Rattle.dt_iocalls.specs.Entries.{record_len, dirents, fitting, last_name, told, tells, tells_left}
+use Rattle.dt_scene.specs.Scene.{Scene}
+use Rattle.dt_space.specs.Write.{stored}
+
+-- nothing is above a directory exactly where it is removed
+shaped-removed : (v : Forest) (n : ℕ) → IsShaped v → IsDir v n → is_none (dot_dot v n) ≡ is_removed v n
+unfolding LeadsUp
+shaped-removed v n s is = by_root (n == v.root) refl
+  where
+    by_up : (k : ℕ) → LeadsUp v k n v.root → n ≢ v.root → is_none (parent_at v n) ≡ false
+    by_up zero up apart = absurd (apart up)
+    by_up (suc k) up apart = ap is_none (parent_is v s n up.0 up.1 is up.2)
+
+    by_names : (b : Bool) → (names_of v n == 0) ≡ b → n ≢ v.root → is_none (parent_at v n) ≡ b
+    by_names true e apart = let none : names_of v n ≡ 0 = grind (arith, nat_tests) in ap is_none (no_parent v n none)
+    by_names false e apart = elim (s.placed n is) [
+      | inl u ↦ by_up u.0 u.1 apart
+      | inr r ↦ absurd (grind (arith, nat_tests, r.nameless))
+    ]
+
+    by_root : (b : Bool) → (n == v.root) ≡ b → is_none (cond b (Some n) (parent_at v n)) ≡ (not b && (names_of v n == 0))
+    by_root true e = refl
+    by_root false e = let apart : n ≢ v.root = grind (arith, nat_tests) in by_names (names_of v n == 0) refl apart
+
+pub above_removed : (t : Table) (v : Forest) (n : ℕ) (none : Bool) → Stands t v → IsDir (shape_of t v) n → is_some (dot_dot (shape_of t v) n) ≡ not none → none ≡ is_removed (shape_of t v) n
+above_removed t v n none s is by = by_found (dot_dot (shape_of t v) n) none by ∙ shaped-removed (shape_of t v) n s.tree.shaped is
+  where
+    by_found : (found : Option ℕ) (none : Bool) → is_some found ≡ not none → none ≡ is_none found
+    by_found None true e = refl
+    by_found None false e = absurd cc
+    by_found (Some d) true e = absurd cc
+    by_found (Some d) false e = refl
+
+-- a record has 24 bytes at least
+least_record : (name : List ℕ) → 24 ≤ record_len name
+least_record name = omega arith
+
+-- so many of a listing are as many as fit
+fitting-take : (most room : ℕ) (entries : List Listed) → room < 24 * most → fitting room (take most entries) ≡ fitting room entries
+unfolding fitting
+fitting-take zero room entries few = absurd (omega arith)
+fitting-take (suc most) room [] few = refl
+fitting-take (suc most) room (entry ∷ entries) few =
+    by_test (nat_le (record_len entry.name) room) refl (λ lower. fitting-take most (room - record_len entry.name) entries lower)
+  where
+    by_test : (b : Bool) → nat_le (record_len entry.name) room ≡ b → (room - record_len entry.name < 24 * most → fitting (room - record_len entry.name) (take most entries) ≡ fitting (room - record_len entry.name) entries) → cond b (entry ∷ fitting (room - record_len entry.name) (take most entries)) [] ≡ cond b (entry ∷ fitting (room - record_len entry.name) entries) []
+    by_test false e rest = refl
+    by_test true e rest =
+        let fits : record_len entry.name ≤ room = grind (arith, nat_tests) in
+        let least = least_record entry.name in
+        ap (λ more. entry ∷ more) (rest (omega arith))
+
+-- the listing goes on after the last name
+last_name-end : (entries : List Listed) (last : Listed) → last_name (entries ++ (last ∷ [])) ≡ Some last.name
+last_name-end entries last =
+    let all : length (entries ++ (last ∷ [])) - 1 ≡ length entries = omega (arith, length-append entries (last ∷ [])) in
+    ap (λ i. option_map (λ entry. entry.name) (slice_get (entries ++ (last ∷ [])) i)) all ∙ at_end entries
+  where
+    at_end : (entries : List Listed) → option_map (λ entry. entry.name) (slice_get (entries ++ (last ∷ [])) (length entries)) ≡ Some last.name
+    at_end [] = refl
+    at_end (entry ∷ entries) = at_end entries
+
+pub tells_last : (fd buffer : ℕ) (s : Scene) (entries rest : List Listed) (last : Listed) → entries ≡ rest ++ (last ∷ []) → tells fd buffer s entries ≡ told s fd (Some last.name) (length (dirents entries)) (stored s.space buffer (dirents entries))
+tells_last fd buffer s [] rest last is = absurd (by_length (ap length is))
+  where
+    by_length : 0 ≡ length (rest ++ (last ∷ [])) → ⊥
+    by_length e = omega (arith, length-append rest (last ∷ []))
+tells_last fd buffer s (entry ∷ entries) rest last is =
+    ap (λ name. told s fd name (length (dirents (entry ∷ entries))) (stored s.space buffer (dirents (entry ∷ entries))))
+    (ap last_name is ∙ last_name-end rest last)
+
+pub tells_take : (fd buffer count most : ℕ) (s : Scene) (left : List Listed) → count < 24 * most → tells_left fd buffer count s left ≡ tells_left fd buffer count s (take most left)
+tells_take fd buffer count zero s left few = absurd (omega arith)
+tells_take fd buffer count (suc most) s [] few = refl
+tells_take fd buffer count (suc most) s (entry ∷ left) few =
+    ap (tells fd buffer s) (sym (fitting-take (suc most) count (entry ∷ left) few))
+
+pub ruleset tells_first = (tells_take)

@@ -1,0 +1,146 @@
+-- Bytes that are put into ranges: whether they may be does not change while they are.
+use Rattle.std.proofs.Common.{◌≡◌, ℕ, zero, suc, ◌+◌, ◌%◌, ◌^◌, ◌<◌, ◌≤◌, get_or, add-one, List, [], ◌∷◌, length, take, drop, Option, None, Some, is_some, Result, Ok, Err, IsOk, refl, sym, ap, ◌∙◌, subst}
+use Rattle.std.proofs.Math.Seq.{drop-cons}
+use Rattle.std.proofs.lemmas.List.{drop_all}
+use Rattle.dt_space.specs.declared.access.Miss.{Miss}
+use Rattle.dt_space.specs.declared.access.TheConstants.{WRITE}
+use Rattle.dt_space.specs.Space.{PageView, byte_at, low_byte, load}
+use Rattle.dt_space.specs.Write.{write, stored, where_allowed}
+use Rattle.dt_space.proofs.Kept.{write-some}
+use Rattle.dt_iocalls.specs.declared.ranges.Range.{Range}
+use Rattle.dt_iocalls.specs.Ranges.{on_pages, scattered}
+
+-- the same bytes may be written
+abbrev pub SameRights : List PageView → List PageView → Type 0
+SameRights old new = (a : ℕ) → is_some (byte_at new WRITE a) ≡ is_some (byte_at old WRITE a)
+
+-- an access that missed misses
+abbrev LikeLoad : Result (List ℕ) Miss → Result (List ℕ) Miss → Type 0
+LikeLoad (Ok old) new = IsOk new
+LikeLoad (Err miss) new = new ≡ Err miss
+
+like-byte : (address : ℕ) (old new : Option ℕ) (rest more : Result (List ℕ) Miss) → is_some new ≡ is_some old → LikeLoad rest more → LikeLoad (low_byte address old rest) (low_byte address new more)
+like-byte address None None rest more same like = refl
+like-byte address None (Some y) rest more same like = absurd cc
+like-byte address (Some x) None rest more same like = absurd cc
+like-byte address (Some x) (Some y) (Ok bytes) (Ok others) same like = refl
+like-byte address (Some x) (Some y) (Ok bytes) (Err miss) same like = absurd cc
+like-byte address (Some x) (Some y) (Err miss) more same like = ap (low_byte address (Some y)) like
+
+like-load : (old new : List PageView) → SameRights old new → (count address : ℕ) → LikeLoad (load old WRITE address count) (load new WRITE address count)
+unfolding load
+like-load old new same zero address = refl
+like-load old new same (suc count) address =
+    like-byte address (byte_at old WRITE address) (byte_at new WRITE address) (load old WRITE ((address + 1) % 2 ^ 64) count) (load new WRITE ((address + 1) % 2 ^ 64) count) (same address) (like-load old new same count ((address + 1) % 2 ^ 64))
+
+-- whether bytes may be put into ranges, or the first miss
+abbrev then_look : Result (List ℕ) Miss → Result (List ℕ) Miss → Result (List ℕ) Miss
+then_look (Ok bytes) rest = rest
+then_look (Err miss) rest = Err miss
+
+unfoldable pub looked : List PageView → List Range → List ℕ → Result (List ℕ) Miss
+looked pages [] bytes = Ok []
+looked pages (range ∷ ranges) bytes =
+    then_look (load pages WRITE range.address (length (take range.len bytes))) (looked pages ranges (drop range.len bytes))
+
+like-then : (old new rest more : Result (List ℕ) Miss) → LikeLoad old new → LikeLoad rest more → LikeLoad (then_look old rest) (then_look new more)
+like-then (Ok old) (Ok new) rest more like next = next
+like-then (Ok old) (Err miss) rest more like next = absurd cc
+like-then (Err miss) new rest more like next = rw like refl
+
+like-looked : (old new : List PageView) → SameRights old new → (ranges : List Range) (bytes : List ℕ) → LikeLoad (looked old ranges bytes) (looked new ranges bytes)
+unfolding looked
+like-looked old new same [] bytes = refl
+like-looked old new same (range ∷ ranges) bytes =
+    like-then (load old WRITE range.address (length (take range.len bytes))) (load new WRITE range.address (length (take range.len bytes)))
+    (looked old ranges (drop range.len bytes)) (looked new ranges (drop range.len bytes))
+    (like-load old new same (length (take range.len bytes)) range.address) (like-looked old new same ranges (drop range.len bytes))
+
+-- what is scattered is as it was looked at
+abbrev LikePages : Result (List ℕ) Miss → Result (List PageView) Miss → Type 0
+LikePages (Ok bytes) pages = IsOk pages
+LikePages (Err miss) pages = pages ≡ Err miss
+
+like-same : (a b : Result (List ℕ) Miss) (r : Result (List PageView) Miss) → LikeLoad a b → LikePages b r → LikePages a r
+like-same (Ok x) (Ok y) r like pages = pages
+like-same (Ok x) (Err miss) r like pages = absurd cc
+like-same (Err miss) b r like pages = subst (λ found. LikePages found r) like pages
+
+like-store : (load_is rest : Result (List ℕ) Miss) (pages : List PageView) (next : List PageView → Result (List PageView) Miss) → LikePages rest (next pages) → LikePages (then_look load_is rest) (on_pages (where_allowed load_is pages) next)
+like-store (Ok bytes) rest pages next like = like
+like-store (Err miss) rest pages next like = refl
+
+scattered-looked : (pages : List PageView) (ranges : List Range) (bytes : List ℕ) → LikePages (looked pages ranges bytes) (scattered pages ranges bytes)
+unfolding looked scattered
+scattered-looked pages [] bytes = refl
+scattered-looked pages (range ∷ ranges) bytes =
+    let part = take range.len bytes in
+    let new = write pages range.address part in
+    like-store (load pages WRITE range.address (length part)) (looked pages ranges (drop range.len bytes)) new (λ next. scattered next ranges (drop range.len bytes))
+    (like-same (looked pages ranges (drop range.len bytes)) (looked new ranges (drop range.len bytes)) (scattered new ranges (drop range.len bytes))
+    (like-looked pages new (write-some part pages WRITE range.address) ranges (drop range.len bytes))
+    (scattered-looked new ranges (drop range.len bytes)))
+
+-- the ranges from an index on
+from-index : (ranges : List Range) (i : ℕ) (d : Range) → i < length ranges → drop i ranges ≡ get_or ranges i d ∷ drop (i + 1) ranges
+from-index ranges i d within = rw (add-one, drop-cons ranges i d within) refl
+
+-- a look at one range more
+looked-step : (pages : List PageView) (range : Range) (rest : List Range) (bytes : List ℕ) (found : Result (List ℕ) Miss) → load pages WRITE range.address (length (take range.len bytes)) ≡ found → looked pages (range ∷ rest) bytes ≡ then_look found (looked pages rest (drop range.len bytes))
+unfolding looked
+looked-step pages range rest bytes found is = ap (λ r. then_look r (looked pages rest (drop range.len bytes))) is
+
+looked-past : (pages : List PageView) (range : Range) (rest : List Range) (bytes : List ℕ) (found : Result (List ℕ) Miss) → load pages WRITE range.address (length (take range.len bytes)) ≡ found → IsOk found → looked pages (range ∷ rest) bytes ≡ looked pages rest (drop range.len bytes)
+looked-past pages range rest bytes (Ok x) is may = looked-step pages range rest bytes (Ok x) is
+looked-past pages range rest bytes (Err miss) is may = absurd cc
+
+pub looked-more : (pages : List PageView) (all : Result (List ℕ) Miss) (ranges : List Range) (i : ℕ) (d : Range) (bytes part rest : List ℕ) → i < length ranges → part ≡ take (get_or ranges i d).len bytes → rest ≡ drop (get_or ranges i d).len bytes → IsOk (load pages WRITE (get_or ranges i d).address (length part)) → all ≡ looked pages (drop i ranges) bytes → all ≡ looked pages (drop (i + 1) ranges) rest
+looked-more pages all ranges i d bytes part rest within part_is rest_is may so_far =
+    let range = get_or ranges i d in
+    so_far ∙ ap (λ r. looked pages r bytes) (from-index ranges i d within)
+    ∙ looked-past pages range (drop (i + 1) ranges) bytes (load pages WRITE range.address (length (take range.len bytes))) refl (subst (λ p. IsOk (load pages WRITE range.address (length p))) part_is may)
+    ∙ ap (looked pages (drop (i + 1) ranges)) (sym rest_is)
+
+pub looked-missed : (pages : List PageView) (ranges : List Range) (i : ℕ) (d : Range) (start bytes part : List ℕ) (miss : Miss) → i < length ranges → part ≡ take (get_or ranges i d).len bytes → load pages WRITE (get_or ranges i d).address (length part) ≡ Err miss → looked pages ranges start ≡ looked pages (drop i ranges) bytes → scattered pages ranges start ≡ Err miss
+looked-missed pages ranges i d start bytes part miss within part_is found so_far =
+    let range = get_or ranges i d in
+    let missed : looked pages ranges start ≡ Err miss =
+    so_far ∙ ap (λ r. looked pages r bytes) (from-index ranges i d within)
+    ∙ looked-step pages range (drop (i + 1) ranges) bytes (Err miss) (subst (λ p. load pages WRITE range.address (length p) ≡ Err miss) part_is found) in
+    subst (λ r. LikePages r (scattered pages ranges start)) missed (scattered-looked pages ranges start)
+
+looked-none : (pages : List PageView) (bytes : List ℕ) → looked pages [] bytes ≡ Ok []
+unfolding looked
+looked-none pages bytes = refl
+
+pub looked-end : (pages : List PageView) (ranges : List Range) (i : ℕ) (start bytes : List ℕ) → length ranges ≤ i → looked pages ranges start ≡ looked pages (drop i ranges) bytes → IsOk (scattered pages ranges start)
+looked-end pages ranges i start bytes end so_far =
+    let may : looked pages ranges start ≡ Ok [] = so_far ∙ ap (λ r. looked pages r bytes) (drop_all i ranges end) ∙ looked-none pages bytes in
+    subst (λ r. LikePages r (scattered pages ranges start)) may (scattered-looked pages ranges start)
+
+-- one range more is filled
+scattered-step : (pages : List PageView) (range : Range) (rest : List Range) (bytes : List ℕ) (found : Result (List PageView) Miss) → stored pages range.address (take range.len bytes) ≡ found → scattered pages (range ∷ rest) bytes ≡ on_pages found (λ next. scattered next rest (drop range.len bytes))
+unfolding scattered
+scattered-step pages range rest bytes found is = ap (λ r. on_pages r (λ next. scattered next rest (drop range.len bytes))) is
+
+pub scattered-more : (pages new : List PageView) (all : Result (List PageView) Miss) (ranges : List Range) (i : ℕ) (d : Range) (bytes part rest : List ℕ) → i < length ranges → part ≡ take (get_or ranges i d).len bytes → rest ≡ drop (get_or ranges i d).len bytes → stored pages (get_or ranges i d).address part ≡ Ok new → all ≡ scattered pages (drop i ranges) bytes → all ≡ scattered new (drop (i + 1) ranges) rest
+scattered-more pages new all ranges i d bytes part rest within part_is rest_is found so_far =
+    let range = get_or ranges i d in
+    so_far ∙ ap (λ r. scattered pages r bytes) (from-index ranges i d within)
+    ∙ scattered-step pages range (drop (i + 1) ranges) bytes (Ok new) (subst (λ p. stored pages range.address p ≡ Ok new) part_is found)
+    ∙ ap (scattered new (drop (i + 1) ranges)) (sym rest_is)
+
+pub scattered-missed : (pages : List PageView) (all : Result (List PageView) Miss) (ranges : List Range) (i : ℕ) (d : Range) (bytes part : List ℕ) (miss : Miss) → i < length ranges → part ≡ take (get_or ranges i d).len bytes → stored pages (get_or ranges i d).address part ≡ Err miss → all ≡ scattered pages (drop i ranges) bytes → IsOk all → ⊥
+scattered-missed pages all ranges i d bytes part miss within part_is found so_far may =
+    let range = get_or ranges i d in
+    let missed : all ≡ Err miss =
+    so_far ∙ ap (λ r. scattered pages r bytes) (from-index ranges i d within)
+    ∙ scattered-step pages range (drop (i + 1) ranges) bytes (Err miss) (subst (λ p. stored pages range.address p ≡ Err miss) part_is found) in
+    let clash : IsOk {T = List PageView} {E = Miss} (Err miss) = rw missed at may in absurd cc
+
+scattered-none : (pages : List PageView) (bytes : List ℕ) → scattered pages [] bytes ≡ Ok pages
+unfolding scattered
+scattered-none pages bytes = refl
+
+pub scattered-end : (pages : List PageView) (all : Result (List PageView) Miss) (ranges : List Range) (i : ℕ) (bytes : List ℕ) → length ranges ≤ i → all ≡ scattered pages (drop i ranges) bytes → all ≡ Ok pages
+scattered-end pages all ranges i bytes end so_far = so_far ∙ ap (λ r. scattered pages r bytes) (drop_all i ranges end) ∙ scattered-none pages bytes

@@ -1,0 +1,88 @@
+-- The call that lists a directory: getdents64(2).
+use Rattle.std.specs.Prelude.{ℕ, ◌+◌, ◌-◌, ◌*◌, ◌/◌, List, [], ◌∷◌, ◌++◌, length, Option, option_map, slice_get, Result, Ok, Err, nat_le, if◌then◌else◌}
+use Rattle.std.specs.List.{filter}
+use Rattle.dt_base.specs.Abi.{low_word, byte_count}
+use Rattle.dt_base.specs.Bytes.{padded}
+use Rattle.dt_base.specs.Fields.{low_bytes}
+use Rattle.dt_base.specs.declared.errno.Errno.TheVariants.{Inval, NoEnt, NotDir, Fault as BadAddress}
+use Rattle.dt_fds.specs.declared.desc.DescKind.{DescKind}
+use Rattle.dt_fds.specs.declared.desc.DescKind.TheVariants.{File, Dir, Input, Stream}
+use Rattle.dt_fds.specs.declared.desc.Spot.TheVariants.{After}
+use Rattle.dt_space.specs.declared.access.Miss.{Miss}
+use Rattle.dt_space.specs.Space.{PageView}
+use Rattle.dt_space.specs.Write.{stored}
+use Rattle.dt_tree.specs.declared.list.Listed.{Listed}
+use Rattle.dt_tree.specs.Listing.{listing, is_left}
+use Rattle.dt_tree.specs.Shape.{is_removed}
+use Rattle.dt_iocalls.specs.declared.entries.TheConstants.{DIRENT_NAME, DIRENT_ALIGN}
+use Rattle.dt_iocalls.specs.Places.{name_of, goes_on}
+use Rattle.dt_scene.specs.Arguments.{argument}
+use Rattle.dt_scene.specs.Scene.{Scene, Row, answers, refused, described, on_description}
+
+-- how long the record of a name is: it has the name and a 0 behind its fields, and is a multiple of 8
+abbrev pub record_len : List ℕ → ℕ
+record_len name = (DIRENT_NAME + length name + DIRENT_ALIGN) / DIRENT_ALIGN * DIRENT_ALIGN
+
+-- `struct linux_dirent64`: 8 bytes of inode, 8 of offset (always 0), 2 of length, 1 of type, the name, and zeros
+unfoldable pub dirent : Listed → List ℕ
+dirent entry = padded
+    (low_bytes 8 entry.vino ++ (low_bytes 8 0 ++ (low_bytes 2 (record_len entry.name) ++ (entry.kind ∷ entry.name))))
+    (record_len entry.name)
+
+-- the records of entries, one behind the other
+unfoldable pub dirents : List Listed → List ℕ
+dirents [] = []
+dirents (entry ∷ entries) = dirent entry ++ dirents entries
+
+-- the first entries whose records fit
+unfoldable pub fitting : ℕ → List Listed → List Listed
+fitting room [] = []
+fitting room (entry ∷ entries) =
+    if nat_le (record_len entry.name) room then entry ∷ fitting (room - record_len entry.name) entries else []
+
+-- the name of the last of some entries
+abbrev pub last_name : List Listed → Option (List ℕ)
+last_name entries = option_map (λ entry. entry.name) (slice_get entries (length entries - 1))
+
+-- so many bytes came into a buffer, and the listing goes on after that name
+abbrev pub told : Scene → ℕ → Option (List ℕ) → ℕ → Result (List PageView) Miss → Row
+told s fd last count (Err miss) = refused s BadAddress
+told s fd last count (Ok pages) = answers (record (goes_on s fd (After last)) { space = pages }) count
+
+-- entries go to a buffer, and the listing goes on after the last of them
+abbrev pub tells_these : ℕ → ℕ → Scene → List Listed → Row
+tells_these fd buffer s given =
+    told s fd (last_name given) (length (dirents given)) (stored s.space buffer (dirents given))
+
+-- these entries go to a buffer: EINVAL where not even the next one fits
+abbrev pub tells : ℕ → ℕ → Scene → List Listed → Row
+tells fd buffer s [] = refused s Inval
+tells fd buffer s (entry ∷ entries) = tells_these fd buffer s (entry ∷ entries)
+
+-- what is left of a listing goes to a buffer, as far as it fits; at its end there is nothing, whatever the buffer
+abbrev pub tells_left : ℕ → ℕ → ℕ → Scene → List Listed → Row
+tells_left fd buffer count s [] = answers s 0
+tells_left fd buffer count s (entry ∷ entries) = tells fd buffer s (fitting count (entry ∷ entries))
+
+-- what is left of a directory's listing
+abbrev pub left_of : Scene → ℕ → Option (List ℕ) → List Listed
+left_of s n last = filter (λ entry. is_left last entry.name) (listing s.tree.shape n)
+
+-- a directory is listed from where its description stands: ENOENT where it is removed
+unfoldable pub lists : ℕ → ℕ → ℕ → ℕ → Option (List ℕ) → Scene → Row
+lists fd buffer count n last s =
+    if is_removed s.tree.shape n then refused s NoEnt else tells_left fd buffer count s (left_of s n last)
+
+-- a listing by what the descriptor refers to
+abbrev pub lists_kind : ℕ → ℕ → ℕ → DescKind → Option (List ℕ) → Scene → Row
+lists_kind fd buffer count (File n) last s = refused s NotDir
+lists_kind fd buffer count (Dir n) last s = lists fd buffer count n last s
+lists_kind fd buffer count Input last s = refused s NotDir
+lists_kind fd buffer count (Stream stream) last s = refused s NotDir
+
+-- getdents64(2)
+unfoldable pub getdents64_row : List ℕ → Scene → Row
+getdents64_row args s =
+    let fd = low_word (argument args 0) in
+    on_description s (described s fd)
+    (λ desc. lists_kind fd (argument args 1) (byte_count (argument args 2)) desc.kind (name_of desc.spot) s)

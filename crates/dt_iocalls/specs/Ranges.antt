@@ -1,0 +1,91 @@
+-- Buffers of a process in several ranges, which a call takes one after the other as one (readv(2), writev(2)).
+use Rattle.std.specs.Prelude.{◌≡◌, ℕ, ◌+◌, ◌-◌, ◌%◌, ◌^◌, suc, zero, List, [], ◌∷◌, ◌++◌, take, drop, min, Result, Ok, Err, nat_lt, if◌then◌else◌}
+use Rattle.std.specs.List.{sum_by}
+use Rattle.dt_base.specs.declared.abi.TheConstants.{IOV_MAX}
+use Rattle.dt_base.specs.declared.errno.Errno.{Errno}
+use Rattle.dt_base.specs.declared.errno.Errno.TheVariants.{Inval, Fault as BadAddress}
+use Rattle.dt_base.specs.declared.limits.TheConstants.{TRANSFER_LIMIT}
+use Rattle.dt_space.specs.declared.access.Miss.{Miss}
+use Rattle.dt_space.specs.declared.access.ReadErr.{ReadErr}
+use Rattle.dt_space.specs.declared.access.ReadErr.TheVariants as read_err
+use Rattle.dt_space.specs.declared.access.TheConstants.{READ}
+use Rattle.dt_space.specs.Space.{PageView, load, loaded_number}
+use Rattle.dt_space.specs.Write.{stored}
+use Rattle.dt_iocalls.specs.declared.ranges.Range.{Range}
+use Rattle.dt_iocalls.specs.declared.ranges.TheConstants.{IOVEC_LEN, IOV_LEN}
+use Rattle.dt_scene.specs.Scene.{Scene, Row, refused}
+
+-- one range
+abbrev pub one_range : ℕ → ℕ → List Range
+one_range address len = record { address = address; len = len } ∷ []
+
+-- how many bytes ranges have together
+abbrev pub total_len : List Range → ℕ
+total_len ranges = sum_by (λ range. range.len) ranges
+
+-- ranges cut to so many bytes together
+unfoldable pub cut_to : ℕ → List Range → List Range
+cut_to left [] = []
+cut_to left (range ∷ ranges) = record range { len = min range.len left } ∷ cut_to (left - range.len) ranges
+
+-- bytes before others, unless one of the two missed
+abbrev pub joined : Result (List ℕ) Miss → Result (List ℕ) Miss → Result (List ℕ) Miss
+joined (Err miss) rest = Err miss
+joined (Ok bytes) (Err miss) = Err miss
+joined (Ok bytes) (Ok rest) = Ok (bytes ++ rest)
+
+-- the bytes of ranges, or the first miss
+unfoldable pub gathered : List PageView → List Range → Result (List ℕ) Miss
+gathered pages [] = Ok []
+gathered pages (range ∷ ranges) = joined (load pages READ range.address range.len) (gathered pages ranges)
+
+-- why bytes of ranges were not gathered: the first miss, or want of memory
+abbrev pub IsGatherErr : List PageView → List Range → ReadErr → Type 0
+IsGatherErr pages ranges (read_err.Miss miss) = gathered pages ranges ≡ Err miss
+IsGatherErr pages ranges read_err.NoMemory = Unit {0}
+
+-- what follows on pages, unless there was a miss
+abbrev pub on_pages : Result (List PageView) Miss → (List PageView → Result (List PageView) Miss) → Result (List PageView) Miss
+on_pages (Err miss) next = Err miss
+on_pages (Ok pages) next = next pages
+
+-- the pages after bytes were put into ranges, as far as the bytes go, or the first miss
+unfoldable pub scattered : List PageView → List Range → List ℕ → Result (List PageView) Miss
+scattered pages [] bytes = Ok pages
+scattered pages (range ∷ ranges) bytes =
+    on_pages (stored pages range.address (take range.len bytes)) (λ next. scattered next ranges (drop range.len bytes))
+
+-- `struct iovec` of two numbers of 8 bytes that were loaded: an address, and a length
+abbrev pub iovec_of : Result ℕ Miss → Result ℕ Miss → Result Range Errno
+iovec_of (Err miss) len = Err BadAddress
+iovec_of (Ok address) (Err miss) = Err BadAddress
+iovec_of (Ok address) (Ok len) = Ok (record { address = address; len = len })
+
+-- the one at an address
+abbrev pub iovec_at : List PageView → ℕ → Result Range Errno
+iovec_at pages at = iovec_of (loaded_number (load pages READ at 8)) (loaded_number (load pages READ ((at + IOV_LEN) % 2 ^ 64) 8))
+
+-- a range before others, unless one of the two was refused
+abbrev pub before : Result Range Errno → Result (List Range) Errno → Result (List Range) Errno
+before (Err errno) rest = Err errno
+before (Ok range) (Err errno) = Err errno
+before (Ok range) (Ok ranges) = Ok (range ∷ ranges)
+
+-- so many of them, one behind the other
+unfoldable pub iovecs_at : List PageView → ℕ → ℕ → Result (List Range) Errno
+iovecs_at pages at zero = Ok []
+iovecs_at pages at (suc count) = before (iovec_at pages at) (iovecs_at pages ((at + IOVEC_LEN) % 2 ^ 64) count)
+
+-- the ranges, cut to what one call moves at most: EINVAL where their bytes together pass the greatest signed number
+abbrev pub cut_ranges : Result (List Range) Errno → Result (List Range) Errno
+cut_ranges (Err errno) = Err errno
+cut_ranges (Ok ranges) = if nat_lt (2 ^ 63 - 1) (total_len ranges) then Err Inval else Ok (cut_to TRANSFER_LIMIT ranges)
+
+-- the ranges that a call is handed: EINVAL for more than 1,024
+unfoldable pub ranges_at : List PageView → ℕ → ℕ → Result (List Range) Errno
+ranges_at pages at count = if nat_lt IOV_MAX count then Err Inval else cut_ranges (iovecs_at pages at count)
+
+-- a row for ranges that were read, or the reason why there are none
+abbrev pub on_ranges : Scene → Result (List Range) Errno → (List Range → Row) → Row
+on_ranges s (Err errno) row = refused s errno
+on_ranges s (Ok ranges) row = row ranges

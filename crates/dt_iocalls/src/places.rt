@@ -1,0 +1,30 @@
+// Where a description goes on, and whether it may be read or written.
+ghost use Rattle.std.specs.Prelude.{◌≡◌};
+ghost use Rattle.dt_iocalls.specs.Places.{is_readable, is_writable, offset_of};
+
+use dt_base::abi::O_WRONLY;
+use dt_fds::{Desc, Spot};
+
+// Whether the description may be read.
+pub(crate) fn is_readable(desc: &Desc) -> bool
+    ensures { result ≡ is_readable desc.now }
+{
+    u32::from(desc.access) != O_WRONLY
+}
+
+// Whether the description may be written.
+pub(crate) fn is_writable(desc: &Desc) -> bool
+    ensures { result ≡ is_writable desc.now }
+{
+    desc.access != 0
+}
+
+// The offset at which a file is read or written next; the place of a directory is none.
+pub(crate) fn offset_of(spot: &Spot) -> u64
+    ensures { result ≡ offset_of spot.now }
+{
+    match spot {
+        Spot::At(offset) => *offset,
+        Spot::After(_) => 0,
+    }
+}

@@ -1,0 +1,175 @@
+//! Buffers of a process in several ranges, which a call takes one after the other as one (readv(2), writev(2)).
+ghost use Rattle.std.specs.Prelude.{◌≡◌, ◌-◌, ◌^◌, Ok, Err, IsOk, IfOk, IfErr, OnErr, MatchResult, length, take, drop, min};
+ghost use Rattle.dt_iocalls.specs.Ranges.{total_len, cut_to, iovec_at, iovecs_at, ranges_at, gathered, scattered, IsGatherErr};
+
+use dt_base::abi::IOV_MAX;
+use dt_base::{Errno, NoMemory, TRANSFER_LIMIT};
+use dt_space::{Miss, ReadErr, Space};
+use std::alloc::Global;
+
+/// The length of `struct iovec` (readv(2)).
+pub const IOVEC_LEN: u64 = 16;
+
+/// Where the length of the range stands in `struct iovec`.
+pub const IOV_LEN: u64 = 8;
+
+/// A range of addresses.
+#[derive(Clone, Copy, Debug)]
+pub struct Range {
+    pub address: u64,
+    pub len: u64,
+}
+
+// How many bytes ranges have together, as far as 64 bits go.
+pub(crate) fn total_len(ranges: &[Range]) -> u64
+    ensures { result ≡ min (total_len ranges.now) (2 ^ 64 - 1) }
+{
+    let mut total: u64 = 0;
+    for range in ranges {
+        total = total.saturating_add(range.len);
+    }
+    total
+}
+
+// The ranges that a call is handed, cut to what one call moves at most: EFAULT where one may not be read, EINVAL where
+// they are too many or their bytes together are.
+#[tactic(auto, unfolding(crate::specs::Ranges::ranges_at))]
+pub(crate) fn ranges_at(
+    alloc: Global,
+    space: &Space,
+    at: u64,
+    count: u32,
+) -> Result<Result<Vec<Range>, Errno>, NoMemory>
+    ensures { IfOk result (λ found. MatchResult found
+        (λ ranges. ranges_at space.now at count ≡ Ok ranges.items)
+        (λ errno. ranges_at space.now at count ≡ Err errno)) }
+{
+    if count > IOV_MAX {
+        return Ok(Err(Errno::Inval));
+    }
+    let mut ranges = match iovecs_at(alloc, space, at, count)? {
+        Ok(ranges) => ranges,
+        Err(errno) => return Ok(Err(errno)),
+    };
+    if total_len(&ranges) > i64::MAX as u64 {
+        return Ok(Err(Errno::Inval));
+    }
+    cut_to(TRANSFER_LIMIT, &mut ranges);
+    Ok(Ok(ranges))
+}
+
+// So many ranges, one behind the other.
+#[tactic(auto, unfolding(crate::specs::Ranges::iovecs_at), using(crate::proofs::Vectors::lists_ranges))]
+fn iovecs_at(
+    alloc: Global,
+    space: &Space,
+    at: u64,
+    count: u32,
+) -> Result<Result<Vec<Range>, Errno>, NoMemory>
+    ensures { IfOk result (λ found. MatchResult found
+        (λ ranges. iovecs_at space.now at count ≡ Ok ranges.items)
+        (λ errno. iovecs_at space.now at count ≡ Err errno)) }
+{
+    let mut ranges = Vec::new(alloc);
+    let mut next = at;
+    for _index in 0..count {
+        match iovec_at(space, next) {
+            Ok(range) => ranges.push(range)?,
+            Err(errno) => return Ok(Err(errno)),
+        }
+        next = next.wrapping_add(IOVEC_LEN);
+    }
+    Ok(Ok(ranges))
+}
+
+// The range at an address.
+fn iovec_at(space: &Space, at: u64) -> Result<Range, Errno>
+    ensures { result ≡ iovec_at space.now at }
+{
+    let Ok(address) = space.load8(at) else {
+        return Err(Errno::Fault);
+    };
+    let Ok(len) = space.load8(at.wrapping_add(IOV_LEN)) else {
+        return Err(Errno::Fault);
+    };
+    Ok(Range { address, len })
+}
+
+// Cuts ranges to so many bytes together.
+#[tactic(auto, unfolding(crate::specs::Ranges::cut_to))]
+fn cut_to(limit: u64, ranges: &mut [Range])
+    ensures { ranges.new ≡ cut_to limit ranges.old }
+{
+    let mut left = limit;
+    for range in ranges.iter_mut() {
+        range.len = range.len.min(left);
+        left -= range.len;
+    }
+}
+
+// The bytes of ranges, or the first miss.
+#[tactic(auto, unfolding(crate::specs::Ranges::gathered), using(crate::proofs::Vectors::after_none))]
+pub(crate) fn gather(alloc: Global, space: &Space, ranges: &[Range]) -> Result<Vec<u8>, ReadErr>
+    ensures bytes { IfOk result (λ bytes. gathered space.now ranges.now ≡ Ok bytes.items) }
+    ensures error { IfErr result (IsGatherErr space.now ranges.now) }
+{
+    let mut bytes = Vec::new(alloc);
+    for range in ranges {
+        let part = space.read_vec(alloc, range.address, range.len)?;
+        bytes.extend_from_slice(&part)?;
+    }
+    Ok(bytes)
+}
+
+// Puts bytes into ranges, as far as the bytes go; at a miss none, and the space stays.
+pub(crate) fn scatter(space: &mut Space, ranges: &[Range], bytes: &[u8]) -> Result<(), Miss>
+    ensures scattered { MatchResult result
+        (λ _. scattered space.old ranges.now bytes.now ≡ Ok space.new)
+        (λ miss. scattered space.old ranges.now bytes.now ≡ Err miss) }
+    ensures kept { OnErr result (space.new ≡ space.old) }
+{
+    may_scatter(space, ranges, bytes)?;
+    put(space, ranges, bytes);
+    Ok(())
+}
+
+// Whether bytes may be put into ranges; else the first miss.
+fn may_scatter(space: &Space, ranges: &[Range], bytes: &[u8]) -> Result<(), Miss>
+    ensures { MatchResult result
+        (λ _. IsOk (scattered space.now ranges.now bytes.now))
+        (λ miss. scattered space.now ranges.now bytes.now ≡ Err miss) }
+{
+    let mut left = bytes;
+    for range in ranges {
+        let (part, rest) = divided(left, range.len);
+        if let Err(miss) = space.writable(range.address, part.len() as u64) {
+            return Err(miss);
+        }
+        left = rest;
+    }
+    Ok(())
+}
+
+// Puts bytes into ranges where they may be.
+fn put(space: &mut Space, ranges: &[Range], bytes: &[u8])
+    requires { IsOk (scattered space.old ranges.now bytes.now) }
+    ensures { scattered space.old ranges.now bytes.now ≡ Ok space.new }
+{
+    let mut left = bytes;
+    for range in ranges {
+        let (part, rest) = divided(left, range.len);
+        match space.write_bytes(range.address, part) {
+            Ok(()) => {}
+            Err(_) => unreachable!(),
+        }
+        left = rest;
+    }
+}
+
+// The first bytes, so many or all where they are fewer, and those behind them.
+fn divided(bytes: &[u8], count: u64) -> (&[u8], &[u8])
+    ensures first { result.0.now ≡ take count bytes.now }
+    ensures rest { result.1.now ≡ drop count bytes.now }
+{
+    bytes.split_at(count.min(bytes.len() as u64) as usize)
+}

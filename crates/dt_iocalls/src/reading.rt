@@ -1,0 +1,314 @@
+//! The calls that read: read(2), readv(2), pread64(2).
+ghost use Rattle.std.specs.Prelude.{◌≡◌, ◌+◌, ◌<◌, ◌^◌, IfOk, IfSome, length, take, drop};
+ghost use Rattle.dt_base.specs.Abi.{low_word};
+ghost use Rattle.dt_host.specs.Asks.{Asks};
+ghost use Rattle.dt_host.specs.World.{IsFile, content};
+ghost use Rattle.dt_tree.specs.Table.{Stands, shape_of};
+ghost use Rattle.dt_fds.specs.Backs.{IsIn};
+ghost use Rattle.dt_fds.specs.Descriptions.{is_after, is_of_dir};
+ghost use Rattle.dt_iocalls.specs.Ranges.{total_len, scattered};
+ghost use Rattle.dt_iocalls.specs.Reading.{reads_at, received, reads_on, reads_kind, reads, reads_kind_at, read_row, readv_row, pread64_row};
+ghost use Rattle.dt_scene.specs.Filling.{filled};
+ghost use Rattle.dt_scene.specs.Scene.{described, on_description};
+ghost use Rattle.dt_scene.specs.Sound.{Sound, Serves, Ends, stage, scene};
+
+use crate::places::{is_readable, offset_of};
+use crate::ranges::{Range, ranges_at, scatter, total_len};
+use dt_base::abi::{byte_count, low_word};
+use dt_base::{Answer, Caller, Errno};
+use dt_fds::{DescKind, Spot};
+use dt_host::{Host, HostErr};
+use dt_scene::Fs;
+use dt_space::Space;
+use dt_tree::Tree;
+use std::alloc::Global;
+
+/// read(2): puts the bytes of a file at the place of its description into a buffer, as many as are left and the buffer
+/// takes, and answers how many these are; the description goes on behind them. The input has none. The errors are EBADF
+/// (the descriptor is not open, or not for reading), EISDIR (it is of a directory), and EFAULT.
+#[tactic(auto, unfolding(crate::specs::Reading::read_row))]
+pub fn read<H: Host>(
+    alloc: Global,
+    fs: &mut Fs,
+    host: &mut H,
+    caller: &Caller,
+    space: &mut Space,
+    args: [u64; 6],
+) -> Result<Answer, HostErr>
+    requires { Sound (stage fs.old (H.view host.old) caller.now space.old) }
+    ensures { Serves read_row args (stage fs.old (H.view host.old) caller.now space.old)
+        (stage fs.new (H.view host.new) caller.now space.new) result
+        (H.count host.old) (H.count host.new) }
+{
+    let range = Range {
+        address: args[1],
+        len: byte_count(args[2]),
+    };
+    reads(alloc, fs, host, caller, space, low_word(args[0]), &[range])
+}
+
+/// readv(2): read(2) into several buffers, one after the other as one. The errors are EINVAL (more than 1,024 buffers),
+/// EFAULT (the list of them may not be read), EINVAL (their lengths together pass the greatest signed number), and
+/// those of read(2).
+#[tactic(auto, unfolding(crate::specs::Reading::readv_row))]
+pub fn readv<H: Host>(
+    alloc: Global,
+    fs: &mut Fs,
+    host: &mut H,
+    caller: &Caller,
+    space: &mut Space,
+    args: [u64; 6],
+) -> Result<Answer, HostErr>
+    requires { Sound (stage fs.old (H.view host.old) caller.now space.old) }
+    ensures { Serves readv_row args (stage fs.old (H.view host.old) caller.now space.old)
+        (stage fs.new (H.view host.new) caller.now space.new) result
+        (H.count host.old) (H.count host.new) }
+{
+    let _before = host.faults();
+    match ranges_at(alloc, space, args[1], low_word(args[2]))? {
+        Ok(ranges) => reads(alloc, fs, host, caller, space, low_word(args[0]), &ranges),
+        Err(errno) => Ok(Answer::Refused(errno)),
+    }
+}
+
+// Reads at the place of a descriptor's description.
+#[tactic(auto, using(crate::proofs::Described::same_kind))]
+fn reads<H: Host>(
+    alloc: Global,
+    fs: &mut Fs,
+    host: &mut H,
+    caller: &Caller,
+    space: &mut Space,
+    fd: u32,
+    ranges: &[Range],
+) -> Result<Answer, HostErr>
+    requires { Sound (stage fs.old (H.view host.old) caller.now space.old) }
+    ensures { Ends (λ s. on_description s (described s fd) (λ desc. reads fd ranges.now desc s))
+        (stage fs.old (H.view host.old) caller.now space.old)
+        (stage fs.new (H.view host.new) caller.now space.new) result
+        (H.count host.old) (H.count host.new) }
+{
+    let _before = host.faults();
+    let Some(desc) = fs.files.look(caller.vpid, fd) else {
+        return Ok(Answer::Refused(Errno::BadF));
+    };
+    if !is_readable(desc) {
+        return Ok(Answer::Refused(Errno::BadF));
+    }
+    let (kind, offset) = (desc.kind, offset_of(&desc.spot));
+    reads_kind(alloc, fs, host, caller, space, fd, ranges, kind, offset)
+}
+
+// Reads by what the descriptor refers to.
+#[tactic(auto, unfolding(crate::specs::Reading::reads_kind), using(crate::proofs::Described::file_place))]
+fn reads_kind<H: Host>(
+    alloc: Global,
+    fs: &mut Fs,
+    host: &mut H,
+    caller: &Caller,
+    space: &mut Space,
+    fd: u32,
+    ranges: &[Range],
+    kind: DescKind,
+    offset: u64,
+) -> Result<Answer, HostErr>
+    requires sound { Sound (stage fs.old (H.view host.old) caller.now space.old) }
+    requires there { IsIn (shape_of fs.old.tree (H.view host.old).forest) kind }
+    requires of_kind { IfSome (described (scene (stage fs.old (H.view host.old) caller.now space.old)) fd)
+        (λ desc. desc.kind ≡ kind) }
+    ensures { Ends (reads_kind fd ranges.now kind offset)
+        (stage fs.old (H.view host.old) caller.now space.old)
+        (stage fs.new (H.view host.new) caller.now space.new) result
+        (H.count host.old) (H.count host.new) }
+{
+    let _before = host.faults();
+    match kind {
+        DescKind::File(n) => reads_on(alloc, fs, host, caller, space, fd, ranges, n, offset),
+        DescKind::Dir(_) => Ok(Answer::Refused(Errno::IsDir)),
+        DescKind::Input => Ok(Answer::Value(0)),
+        DescKind::Stream(_) => Ok(Answer::Refused(Errno::BadF)),
+    }
+}
+
+// Reads a file where its description stands.
+#[tactic(auto, using(crate::proofs::Parts::came))]
+fn reads_on<H: Host>(
+    alloc: Global,
+    fs: &mut Fs,
+    host: &mut H,
+    caller: &Caller,
+    space: &mut Space,
+    fd: u32,
+    ranges: &[Range],
+    n: u64,
+    offset: u64,
+) -> Result<Answer, HostErr>
+    requires sound { Sound (stage fs.old (H.view host.old) caller.now space.old) }
+    requires file { IsFile (shape_of fs.old.tree (H.view host.old).forest) n }
+    requires at_offset { IfSome (described (scene (stage fs.old (H.view host.old) caller.now space.old)) fd)
+        (λ desc. is_after (Spot.At offset) ≡ is_of_dir desc.kind) }
+    ensures { Ends (reads_on fd n offset ranges.now)
+        (stage fs.old (H.view host.old) caller.now space.old)
+        (stage fs.new (H.view host.new) caller.now space.new) result
+        (H.count host.old) (H.count host.new) }
+{
+    let bytes = read_part(alloc, host, &fs.tree, ranges, n, offset)?;
+    receive(fs, host, caller, space, fd, ranges, offset, &bytes)
+}
+
+// Puts the bytes that came into ranges, and lets the description go on behind them.
+#[tactic(auto, using(crate::proofs::Described::same_nodes))]
+fn receive<H: Host>(
+    fs: &mut Fs,
+    host: &H,
+    caller: &Caller,
+    space: &mut Space,
+    fd: u32,
+    ranges: &[Range],
+    offset: u64,
+    bytes: &[u8],
+) -> Result<Answer, HostErr>
+    requires sound { Sound (stage fs.old (H.view host.now) caller.now space.old) }
+    requires fits { offset + length bytes.now < 2 ^ 64 }
+    requires at_offset { IfSome (described (scene (stage fs.old (H.view host.now) caller.now space.old)) fd)
+        (λ desc. is_after (Spot.At offset) ≡ is_of_dir desc.kind) }
+    ensures { Ends (λ s. received s fd offset (length bytes.now) (scattered s.space ranges.now bytes.now))
+        (stage fs.old (H.view host.now) caller.now space.old)
+        (stage fs.new (H.view host.now) caller.now space.new) result
+        (H.count host.now) (H.count host.now) }
+{
+    if scatter(space, ranges, bytes).is_err() {
+        return Ok(Answer::Refused(Errno::Fault));
+    }
+    let count = bytes.len() as u64;
+    fs.files
+        .set_place(caller.vpid, fd, Spot::At(offset + count));
+    Ok(Answer::Value(count))
+}
+
+/// pread64(2): read(2) at an offset, while the description stays where it is. The errors are EINVAL (a negative
+/// offset), EBADF (the descriptor is not open, or not for reading), EISDIR, ESPIPE (it is of no file), and EFAULT.
+#[tactic(auto, unfolding(crate::specs::Reading::pread64_row))]
+pub fn pread64<H: Host>(
+    alloc: Global,
+    fs: &Fs,
+    host: &mut H,
+    caller: &Caller,
+    space: &mut Space,
+    args: [u64; 6],
+) -> Result<Answer, HostErr>
+    requires { Sound (stage fs.now (H.view host.old) caller.now space.old) }
+    ensures { Serves pread64_row args (stage fs.now (H.view host.old) caller.now space.old)
+        (stage fs.now (H.view host.new) caller.now space.new) result
+        (H.count host.old) (H.count host.new) }
+{
+    let _before = host.faults();
+    if args[3] > i64::MAX as u64 {
+        return Ok(Answer::Refused(Errno::Inval));
+    }
+    let Some(desc) = fs.files.look(caller.vpid, low_word(args[0])) else {
+        return Ok(Answer::Refused(Errno::BadF));
+    };
+    if !is_readable(desc) {
+        return Ok(Answer::Refused(Errno::BadF));
+    }
+    let range = Range {
+        address: args[1],
+        len: byte_count(args[2]),
+    };
+    reads_kind_at(alloc, fs, host, caller, space, &[range], desc.kind, args[3])
+}
+
+// Reads at an offset by what the descriptor refers to.
+fn reads_kind_at<H: Host>(
+    alloc: Global,
+    fs: &Fs,
+    host: &mut H,
+    caller: &Caller,
+    space: &mut Space,
+    ranges: &[Range],
+    kind: DescKind,
+    offset: u64,
+) -> Result<Answer, HostErr>
+    requires sound { Sound (stage fs.now (H.view host.old) caller.now space.old) }
+    requires there { IsIn (shape_of fs.now.tree (H.view host.old).forest) kind }
+    ensures { Ends (reads_kind_at offset ranges.now kind)
+        (stage fs.now (H.view host.old) caller.now space.old)
+        (stage fs.now (H.view host.new) caller.now space.new) result
+        (H.count host.old) (H.count host.new) }
+{
+    let _before = host.faults();
+    match kind {
+        DescKind::File(n) => reads_at(alloc, fs, host, caller, space, ranges, n, offset),
+        DescKind::Dir(_) => Ok(Answer::Refused(Errno::IsDir)),
+        DescKind::Input | DescKind::Stream(_) => Ok(Answer::Refused(Errno::SPipe)),
+    }
+}
+
+// Reads a file from an offset on.
+#[tactic(auto, using(crate::proofs::Parts::came))]
+fn reads_at<H: Host>(
+    alloc: Global,
+    fs: &Fs,
+    host: &mut H,
+    caller: &Caller,
+    space: &mut Space,
+    ranges: &[Range],
+    n: u64,
+    offset: u64,
+) -> Result<Answer, HostErr>
+    requires sound { Sound (stage fs.now (H.view host.old) caller.now space.old) }
+    requires file { IsFile (shape_of fs.now.tree (H.view host.old).forest) n }
+    ensures { Ends (reads_at n offset ranges.now)
+        (stage fs.now (H.view host.old) caller.now space.old)
+        (stage fs.now (H.view host.new) caller.now space.new) result
+        (H.count host.old) (H.count host.new) }
+{
+    let bytes = read_part(alloc, host, &fs.tree, ranges, n, offset)?;
+    fill_ranges(fs, host, caller, space, ranges, &bytes)
+}
+
+// Puts the bytes that came into ranges.
+fn fill_ranges<H: Host>(
+    fs: &Fs,
+    host: &H,
+    caller: &Caller,
+    space: &mut Space,
+    ranges: &[Range],
+    bytes: &[u8],
+) -> Result<Answer, HostErr>
+    requires { Sound (stage fs.now (H.view host.now) caller.now space.old) }
+    ensures { Ends (λ s. filled s (length bytes.now) (scattered s.space ranges.now bytes.now))
+        (stage fs.now (H.view host.now) caller.now space.old)
+        (stage fs.now (H.view host.now) caller.now space.new) result
+        (H.count host.now) (H.count host.now) }
+{
+    if scatter(space, ranges, bytes).is_err() {
+        return Ok(Answer::Refused(Errno::Fault));
+    }
+    Ok(Answer::Value(bytes.len() as u64))
+}
+
+// As much of a file as ranges take, from an offset on.
+fn read_part<H: Host>(
+    alloc: Global,
+    host: &mut H,
+    tree: &Tree,
+    ranges: &[Range],
+    n: u64,
+    offset: u64,
+) -> Result<Vec<u8>, HostErr>
+    requires stands { Stands tree.now (H.view host.old).forest }
+    requires file { IsFile (shape_of tree.now (H.view host.old).forest) n }
+    ensures ok { IfOk result (λ bytes. bytes.items ≡ take (total_len ranges.now)
+        (drop offset (content (shape_of tree.now (H.view host.old).forest) n))) }
+    ensures fits { IfOk result (λ bytes. offset + length bytes.items < 2 ^ 64) }
+    ensures asks { Asks H.view H.count host.old host.new result }
+{
+    // No more than is left, since the ranges may take near 2 GiB.
+    let left = tree.meta(host, n)?.size.saturating_sub(offset);
+    let count = left.min(total_len(ranges));
+    let mut bytes = vec![in alloc; 0; count as usize]?;
+    tree.read_at(host, n, offset, &mut bytes)?;
+    Ok(bytes)
+}

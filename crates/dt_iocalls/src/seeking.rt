@@ -1,0 +1,164 @@
+// The call that moves the place of a description (lseek(2)).
+ghost use Rattle.std.specs.Prelude.{◌≡◌, true, false, IfOk, IfSome, IsErrOf};
+ghost use Rattle.dt_base.specs.Abi.{low_word};
+ghost use Rattle.dt_fds.specs.Descriptions.{description_at, is_of_dir};
+ghost use Rattle.dt_host.specs.Cause.{HasCause};
+ghost use Rattle.dt_host.specs.World.{IsFile};
+ghost use Rattle.dt_iocalls.specs.Seeking.{moved_by, sought, seeks_to, rewinds, lseek_row};
+ghost use Rattle.dt_scene.specs.Sound.{Sound, Serves, Ends, Reaches, stage, scene};
+ghost use Rattle.dt_tree.specs.Table.{Stands, shape_of, tree_of};
+
+use crate::places::offset_of;
+use dt_base::abi::{SEEK_CUR, SEEK_END, SEEK_SET, low_word};
+use dt_base::{Answer, Caller, Errno, OFFSET_LIMIT};
+use dt_fds::{DescKind, Spot};
+use dt_host::{Host, HostErr};
+use dt_scene::Fs;
+use dt_space::Space;
+use dt_tree::Tree;
+
+/// lseek(2): moves the place of a file's description, counted from the start of the file (SEEK_SET), from where it
+/// stands (SEEK_CUR) or from the end (SEEK_END), and answers the new one; a listing can only start again. The errors
+/// are EBADF, ESPIPE (neither a file nor a directory), and EINVAL (another whence, or no such place).
+#[tactic(auto, unfolding(crate::specs::Seeking::lseek_row), using(crate::proofs::Described::node_in))]
+pub fn lseek<H: Host>(
+    fs: &mut Fs,
+    host: &mut H,
+    caller: &Caller,
+    space: &Space,
+    args: [u64; 6],
+) -> Result<Answer, HostErr>
+    requires { Sound (stage fs.old (H.view host.old) caller.now space.now) }
+    ensures { Serves lseek_row args (stage fs.old (H.view host.old) caller.now space.now)
+        (stage fs.new (H.view host.new) caller.now space.now) result
+        (H.count host.old) (H.count host.new) }
+{
+    let _before = host.faults();
+    let (fd, by, whence) = (low_word(args[0]), args[1], low_word(args[2]));
+    let Some(desc) = fs.files.look(caller.vpid, fd) else {
+        return Ok(Answer::Refused(Errno::BadF));
+    };
+    match desc.kind {
+        DescKind::File(n) => {
+            let offset = offset_of(&desc.spot);
+            seek(fs, host, caller, space, fd, n, offset, by, whence)
+        }
+        DescKind::Dir(_) => rewind(fs, host, caller, space, fd, by, whence),
+        DescKind::Input | DescKind::Stream(_) => Ok(Answer::Refused(Errno::SPipe)),
+    }
+}
+
+// Moves the place of a file's description.
+#[tactic(auto, using(crate::proofs::Scenes::after_asking))]
+fn seek<H: Host>(
+    fs: &mut Fs,
+    host: &mut H,
+    caller: &Caller,
+    space: &Space,
+    fd: u32,
+    n: u64,
+    offset: u64,
+    by: u64,
+    whence: u32,
+) -> Result<Answer, HostErr>
+    requires sound { Sound (stage fs.old (H.view host.old) caller.now space.now) }
+    requires file { IsFile (shape_of fs.old.tree (H.view host.old).forest) n }
+    requires of_file { IfSome (description_at fs.old.files caller.now.vpid fd)
+        (λ desc. false ≡ is_of_dir desc.kind) }
+    ensures { Ends (λ s. seeks_to fd s (sought s.tree n offset by whence))
+        (stage fs.old (H.view host.old) caller.now space.now)
+        (stage fs.new (H.view host.new) caller.now space.now) result
+        (H.count host.old) (H.count host.new) }
+{
+    let found = sought(&fs.tree, host, n, offset, by, whence)?;
+    go_to(fs, host, caller, space, fd, found)
+}
+
+// The offset that a seek in a file leads to.
+#[tactic(auto, unfolding(crate::specs::Seeking::sought), using(crate::proofs::Parts::sized))]
+fn sought<H: Host>(
+    tree: &Tree,
+    host: &mut H,
+    n: u64,
+    offset: u64,
+    by: u64,
+    whence: u32,
+) -> Result<Option<u64>, HostErr>
+    requires stands { Stands tree.now (H.view host.old).forest }
+    requires file { IsFile (shape_of tree.now (H.view host.old).forest) n }
+    ensures ok { IfOk result
+        (λ found. found ≡ sought (tree_of tree.now (H.view host.old).forest) n offset by whence) }
+    ensures stays { H.view host.new ≡ H.view host.old }
+    ensures cause { HasCause (H.count host.old) (H.count host.new) (IsErrOf result HostErr.Failed) }
+{
+    let _before = host.faults();
+    match whence {
+        SEEK_SET => Ok(moved_by(0, by)),
+        SEEK_CUR => Ok(moved_by(offset, by)),
+        SEEK_END => Ok(moved_by(tree.meta(host, n)?.size, by)),
+        _ => Ok(None),
+    }
+}
+
+// An offset moved by a number that may be negative, if that is an offset.
+#[tactic(auto, unfolding(crate::specs::Seeking::moved_by))]
+fn moved_by(base: u64, by: u64) -> Option<u64>
+    ensures { result ≡ moved_by base by }
+{
+    let (moved, wraps) = base.overflowing_add(by);
+    if wraps == (by > i64::MAX as u64) && moved <= OFFSET_LIMIT {
+        Some(moved)
+    } else {
+        None
+    }
+}
+
+// Moves the place of a file's description to an offset, if there is one, and answers that.
+fn go_to<H: Host>(
+    fs: &mut Fs,
+    host: &H,
+    caller: &Caller,
+    space: &Space,
+    fd: u32,
+    found: Option<u64>,
+) -> Result<Answer, HostErr>
+    requires sound { Sound (stage fs.old (H.view host.now) caller.now space.now) }
+    requires of_file { IfSome (description_at fs.old.files caller.now.vpid fd)
+        (λ desc. false ≡ is_of_dir desc.kind) }
+    ensures { Reaches (seeks_to fd (scene (stage fs.old (H.view host.now) caller.now space.now)) found)
+        (stage fs.old (H.view host.now) caller.now space.now)
+        (stage fs.new (H.view host.now) caller.now space.now) result
+        (H.count host.now) (H.count host.now) }
+{
+    match found {
+        Some(offset) => {
+            fs.files.set_place(caller.vpid, fd, Spot::At(offset));
+            Ok(Answer::Value(offset))
+        }
+        None => Ok(Answer::Refused(Errno::Inval)),
+    }
+}
+
+// Lets a listing start again.
+fn rewind<H: Host>(
+    fs: &mut Fs,
+    host: &H,
+    caller: &Caller,
+    space: &Space,
+    fd: u32,
+    by: u64,
+    whence: u32,
+) -> Result<Answer, HostErr>
+    requires sound { Sound (stage fs.old (H.view host.now) caller.now space.now) }
+    requires of_dir { IfSome (description_at fs.old.files caller.now.vpid fd)
+        (λ desc. true ≡ is_of_dir desc.kind) }
+    ensures { Ends (rewinds fd by whence) (stage fs.old (H.view host.now) caller.now space.now)
+        (stage fs.new (H.view host.now) caller.now space.now) result
+        (H.count host.now) (H.count host.now) }
+{
+    if by != 0 || whence != SEEK_SET {
+        return Ok(Answer::Refused(Errno::Inval));
+    }
+    fs.files.set_place(caller.vpid, fd, Spot::After(None));
+    Ok(Answer::Value(0))
+}

@@ -1,0 +1,402 @@
+// The calls that write or cut a file.
+ghost use Rattle.std.specs.Prelude.{◌≡◌, ◌≢◌, ◌≤◌, [], false, length, Ok, Err, IfOk, IfSome, IsErrOf, MatchResult};
+ghost use Rattle.dt_base.specs.Abi.{low_word};
+ghost use Rattle.dt_fds.specs.Backs.{IsIn};
+ghost use Rattle.dt_fds.specs.Descriptions.{description_at, is_of_dir};
+ghost use Rattle.dt_fds.specs.declared.desc.Spot.TheVariants.{At as at_offset};
+ghost use Rattle.dt_host.specs.Cause.{HasCause};
+ghost use Rattle.dt_host.specs.World.{IsFile};
+ghost use Rattle.dt_tree.specs.Table.{Stands, shape_of, tree_of};
+ghost use Rattle.dt_iocalls.specs.Places.{goes_on};
+ghost use Rattle.dt_iocalls.specs.Ranges.{gathered};
+ghost use Rattle.dt_iocalls.specs.Writing.{write_offset, writes_at, writes_on, writes_file, writes_kind, writes_to, write_row, writev_row, writes_bytes_at, writes_file_at, pwrite64_row, cuts_kind, ftruncate_row};
+ghost use Rattle.dt_scene.specs.Arguments.{argument};
+ghost use Rattle.dt_scene.specs.Scene.{answers};
+ghost use Rattle.dt_scene.specs.Sound.{Sound, Serves, Ends, Reaches, stage, scene};
+
+use crate::places::{is_writable, offset_of};
+use crate::ranges::{Range, gather, ranges_at};
+use dt_base::abi::{byte_count, low_word};
+use dt_base::{Answer, Blob, Caller, Errno};
+use dt_fds::{DescKind, Spot};
+use dt_host::{CallErr, Host, HostErr};
+use dt_scene::Fs;
+use dt_space::{ReadErr, Space};
+use dt_tree::Tree;
+use std::alloc::Global;
+
+/// write(2): writes the bytes of a buffer to where the description stands, or to the end of its file with O_APPEND,
+/// and answers how many these are; those of a stream go out. The errors are EBADF (not open, or not for writing),
+/// EFAULT, EISDIR, EBADF (the input), and EFBIG.
+#[tactic(auto, unfolding(crate::specs::Writing::write_row))]
+pub fn write<H: Host>(
+    alloc: Global,
+    fs: &mut Fs,
+    host: &mut H,
+    caller: &Caller,
+    space: &Space,
+    args: [u64; 6],
+) -> Result<Answer, HostErr>
+    requires { Sound (stage fs.old (H.view host.old) caller.now space.now) }
+    ensures { Serves write_row args (stage fs.old (H.view host.old) caller.now space.now)
+        (stage fs.new (H.view host.new) caller.now space.now) result
+        (H.count host.old) (H.count host.new) }
+{
+    let ranges = [Range {
+        address: args[1],
+        len: byte_count(args[2]),
+    }];
+    write_ranges(alloc, fs, host, caller, space, low_word(args[0]), &ranges)
+}
+
+/// writev(2): as write(2), with the bytes of a list of buffers. The errors are EINVAL (more than 1,024 buffers), EFAULT
+/// (the list may not be read), EINVAL (too many bytes), and those of write(2).
+#[tactic(auto, unfolding(crate::specs::Writing::writev_row))]
+pub fn writev<H: Host>(
+    alloc: Global,
+    fs: &mut Fs,
+    host: &mut H,
+    caller: &Caller,
+    space: &Space,
+    args: [u64; 6],
+) -> Result<Answer, HostErr>
+    requires { Sound (stage fs.old (H.view host.old) caller.now space.now) }
+    ensures { Serves writev_row args (stage fs.old (H.view host.old) caller.now space.now)
+        (stage fs.new (H.view host.new) caller.now space.now) result
+        (H.count host.old) (H.count host.new) }
+{
+    let _before = host.faults();
+    match ranges_at(alloc, space, args[1], low_word(args[2]))? {
+        Ok(ranges) => write_ranges(alloc, fs, host, caller, space, low_word(args[0]), &ranges),
+        Err(errno) => Ok(Answer::Refused(errno)),
+    }
+}
+
+// Writes the bytes of ranges to a descriptor.
+fn write_ranges<H: Host>(
+    alloc: Global,
+    fs: &mut Fs,
+    host: &mut H,
+    caller: &Caller,
+    space: &Space,
+    fd: u32,
+    ranges: &[Range],
+) -> Result<Answer, HostErr>
+    requires { Sound (stage fs.old (H.view host.old) caller.now space.now) }
+    ensures { Ends (writes_to fd ranges.now) (stage fs.old (H.view host.old) caller.now space.now)
+        (stage fs.new (H.view host.new) caller.now space.now) result
+        (H.count host.old) (H.count host.new) }
+{
+    let _before = host.faults();
+    let Some(desc) = fs.files.look(caller.vpid, fd) else {
+        return Ok(Answer::Refused(Errno::BadF));
+    };
+    if !is_writable(desc) {
+        return Ok(Answer::Refused(Errno::BadF));
+    }
+    let bytes = match gather(alloc, space, ranges) {
+        Ok(bytes) => bytes,
+        Err(ReadErr::Miss(_)) => return Ok(Answer::Refused(Errno::Fault)),
+        Err(ReadErr::NoMemory) => return Err(HostErr::NoMemory),
+    };
+    if bytes.is_empty() {
+        return Ok(Answer::Value(0));
+    }
+    let (kind, append, offset) = (desc.kind, desc.append, offset_of(&desc.spot));
+    write_bytes(fs, host, caller, space, fd, kind, append, offset, bytes)
+}
+
+// Writes some bytes to what a descriptor refers to.
+fn write_bytes<H: Host>(
+    fs: &mut Fs,
+    host: &mut H,
+    caller: &Caller,
+    space: &Space,
+    fd: u32,
+    kind: DescKind,
+    append: bool,
+    offset: u64,
+    bytes: Vec<u8>,
+) -> Result<Answer, HostErr>
+    requires sound { Sound (stage fs.old (H.view host.old) caller.now space.now) }
+    requires there { IsIn (shape_of fs.old.tree (H.view host.old).forest) kind }
+    requires is { IfSome (description_at fs.old.files caller.now.vpid fd) (λ desc. desc.kind ≡ kind) }
+    ensures { Ends (writes_kind fd append offset kind bytes.items)
+        (stage fs.old (H.view host.old) caller.now space.now)
+        (stage fs.new (H.view host.new) caller.now space.now) result
+        (H.count host.old) (H.count host.new) }
+{
+    let _before = host.faults();
+    match kind {
+        DescKind::File(n) => write_file(fs, host, caller, space, fd, n, append, offset, &bytes),
+        DescKind::Dir(_) => Ok(Answer::Refused(Errno::IsDir)),
+        DescKind::Input => Ok(Answer::Refused(Errno::BadF)),
+        DescKind::Stream(stream) => Ok(Answer::Output(stream, Blob::new(bytes))),
+    }
+}
+
+// Writes bytes to a file at an offset, or at its end, and moves the place of its description.
+#[tactic(auto, using(crate::proofs::Scenes::after_asking))]
+fn write_file<H: Host>(
+    fs: &mut Fs,
+    host: &mut H,
+    caller: &Caller,
+    space: &Space,
+    fd: u32,
+    n: u64,
+    append: bool,
+    offset: u64,
+    bytes: &[u8],
+) -> Result<Answer, HostErr>
+    requires sound { Sound (stage fs.old (H.view host.old) caller.now space.now) }
+    requires file { IsFile (shape_of fs.old.tree (H.view host.old).forest) n }
+    requires of_file { IfSome (description_at fs.old.files caller.now.vpid fd)
+        (λ desc. false ≡ is_of_dir desc.kind) }
+    ensures { Ends (writes_file fd n append offset bytes.now)
+        (stage fs.old (H.view host.old) caller.now space.now)
+        (stage fs.new (H.view host.new) caller.now space.now) result
+        (H.count host.old) (H.count host.new) }
+{
+    let at = write_offset(&fs.tree, host, append, n, offset)?;
+    write_on(fs, host, caller, space, fd, n, at, bytes)
+}
+
+// Where a write goes: to an offset, or to the end of the file with O_APPEND.
+#[tactic(auto, using(crate::proofs::Parts::sized))]
+fn write_offset<H: Host>(
+    tree: &Tree,
+    host: &mut H,
+    append: bool,
+    n: u64,
+    offset: u64,
+) -> Result<u64, HostErr>
+    requires stands { Stands tree.now (H.view host.old).forest }
+    requires file { IsFile (shape_of tree.now (H.view host.old).forest) n }
+    ensures ok { IfOk result
+        (λ at. at ≡ write_offset (tree_of tree.now (H.view host.old).forest) append n offset) }
+    ensures stays { H.view host.new ≡ H.view host.old }
+    ensures cause { HasCause (H.count host.old) (H.count host.new) (IsErrOf result HostErr.Failed) }
+{
+    let _before = host.faults();
+    if append {
+        Ok(tree.meta(host, n)?.size)
+    } else {
+        Ok(offset)
+    }
+}
+
+// Writes bytes to an offset of a file, and moves the place of its description behind them.
+fn write_on<H: Host>(
+    fs: &mut Fs,
+    host: &mut H,
+    caller: &Caller,
+    space: &Space,
+    fd: u32,
+    n: u64,
+    offset: u64,
+    bytes: &[u8],
+) -> Result<Answer, HostErr>
+    requires sound { Sound (stage fs.old (H.view host.old) caller.now space.now) }
+    requires file { IsFile (shape_of fs.old.tree (H.view host.old).forest) n }
+    requires of_file { IfSome (description_at fs.old.files caller.now.vpid fd)
+        (λ desc. false ≡ is_of_dir desc.kind) }
+    ensures { Ends (writes_on fd n offset bytes.now)
+        (stage fs.old (H.view host.old) caller.now space.now)
+        (stage fs.new (H.view host.new) caller.now space.now) result
+        (H.count host.old) (H.count host.new) }
+{
+    let written = write_at(fs, host, caller, space, n, offset, bytes)?;
+    let Answer::Value(count) = written else {
+        return Ok(written);
+    };
+    go_on(fs, host, caller, space, fd, offset + count, count)
+}
+
+// Writes bytes to an offset of a file.
+#[tactic(auto, using(crate::proofs::Scenes::kept))]
+fn write_at<H: Host>(
+    fs: &mut Fs,
+    host: &mut H,
+    caller: &Caller,
+    space: &Space,
+    n: u64,
+    offset: u64,
+    bytes: &[u8],
+) -> Result<Answer, HostErr>
+    requires sound { Sound (stage fs.old (H.view host.old) caller.now space.now) }
+    requires file { IsFile (shape_of fs.old.tree (H.view host.old).forest) n }
+    ensures row { Ends (writes_at n offset bytes.now (λ next. next))
+        (stage fs.old (H.view host.old) caller.now space.now)
+        (stage fs.new (H.view host.new) caller.now space.now) result
+        (H.count host.old) (H.count host.new) }
+    ensures files { fs.new.files ≡ fs.old.files }
+{
+    let stamp = fs.next_stamp();
+    match fs.tree.write_at(host, n, offset, bytes, stamp) {
+        Ok(()) => {
+            fs.clock.stamp();
+            Ok(Answer::Value(bytes.len() as u64))
+        }
+        Err(CallErr::Errno(errno)) => Ok(Answer::Refused(errno)),
+        Err(CallErr::Host(error)) => Err(error),
+    }
+}
+
+// Moves the place of a description, and answers so many bytes.
+#[tactic(auto, using(crate::proofs::Described::same_nodes))]
+fn go_on<H: Host>(
+    fs: &mut Fs,
+    host: &H,
+    caller: &Caller,
+    space: &Space,
+    fd: u32,
+    offset: u64,
+    count: u64,
+) -> Result<Answer, HostErr>
+    requires sound { Sound (stage fs.old (H.view host.now) caller.now space.now) }
+    requires of_file { IfSome (description_at fs.old.files caller.now.vpid fd)
+        (λ desc. false ≡ is_of_dir desc.kind) }
+    ensures { Reaches (answers (goes_on (scene (stage fs.old (H.view host.now) caller.now space.now)) fd
+        (at_offset offset)) count)
+        (stage fs.old (H.view host.now) caller.now space.now)
+        (stage fs.new (H.view host.now) caller.now space.now) result
+        (H.count host.now) (H.count host.now) }
+{
+    fs.files.set_place(caller.vpid, fd, Spot::At(offset));
+    Ok(Answer::Value(count))
+}
+
+/// pwrite64(2): writes the bytes of a buffer to an offset of a file, or to its end with O_APPEND, and answers how many
+/// these are. The errors are EINVAL (a negative offset), EBADF (not open, or not for writing), EISDIR, ESPIPE, EFAULT,
+/// and EFBIG.
+#[tactic(auto, unfolding(crate::specs::Writing::pwrite64_row), using(crate::proofs::Described::node_in))]
+pub fn pwrite64<H: Host>(
+    alloc: Global,
+    fs: &mut Fs,
+    host: &mut H,
+    caller: &Caller,
+    space: &Space,
+    args: [u64; 6],
+) -> Result<Answer, HostErr>
+    requires { Sound (stage fs.old (H.view host.old) caller.now space.now) }
+    ensures { Serves pwrite64_row args (stage fs.old (H.view host.old) caller.now space.now)
+        (stage fs.new (H.view host.new) caller.now space.now) result
+        (H.count host.old) (H.count host.new) }
+{
+    let _before = host.faults();
+    if args[3] > i64::MAX as u64 {
+        return Ok(Answer::Refused(Errno::Inval));
+    }
+    let Some(desc) = fs.files.look(caller.vpid, low_word(args[0])) else {
+        return Ok(Answer::Refused(Errno::BadF));
+    };
+    if !is_writable(desc) {
+        return Ok(Answer::Refused(Errno::BadF));
+    }
+    let append = desc.append;
+    let ranges = [Range {
+        address: args[1],
+        len: byte_count(args[2]),
+    }];
+    match desc.kind {
+        DescKind::File(n) => {
+            write_file_at(alloc, fs, host, caller, space, n, append, args[3], &ranges)
+        }
+        DescKind::Dir(_) => Ok(Answer::Refused(Errno::IsDir)),
+        DescKind::Input | DescKind::Stream(_) => Ok(Answer::Refused(Errno::SPipe)),
+    }
+}
+
+// Writes the bytes of ranges to an offset of a file, or to its end.
+#[tactic(auto, using(crate::proofs::Scenes::after_asking))]
+fn write_file_at<H: Host>(
+    alloc: Global,
+    fs: &mut Fs,
+    host: &mut H,
+    caller: &Caller,
+    space: &Space,
+    n: u64,
+    append: bool,
+    offset: u64,
+    ranges: &[Range],
+) -> Result<Answer, HostErr>
+    requires sound { Sound (stage fs.old (H.view host.old) caller.now space.now) }
+    requires file { IsFile (shape_of fs.old.tree (H.view host.old).forest) n }
+    ensures { Ends (writes_file_at n append offset ranges.now)
+        (stage fs.old (H.view host.old) caller.now space.now)
+        (stage fs.new (H.view host.new) caller.now space.now) result
+        (H.count host.old) (H.count host.new) }
+{
+    let _before = host.faults();
+    let bytes = match gather(alloc, space, ranges) {
+        Ok(bytes) => bytes,
+        Err(ReadErr::Miss(_)) => return Ok(Answer::Refused(Errno::Fault)),
+        Err(ReadErr::NoMemory) => return Err(HostErr::NoMemory),
+    };
+    if bytes.is_empty() {
+        return Ok(Answer::Value(0));
+    }
+    let at = write_offset(&fs.tree, host, append, n, offset)?;
+    write_at(fs, host, caller, space, n, at, &bytes)
+}
+
+/// ftruncate(2): cuts a file to a length, or puts zeros behind its bytes up to it, and answers 0. The errors are EINVAL
+/// (a negative length), EBADF, EINVAL (no file that is open for writing), and EFBIG.
+#[tactic(auto, unfolding(crate::specs::Writing::ftruncate_row), using(crate::proofs::Described::node_in))]
+pub fn ftruncate<H: Host>(
+    fs: &mut Fs,
+    host: &mut H,
+    caller: &Caller,
+    space: &Space,
+    args: [u64; 6],
+) -> Result<Answer, HostErr>
+    requires { Sound (stage fs.old (H.view host.old) caller.now space.now) }
+    ensures { Serves ftruncate_row args (stage fs.old (H.view host.old) caller.now space.now)
+        (stage fs.new (H.view host.new) caller.now space.now) result
+        (H.count host.old) (H.count host.new) }
+{
+    let _before = host.faults();
+    if args[1] > i64::MAX as u64 {
+        return Ok(Answer::Refused(Errno::Inval));
+    }
+    let Some(desc) = fs.files.look(caller.vpid, low_word(args[0])) else {
+        return Ok(Answer::Refused(Errno::BadF));
+    };
+    if !is_writable(desc) {
+        return Ok(Answer::Refused(Errno::Inval));
+    }
+    match desc.kind {
+        DescKind::File(n) => cut(fs, host, caller, space, n, args[1]),
+        DescKind::Dir(_) | DescKind::Input | DescKind::Stream(_) => {
+            Ok(Answer::Refused(Errno::Inval))
+        }
+    }
+}
+
+// Cuts a file to a length, or makes it longer.
+#[tactic(auto, using(crate::proofs::Scenes::kept))]
+fn cut<H: Host>(
+    fs: &mut Fs,
+    host: &mut H,
+    caller: &Caller,
+    space: &Space,
+    n: u64,
+    len: u64,
+) -> Result<Answer, HostErr>
+    requires sound { Sound (stage fs.old (H.view host.old) caller.now space.now) }
+    requires file { IsFile (shape_of fs.old.tree (H.view host.old).forest) n }
+    ensures { Ends (cuts_kind len (DescKind.File n))
+        (stage fs.old (H.view host.old) caller.now space.now)
+        (stage fs.new (H.view host.new) caller.now space.now) result
+        (H.count host.old) (H.count host.new) }
+{
+    let stamp = fs.next_stamp();
+    match fs.tree.cut(host, n, len, stamp) {
+        Ok(()) => {
+            fs.clock.stamp();
+            Ok(Answer::Value(0))
+        }
+        Err(CallErr::Errno(errno)) => Ok(Answer::Refused(errno)),
+        Err(CallErr::Host(error)) => Err(error),
+    }
+}

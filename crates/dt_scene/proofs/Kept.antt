@@ -1,0 +1,248 @@
+-- How soundness lasts, and that a call leaves what others hold.
+use Rattle.std.proofs.Common.{◌≡◌, ℕ, ◌<◌, ◌≤◌, List, [], Option, None, Some, refl, sym, ap, ◌∙◌, subst, arith}
+use Rattle.std.specs.Prelude.{Result, Ok, Err, IfOk, OnOk, IfSome}
+use Rattle.std.specs.FinMap.{get}
+use Rattle.dt_base.specs.declared.answer.Answer.{Answer}
+use Rattle.dt_base.specs.declared.answer.Answer.TheVariants.{Value}
+use Rattle.dt_base.specs.declared.caller.Caller.{Caller}
+use Rattle.dt_fds.specs.declared.desc.Desc.{Desc}
+use Rattle.dt_fds.specs.declared.desc.DescKind.{DescKind}
+use Rattle.dt_fds.specs.declared.desc.DescKind.TheVariants.{File, Dir, Input, Stream}
+use Rattle.dt_fds.specs.Descriptions.{Descriptions, inode_of}
+use Rattle.dt_fds.specs.Backs.{IsIn, AllIn, IsBacked, KeepsNodes, KeepsOthers as KeepsHolds, at, descriptions_of, named_by}
+use Rattle.dt_fds.specs.Holding.{Outcome, over}
+use Rattle.dt_base.specs.declared.errno.Errno.{Errno}
+use Rattle.dt_fds.proofs.Backing.{named}
+use Rattle.dt_host.specs.Cause.{Rose}
+use Rattle.dt_host.specs.Total.{weight}
+use Rattle.dt_host.specs.World.{World, Forest, IsFile, IsDir}
+use Rattle.dt_host.specs.declared.error.HostErr.{HostErr}
+use Rattle.dt_space.specs.Space.{PageView}
+use Rattle.dt_tree.specs.Calls.{Done, KeepsHeld, done}
+use Rattle.dt_tree.specs.FileTree.{holds_of}
+use Rattle.dt_tree.specs.Shape.{one_for}
+use Rattle.dt_tree.specs.Table.{Table, Stands, shape_of, tree_of}
+use Rattle.dt_tree.proofs.Namings.{one_for-same}
+use Rattle.dt_scene.specs.declared.fs.Fs.{Fs}
+use Rattle.dt_scene.specs.Scene.{Scene, Row, answers, stamp, by_done, holding, answer_of, by_outcome}
+use Rattle.dt_scene.specs.Sound.{Stage, Sound, KeepsOthers, Reaches, Serves, Ends, stage, scene}
+
+-- the working directory is held
+pub cwd_held : (fs : Fs) (w : World) (caller : Caller) (space : List PageView) → Sound (stage fs w caller space) → 1 ≤ holds_of (tree_of fs.tree w.forest) caller.cwd
+cwd_held fs w caller space sound = omega (arith, sound.enough caller.cwd, one_for-same caller.cwd)
+
+-- more than what descriptions hold
+pub cwd_more : (fs : Fs) (w : World) (caller : Caller) (space : List PageView) → Sound (stage fs w caller space) → descriptions_of fs.files caller.cwd < holds_of (tree_of fs.tree w.forest) caller.cwd
+cwd_more fs w caller space sound = omega (arith, sound.enough caller.cwd, one_for-same caller.cwd)
+
+-- the tree backs the descriptions
+pub backed_sound : (fs : Fs) (w : World) (caller : Caller) (space : List PageView) → Sound (stage fs w caller space) → IsBacked (at fs.files fs.tree w)
+backed_sound fs w caller space sound = record {
+  stands = sound.stands;
+  backs = record { enough = λ n. omega (arith, sound.enough n); is_in = sound.all_in };
+}
+
+-- what is open is in another tree too, where nodes that are open stay files and directories
+pub all_in-through : (f : Descriptions) (v w : Forest) → ((n : ℕ) → 1 ≤ descriptions_of f n → IsFile v n → IsFile w n) → ((n : ℕ) → 1 ≤ descriptions_of f n → IsDir v n → IsDir w n) → AllIn v f → AllIn w f
+all_in-through f v w files dirs all k = by_found (get f.descs k) (λ n. named f k n) (all k)
+  where
+    by_kind : (kind : DescKind) → ((n : ℕ) → named_by n (inode_of kind) ≤ descriptions_of f n) → IsIn v kind → IsIn w kind
+    by_kind (File n) named is = files n (omega (arith, named n, one_for-same n)) is
+    by_kind (Dir n) named is = dirs n (omega (arith, named n, one_for-same n)) is
+    by_kind Input named is = tt
+    by_kind (Stream stream) named is = tt
+
+    by_found : (found : Option Desc) → ((n : ℕ) → weight (λ desc. named_by n (inode_of desc.kind)) found ≤ descriptions_of f n) → IfSome found (λ desc. IsIn v desc.kind) → IfSome found (λ desc. IsIn w desc.kind)
+    by_found None named is = tt
+    by_found (Some desc) named is = by_kind desc.kind named is
+
+-- a change of the tree that leaves what is held
+pub sound_kept : (old new : Fs) (w v : World) (caller : Caller) (space pages : List PageView) → Sound (stage old w caller space) → Stands new.tree v.forest → KeepsHeld (tree_of old.tree w.forest) (tree_of new.tree v.forest) → new.files ≡ old.files → Sound (stage new v caller pages)
+sound_kept old new w v caller space pages sound stands kept same = record {
+  stands = stands;
+  is_dir = kept.dirs caller.cwd (cwd_held old w caller space sound) sound.is_dir;
+  all_in = subst (AllIn (shape_of new.tree v.forest)) (sym same)
+      (all_in-through old.files (shape_of old.tree w.forest) (shape_of new.tree v.forest)
+      (λ n named_one. kept.files n (omega (arith, sound.enough n))) (λ n named_one. kept.dirs n (omega (arith, sound.enough n))) sound.all_in);
+  enough = λ n. let files = ap (λ f. descriptions_of f n) same in omega (arith, sound.enough n, kept.holds n);
+}
+
+pub others_kept : (old new : Scene) → old.caller ≡ new.caller → new.files ≡ old.files → KeepsHeld old.tree new.tree → KeepsOthers old new
+others_kept old new same files kept = record {
+  vpid = ap (λ c. c.vpid) (sym same);
+  holds = λ n.
+      let count = ap (λ f. descriptions_of f n) files in
+      let cwd = ap (λ c. one_for n c.cwd) same in
+      omega (arith, kept.holds n);
+  files = λ n held. kept.files n (omega arith);
+  dirs = λ n held. kept.dirs n (omega arith);
+}
+
+-- a change of open files that leaves the nodes that they are of
+pub sound_nodes : (old new : Fs) (w : World) (caller : Caller) (space pages : List PageView) → Sound (stage old w caller space) → KeepsNodes old.files new.files → new.tree ≡ old.tree → Sound (stage new w caller pages)
+sound_nodes old new w caller space pages sound nodes same = record {
+  stands = subst (λ t. Stands t w.forest) (sym same) sound.stands;
+  is_dir = subst (λ t. IsDir (shape_of t w.forest) caller.cwd) (sym same) sound.is_dir;
+  all_in = subst (λ t. AllIn (shape_of t w.forest) new.files) (sym same) (nodes.all_in (shape_of old.tree w.forest) sound.all_in);
+  enough = λ n. let tree = ap (λ t. holds_of (tree_of t w.forest) n) same in omega (arith, sound.enough n, nodes.counts n);
+}
+
+pub others_nodes : (old new : Scene) → old.caller ≡ new.caller → old.tree ≡ new.tree → KeepsNodes old.files new.files → KeepsOthers old new
+others_nodes old new same tree nodes = record {
+  vpid = ap (λ c. c.vpid) (sym same);
+  holds = λ n.
+      let holds = ap (λ t. holds_of t n) tree in
+      let cwd = ap (λ c. one_for n c.cwd) same in
+      omega (arith, nodes.counts n);
+  files = λ n held is. subst (λ t. IsFile t.shape n) tree is;
+  dirs = λ n held is. subst (λ t. IsDir t.shape n) tree is;
+}
+
+-- a change of open files and of what they hold
+pub sound_held : (old new : Fs) (w v : World) (caller : Caller) (space pages : List PageView) → Sound (stage old w caller space) → IsBacked (at new.files new.tree v) → KeepsHolds (holding (scene (stage old w caller space))) (holding (scene (stage new v caller pages))) → Sound (stage new v caller pages)
+sound_held old new w v caller space pages sound backed kept = record {
+  stands = backed.stands;
+  is_dir = kept.dirs caller.cwd (cwd_more old w caller space sound) sound.is_dir;
+  all_in = backed.backs.is_in;
+  enough = λ n. omega (arith, sound.enough n, kept.holds n);
+}
+
+pub others_held : (old new : Scene) → old.caller ≡ new.caller → KeepsHolds (holding old) (holding new) → KeepsOthers old new
+others_held old new same kept = record {
+  vpid = ap (λ c. c.vpid) (sym same);
+  holds = λ n. let cwd = ap (λ c. one_for n c.cwd) same in omega (arith, kept.holds n);
+  files = λ n held. kept.files n (omega arith);
+  dirs = λ n held. kept.dirs n (omega arith);
+}
+
+-- what is reached after the host was only asked
+pub reaches_after : (defined : Row) (fs : Fs) (w v : World) (caller : Caller) (space : List PageView) (new : Stage) (result : Result Answer HostErr) (before mid now : ℕ) → v ≡ w → before ≤ mid → Reaches defined (stage fs v caller space) new result mid now → Reaches defined (stage fs w caller space) new result before now
+reaches_after defined fs w v caller space new result before mid now stays later s = record {
+  served = s.served;
+  sound = s.sound;
+  others = subst (λ x. OnOk result (KeepsOthers (scene (stage fs x caller space)) (scene new))) stays s.others;
+  cause = record { later = omega arith; rose = λ failed. rose_from (s.cause.rose failed) };
+}
+  where
+    rose_from : Rose mid now → Rose before now
+    rose_from rose = omega arith
+
+-- a call changed tree and time, and left what is held
+pub reaches_kept : (defined : Row) (old : Fs) (tree : Table) (clock : ℕ) (w v : World) (caller : Caller) (space : List PageView) (answer : Answer) (before now : ℕ)
+    → Sound (stage old w caller space) → Stands tree v.forest → KeepsHeld (tree_of old.tree w.forest) (tree_of tree v.forest) → before ≤ now
+    → defined ≡ record { next = record (scene (stage old w caller space)) { tree = tree_of tree v.forest; clock = clock }; answer = answer }
+    → Reaches defined (stage old w caller space) (stage (record { tree = tree; files = old.files; clock = clock; rand = old.rand }) v caller space) (Ok answer) before now
+reaches_kept defined old tree clock w v caller space answer before now sound stands kept later is =
+    let new : Fs = record { tree = tree; files = old.files; clock = clock; rand = old.rand } in
+    record {
+      served = is;
+      sound = sound_kept old new w v caller space space sound stands kept refl;
+      others = others_kept (scene (stage old w caller space)) (scene (stage new v caller space)) refl refl kept;
+      cause = record { later = later; rose = λ failed. cc };
+    }
+
+-- a call of the tree was done
+pub reaches_done : {A : Type 0} (d : Done A) (old : Fs) (tree : Table) (clock : ℕ) (w v : World) (caller : Caller) (space : List PageView) (value : A) (before now : ℕ)
+    → Sound (stage old w caller space) → Stands tree v.forest → KeepsHeld (tree_of old.tree w.forest) (tree_of tree v.forest) → before ≤ now
+    → clock ≡ stamp (scene (stage old w caller space)) → d ≡ done (tree_of tree v.forest) value
+    → Reaches (by_done (scene (stage old w caller space)) d) (stage old w caller space) (stage (record { tree = tree; files = old.files; clock = clock; rand = old.rand }) v caller space) (Ok (Value 0)) before now
+reaches_done d old tree clock w v caller space value before now sound stands kept later at is =
+    let s = scene (stage old w caller space) in
+    reaches_kept (by_done s d) old tree clock w v caller space (Value 0) before now sound stands kept later
+    (ap (by_done s) is ∙ ap (λ ticks. answers (record s { tree = tree_of tree v.forest; clock = ticks }) 0) (sym at))
+
+-- a call on open files came to this
+pub reaches_held : {A : Type 0} (number : A → ℕ) (o : Outcome A) (old : Fs) (tree : Table) (files : Descriptions) (w v : World) (caller : Caller) (space : List PageView) (found : Result A Errno) (before now : ℕ)
+    → Sound (stage old w caller space) → IsBacked (at files tree v) → KeepsHolds (over (tree_of old.tree w.forest) old.files) (over (tree_of tree v.forest) files) → before ≤ now
+    → o ≡ record { answer = found; next = over (tree_of tree v.forest) files }
+    → Reaches (by_outcome number (scene (stage old w caller space)) o) (stage old w caller space) (stage (record { tree = tree; files = files; clock = old.clock; rand = old.rand }) v caller space) (Ok (answer_of number found)) before now
+reaches_held number o old tree files w v caller space found before now sound backed kept later is =
+    let new : Fs = record { tree = tree; files = files; clock = old.clock; rand = old.rand } in
+    record {
+      served = ap (by_outcome number (scene (stage old w caller space))) is;
+      sound = sound_held old new w v caller space space sound backed kept;
+      others = others_held (scene (stage old w caller space)) (scene (stage new v caller space)) refl kept;
+      cause = record { later = later; rose = λ failed. cc };
+    }
+
+-- a call changed open files alone, and left the nodes that they are of
+pub reaches_nodes : (defined : Row) (old : Fs) (files : Descriptions) (w : World) (caller : Caller) (space pages : List PageView) (answer : Answer) (before now : ℕ)
+    → Sound (stage old w caller space) → KeepsNodes old.files files → before ≤ now
+    → defined ≡ record { next = record (scene (stage old w caller space)) { files = files; space = pages }; answer = answer }
+    → Reaches defined (stage old w caller space) (stage (record { tree = old.tree; files = files; clock = old.clock; rand = old.rand }) w caller pages) (Ok answer) before now
+reaches_nodes defined old files w caller space pages answer before now sound nodes later is =
+    let new : Fs = record { tree = old.tree; files = files; clock = old.clock; rand = old.rand } in
+    record {
+      served = is;
+      sound = sound_nodes old new w caller space pages sound nodes refl;
+      others = others_nodes (scene (stage old w caller space)) (scene (stage new w caller pages)) refl refl nodes;
+      cause = record { later = later; rose = λ failed. cc };
+    }
+
+-- what others hold is left by two steps, where it is left by each
+pub others_both : (old mid new : Scene) → KeepsOthers old mid → KeepsOthers mid new → KeepsOthers old new
+others_both old mid new first second = record {
+  vpid = second.vpid ∙ first.vpid;
+  holds = λ n. omega (arith, first.holds n, second.holds n);
+  files = λ n held is. second.files n (omega (arith, first.holds n)) (first.files n held is);
+  dirs = λ n held is. second.dirs n (omega (arith, first.holds n)) (first.dirs n held is);
+}
+
+-- what is reached after a first step
+pub reaches_next : (defined rest : Row) (old mid new : Stage) (result : Result Answer HostErr) (before between now : ℕ) → KeepsOthers (scene old) (scene mid) → before ≤ between → defined ≡ rest → Reaches rest mid new result between now → Reaches defined old new result before now
+reaches_next defined rest old mid new result before between now first later same s = record {
+  served = by_result result s.served;
+  sound = s.sound;
+  others = both_of result s.others;
+  cause = record { later = omega (arith, s.cause.later); rose = λ failed. rose_from (s.cause.rose failed) };
+}
+  where
+    by_result : (result : Result Answer HostErr) → IfOk result (λ answer. rest ≡ record { next = scene new; answer = answer }) → IfOk result (λ answer. defined ≡ record { next = scene new; answer = answer })
+    by_result (Ok answer) is = same ∙ is
+    by_result (Err error) is = is
+
+    both_of : (result : Result Answer HostErr) → OnOk result (KeepsOthers (scene mid) (scene new)) → OnOk result (KeepsOthers (scene old) (scene new))
+    both_of (Ok answer) second = others_both (scene old) (scene mid) (scene new) first second
+    both_of (Err error) second = second
+
+    rose_from : Rose between now → Rose before now
+    rose_from rose = omega arith
+
+-- what is reached is defined in other words
+pub reaches_same : (defined other : Row) (old new : Stage) (result : Result Answer HostErr) (before now : ℕ) → defined ≡ other → Reaches other old new result before now → Reaches defined old new result before now
+reaches_same defined other old new result before now same s =
+    subst (λ row. Reaches row old new result before now) (sym same) s
+
+-- a row that is served after the host was only asked
+pub serves_after : (row : List ℕ → Scene → Row) (args : List ℕ) (fs : Fs) (w v : World) (caller : Caller) (space : List PageView) (new : Stage) (result : Result Answer HostErr) (before mid now : ℕ) → v ≡ w → before ≤ mid → Serves row args (stage fs v caller space) new result mid now → Serves row args (stage fs w caller space) new result before now
+serves_after row args fs w v caller space new result before mid now stays later s =
+    reaches_after (row args (scene (stage fs w caller space))) fs w v caller space new result before mid now stays later
+    (subst (λ x. Reaches (row args (scene (stage fs x caller space))) (stage fs v caller space) new result mid now) stays s)
+
+-- what is left of a row and is served after the host was only asked
+pub ends_after : (row : Scene → Row) (fs : Fs) (w v : World) (caller : Caller) (space : List PageView) (new : Stage) (result : Result Answer HostErr) (before mid now : ℕ) → v ≡ w → before ≤ mid → Ends row (stage fs v caller space) new result mid now → Ends row (stage fs w caller space) new result before now
+ends_after row fs w v caller space new result before mid now stays later s =
+    serves_after (λ _. row) [] fs w v caller space new result before mid now stays later s
+
+pub ruleset after_asking = (serves_after, ends_after)
+
+-- what is reached by a change of the process alone, which leaves its pid and its working directory
+pub reaches_caller : (defined : Row) (fs : Fs) (w : World) (old new : Caller) (space : List PageView) (answer : Answer) (count : ℕ) → Sound (stage fs w old space) → new.cwd ≡ old.cwd → new.vpid ≡ old.vpid → defined ≡ record { next = record (scene (stage fs w old space)) { caller = new }; answer = answer } → Reaches defined (stage fs w old space) (stage fs w new space) (Ok answer) count count
+reaches_caller defined fs w old new space answer count sound same vpid is = record {
+  served = is;
+  sound = record {
+    stands = sound.stands;
+    is_dir = subst (IsDir (shape_of fs.tree w.forest)) (sym same) sound.is_dir;
+    all_in = sound.all_in;
+    enough = λ n. let cwd = ap (one_for n) same in omega (arith, sound.enough n);
+  };
+  others = record {
+    vpid = vpid;
+    holds = λ n. let cwd = ap (one_for n) same in omega arith;
+    files = λ n held is. is;
+    dirs = λ n held is. is;
+  };
+  cause = record { later = omega arith; rose = λ failed. cc };
+}
+
+pub ruleset in_other_words = (reaches_same, reaches_caller)

@@ -1,0 +1,4 @@
+pub mod Scene
+pub mod Arguments
+pub mod Filling
+pub mod Sound

@@ -1,0 +1,38 @@
+// Flags, and buffers that are filled.
+ghost use Rattle.std.specs.Prelude.{◌≡◌};
+ghost use Rattle.dt_scene.specs.Arguments.{has};
+ghost use Rattle.dt_scene.specs.Filling.{fills};
+ghost use Rattle.dt_scene.specs.Sound.{Sound, Reaches, stage, scene};
+
+use crate::fs::Fs;
+use dt_base::{Answer, Caller, Errno};
+use dt_host::{Host, HostErr};
+use dt_space::Space;
+
+/// Whether all of a flag is among these.
+pub fn has(flags: u32, flag: u32) -> bool
+    ensures { result ≡ has flags flag }
+{
+    flags & flag == flag
+}
+
+/// Fills a buffer, and answers this value: EFAULT where one of its bytes may not be written.
+pub fn fill<H: Host>(
+    fs: &Fs,
+    host: &H,
+    caller: &Caller,
+    space: &mut Space,
+    buffer: u64,
+    bytes: &[u8],
+    value: u64,
+) -> Result<Answer, HostErr>
+    requires { Sound (stage fs.now (H.view host.now) caller.now space.old) }
+    ensures { Reaches (fills (scene (stage fs.now (H.view host.now) caller.now space.old)) buffer bytes.now value)
+        (stage fs.now (H.view host.now) caller.now space.old) (stage fs.now (H.view host.now) caller.now space.new)
+        result (H.count host.now) (H.count host.now) }
+{
+    if space.write_bytes(buffer, bytes).is_err() {
+        return Ok(Answer::Refused(Errno::Fault));
+    }
+    Ok(Answer::Value(value))
+}

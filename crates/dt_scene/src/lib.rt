@@ -1,0 +1,8 @@
+//! What the calls on files work on, and what their rows have in common.
+#![tactic(auto)]
+
+mod filling;
+mod fs;
+
+pub use filling::{fill, has};
+pub use fs::Fs;

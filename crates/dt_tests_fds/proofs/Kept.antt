@@ -1,0 +1,39 @@
+-- What is there in the tree.
+use Rattle.std.proofs.Common.{◌≡◌, ℕ, false, List, Option, Some, None, refl}
+use Rattle.std.specs.Prelude.{IfSome, IsSome, is_some, option_and_then}
+use Rattle.dt_host.specs.World.{Forest, Node, file, dir, link, node_at, file_bytes, dir_names, link_target, entry, IsFile, IsLive}
+use Rattle.dt_tree.specs.Shape.{is_dir, is_link}
+use Rattle.dt_tree.specs.Table.{Table, Stands, shape_of}
+use Rattle.dt_tree.proofs.Namings.{named}
+use Rattle.dt_fds.specs.declared.desc.Desc.{Desc}
+use Rattle.dt_fds.specs.declared.desc.Slot.{Slot}
+use Rattle.dt_fds.specs.Descriptions.{Descriptions, inode_of, desc_of, slot_at, description_at}
+use Rattle.dt_fds.specs.Backs.{AllIn, IsIn}
+use Rattle.dt_fds.proofs.Backing.{live-in}
+
+-- what is named is there
+pub live : (t : Table) (v : Forest) → Stands t v → (d n : ℕ) (name : List ℕ) → entry (shape_of t v) d name ≡ Some n → IsLive (shape_of t v) n
+live t v stands d n name e = stands.tree.shaped.named n (named (shape_of t v) d n name e)
+
+-- what is there and neither a directory nor a link is a file
+pub is_file : (v : Forest) (n : ℕ) → IsLive v n → is_dir v n ≡ false → is_link v n ≡ false → IsFile v n
+is_file v n there no_dir no_link = by_node (node_at v n) there no_dir no_link
+  where
+    by_node : (found : Option Node) → IsSome found → is_some (option_and_then dir_names found) ≡ false → is_some (option_and_then link_target found) ≡ false → IsSome (option_and_then file_bytes found)
+    by_node None there no_dir no_link = cc
+    by_node (Some (file bytes)) there no_dir no_link = refl
+    by_node (Some (dir names)) there no_dir no_link = cc
+    by_node (Some (link target)) there no_dir no_link = cc
+
+-- the node of what a descriptor refers to is there
+pub live-described : (v : Forest) (f : Descriptions) (p fd : ℕ) → AllIn v f → IfSome (description_at f p fd) (λ desc. IfSome (inode_of desc.kind) (λ n. IsLive v n))
+unfolding description_at
+live-described v f p fd h = by_slot (slot_at f p fd)
+  where
+    by_desc : (found : Option Desc) → IfSome found (λ desc. IsIn v desc.kind) → IfSome found (λ desc. IfSome (inode_of desc.kind) (λ n. IsLive v n))
+    by_desc None is = tt
+    by_desc (Some desc) is = live-in v desc.kind is
+
+    by_slot : (slot : Option Slot) → IfSome (option_and_then (desc_of f) slot) (λ desc. IfSome (inode_of desc.kind) (λ n. IsLive v n))
+    by_slot None = tt
+    by_slot (Some slot) = by_desc (desc_of f slot) (h slot.number)
