@@ -1,0 +1,191 @@
+-- Processes that stand once, and what arrivals and moves make of them.
+use Rattle.std.proofs.Common.{ℕ, ◌≡◌, ◌≢◌, ◌+◌, ◌≤◌, ◌&&◌, ◌||◌, ◌==◌, false, not, List, [], ◌∷◌, ◌++◌, map, length, take, drop, IsTrue, refl, sym, subst, ◌∙◌, ◌<◌, Option, Some, None, length-append, arith}
+use Rattle.std.proofs.lemmas.List.{length-map}
+use Rattle.std.proofs.lemmas.Bool.Decides.{nat_tests}
+use Rattle.std.proofs.lemmas.Grind.{common_steps}
+use Rattle.std.specs.List.{filter}
+use Rattle.dt_sched.specs.declared.settled.Head.TheVariants.{Ready, Over}
+use Rattle.dt_base.specs.declared.event.Verdict.{Verdict}
+use Rattle.dt_sched.specs.Queue.{IsTable, first_of, queue_at}
+use Rattle.dt_sched.specs.declared.process.Process.{Process}
+use Rattle.dt_sched.specs.declared.settled.Settled.{Settled}
+use Rattle.dt_sched.specs.declared.settled.Settled.TheVariants.{Again, Child, LastChild, Waits as Blocked, Moved, Gone, Stopped}
+use Rattle.dt_sched.specs.Core.{holds, each_once, owing, arrived_at, queue_after, blocked_after, verdict_after, GoesOn, CoreView, IsReady, head_by, is_count, all_counted}
+
+-- two arrivals at one process
+pub arrived_at-twice : (p q first second : ℕ) (x : Process) → p ≢ q
+    → arrived_at p first (arrived_at q second x) ≡ arrived_at q second (arrived_at p first x)
+arrived_at-twice p q first second x apart = grind (arith, nat_tests)
+
+pub arrived-twice : (p q first second : ℕ) (xs : List Process) → p ≢ q
+    → map (arrived_at p first) (map (arrived_at q second) xs) ≡ map (arrived_at q second) (map (arrived_at p first) xs)
+arrived-twice p q first second [] apart = refl
+arrived-twice p q first second (x ∷ xs) apart =
+    grind (arith, arrived_at-twice p q first second x apart, arrived-twice p q first second xs apart)
+
+-- an arrival moves no process
+pub holds-arrived : (vpid cost other : ℕ) (xs : List Process)
+    → holds other (map (arrived_at vpid cost) xs) ≡ holds other xs
+holds-arrived vpid cost other [] = refl
+holds-arrived vpid cost other (x ∷ xs) = grind (arith, nat_tests, holds-arrived vpid cost other xs)
+
+pub each_once-arrived : (vpid cost : ℕ) (xs : List Process) → each_once (map (arrived_at vpid cost) xs) ≡ each_once xs
+each_once-arrived vpid cost [] = refl
+each_once-arrived vpid cost (x ∷ xs) =
+    grind (arith, nat_tests, holds-arrived vpid cost x.vpid xs, each_once-arrived vpid cost xs)
+
+-- a process that arrives owes no longer
+pub owing-arrived : (vpid cost : ℕ) (xs : List Process)
+    → owing (map (arrived_at vpid cost) xs) ≡ filter (λ other. not (other == vpid)) (owing xs)
+owing-arrived vpid cost [] = refl
+owing-arrived vpid cost (x ∷ xs) = grind (arith, nat_tests, owing-arrived vpid cost xs)
+
+-- as many owe as there are, at most
+pub length-owing : (xs : List Process) → length (owing xs) ≤ length xs
+length-owing [] = omega arith
+length-owing (x ∷ xs) = grind (arith, length-owing xs)
+
+-- those before and those behind
+pub holds-append : (vpid : ℕ) (xs ys : List Process) → holds vpid (xs ++ ys) ≡ (holds vpid xs || holds vpid ys)
+holds-append vpid [] ys = refl
+holds-append vpid (x ∷ xs) ys = grind (arith, nat_tests, holds-append vpid xs ys)
+
+pub owing-append : (xs ys : List Process) → owing (xs ++ ys) ≡ owing xs ++ owing ys
+owing-append [] ys = refl
+owing-append (x ∷ xs) ys = grind (arith, owing-append xs ys)
+
+-- a new process at the tail
+pub each_once-push : (xs : List Process) (x : Process) → IsTrue (each_once xs) → holds x.vpid xs ≡ false
+    → IsTrue (each_once (xs ++ x ∷ []))
+each_once-push [] x once new = grind arith
+each_once-push (y ∷ ys) x once new = grind (arith, nat_tests, each_once-push ys x, holds-append y.vpid ys (x ∷ []))
+
+pub ruleset at_the_tail = (length-owing, owing-append, each_once-push, holds-append)
+
+-- a slice of a whole vector written back
+pub written-back : (xs ys : List Process) (n : ℕ) → n ≡ length xs → length ys ≡ length xs
+    → take n (ys ++ drop (length ys) xs) ≡ ys
+written-back xs ys n whole same = grind (arith, common_steps)
+
+-- the table after an arrival
+pub table-arrived : (vpid cost : ℕ) (xs ys : List Process) (owed left : List ℕ) (room owed_room left_room : ℕ)
+    → IsTable xs owed room owed_room → ys ≡ map (arrived_at vpid cost) xs
+    → left ≡ filter (λ other. not (other == vpid)) owed → left_room ≡ owed_room → IsTable ys left room left_room
+table-arrived vpid cost xs ys owed left room owed_room left_room table new less same = record {
+  each_once = subst (λ l. IsTrue (each_once l)) (sym new) (subst IsTrue (sym (each_once-arrived vpid cost xs)) table.each_once);
+  few = rw (new, length-map) table.few;
+  exact = rw (less, table.exact, new) (sym (owing-arrived vpid cost xs));
+  room_64 = table.room_64;
+  owed_64 = rw same table.owed_64;
+}
+
+-- the table with a new process
+pub table-push : (xs ys : List Process) (x : Process) (owed more : List ℕ) (room ys_room owed_room more_room : ℕ)
+    → IsTable xs owed room owed_room → holds x.vpid xs ≡ false → length xs + 1 ≤ 64 → ys ≡ xs ++ x ∷ []
+    → more ≡ owed ++ owing (x ∷ []) → room ≤ ys_room → owed_room ≤ more_room → IsTable ys more ys_room more_room
+table-push xs ys x owed more room ys_room owed_room more_room table new fits joined longer above above_owed = record {
+  each_once = subst (λ l. IsTrue (each_once l)) (sym joined) (each_once-push xs x table.each_once new);
+  few = rw (joined, length-append) fits;
+  exact = rw (longer, table.exact, joined) (sym (owing-append xs (x ∷ [])));
+  room_64 = omega (arith, table.room_64);
+  owed_64 = omega (arith, table.owed_64);
+}
+
+-- process 1 lives on where there is no verdict
+pub first-after : (p : Process) (rest : List Process) (blocked : ℕ) (turn : Settled) → IsTrue (holds 1 (p ∷ rest))
+    → verdict_after p.vpid (blocked_after blocked turn) (length (queue_after p rest turn)) turn ≡ None
+    → IsTrue (holds 1 (queue_after p rest turn))
+first-after p rest blocked Again first none = grind (arith, nat_tests, holds-append)
+first-after p rest blocked (Child child) first none = grind (arith, nat_tests, holds-append)
+first-after p rest blocked (LastChild child) first none = grind (arith, nat_tests, holds-append)
+first-after p rest blocked Blocked first none = grind (arith, nat_tests, holds-append)
+first-after p rest blocked Moved first none = grind (arith, nat_tests, holds-append)
+first-after p rest blocked Gone first none = grind (arith, nat_tests, holds-append)
+first-after p rest blocked (Stopped number) first none = grind (arith, nat_tests, holds-append)
+
+-- a queue that holds a process is not empty
+pub some : (vpid : ℕ) (xs : List Process) → IsTrue (holds vpid xs) → 0 < length xs
+some vpid [] held = grind arith
+some vpid (x ∷ xs) held = grind arith
+
+-- fewer turns in a row were blocked than there are processes where there is no verdict
+pub fewer-after : (p : Process) (rest : List Process) (blocked : ℕ) (turn : Settled)
+    → IsTrue (holds 1 (p ∷ rest)) → blocked < length (p ∷ rest)
+    → verdict_after p.vpid (blocked_after blocked turn) (length (queue_after p rest turn)) turn ≡ None
+    → blocked_after blocked turn < length (queue_after p rest turn)
+fewer-after p rest blocked Again first below none = grind (arith, nat_tests, length-append {A = Process}, some)
+fewer-after p rest blocked (Child child) first below none = grind (
+  arith,
+  nat_tests,
+  length-append {A =
+      Process},
+  some,
+)
+fewer-after p rest blocked (LastChild child) first below none = grind (
+  arith,
+  nat_tests,
+  length-append {A =
+      Process},
+  some,
+)
+fewer-after p rest blocked Blocked first below none = grind (arith, nat_tests, length-append {A = Process}, some)
+fewer-after p rest blocked Moved first below none = grind (arith, nat_tests, length-append {A = Process}, some)
+fewer-after p rest blocked Gone first below none = grind (arith, nat_tests, length-append {A = Process}, some)
+fewer-after p rest blocked (Stopped number) first below none = grind (
+  arith,
+  nat_tests,
+  length-append {A =
+      Process},
+  some,
+)
+
+-- a head is ready only where there is no verdict
+pub none-ready : (verdict : Option Verdict) (left : ℕ) (queue : List Process)
+    → IsReady (head_by verdict left queue) → verdict ≡ None
+none-ready None left queue ready = refl
+none-ready (Some v) left queue ready = let e : Over v ≡ Ready ready.0 = ready.1 in cc
+
+going-at : (xs : List Process) (before : ℕ) (new : CoreView) (p : Process) (turn : Settled)
+    → first_of xs ≡ Some p → IsTrue (holds 1 xs)
+    → before < length xs → new.queue ≡ queue_at xs turn → new.blocked ≡ blocked_after before turn
+    → verdict_after p.vpid new.blocked (length new.queue) turn ≡ None → GoesOn new
+going-at [] before new p turn first held below queue blocked none = absurd (omega arith)
+going-at (x ∷ rest) before new p turn first held below queue blocked none =
+    let same : x ≡ p = cc in
+    let ended : verdict_after x.vpid (blocked_after before turn) (length (queue_after x rest turn)) turn ≡ None = rw (← blocked, ← queue, same) none in
+    record {
+      first = rw queue (first-after x rest before turn held ended);
+      blocked = rw (blocked, queue) (fewer-after x rest before turn held below ended);
+    }
+
+-- the run goes on where there is no verdict
+pub going-after : (old new : CoreView) (p : Process) (turn : Settled) → first_of old.queue ≡ Some p → GoesOn old
+    → new.queue ≡ queue_at old.queue turn → new.blocked ≡ blocked_after old.blocked turn
+    → new.verdict ≡ verdict_after p.vpid new.blocked (length new.queue) turn → new.verdict ≡ None → GoesOn new
+going-after old new p turn first going queue blocked verdict none =
+    going-at old.queue old.blocked new p turn first going.first going.blocked queue blocked (sym verdict ∙ none)
+
+-- counts stay those of segments
+pub counted-arrived : (vpid cost : ℕ) (xs : List Process) → IsTrue (is_count cost) → IsTrue (all_counted xs)
+    → IsTrue (all_counted (map (arrived_at vpid cost) xs))
+counted-arrived vpid cost [] count all = all
+counted-arrived vpid cost (x ∷ xs) count all = grind (arith, nat_tests, counted-arrived vpid cost xs)
+
+pub counted-append : (xs ys : List Process) → all_counted (xs ++ ys) ≡ (all_counted xs && all_counted ys)
+counted-append [] ys = refl
+counted-append (x ∷ xs) ys = grind (arith, counted-append xs ys)
+
+pub counted-after : (p : Process) (rest : List Process) (turn : Settled) → IsTrue (all_counted (p ∷ rest))
+    → IsTrue (all_counted (queue_after p rest turn))
+counted-after p rest Again all = grind (arith, nat_tests, counted-append)
+counted-after p rest (Child child) all = grind (arith, nat_tests, counted-append)
+counted-after p rest (LastChild child) all = grind (arith, nat_tests, counted-append)
+counted-after p rest Blocked all = grind (arith, nat_tests, counted-append)
+counted-after p rest Moved all = grind (arith, nat_tests, counted-append)
+counted-after p rest Gone all = grind (arith, nat_tests, counted-append)
+counted-after p rest (Stopped number) all = grind (arith, nat_tests, counted-append)
+
+pub counted-settled : (xs new : List Process) (turn : Settled) → IsTrue (all_counted xs)
+    → new ≡ queue_at xs turn → IsTrue (all_counted new)
+counted-settled [] new turn all same = rw same all
+counted-settled (x ∷ rest) new turn all same = rw same (counted-after x rest turn all)

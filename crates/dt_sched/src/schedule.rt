@@ -1,0 +1,157 @@
+// The queue with the budget, the blocked turns in a row and the verdict.
+ghost use Rattle.std.specs.Prelude.{◌≡◌, ◌<◌, ◌≤◌, IfOk, IsTrue, true, Contains};
+ghost use Rattle.dt_sched.specs.Core.{started, owing, waits, arrived, cost_of, head, IsReady, settled, has_room, is_count, blocked_after, verdict_after, IsCore};
+ghost use Rattle.dt_sched.specs.Laws.{ArrivalsCommute, HeadStays};
+
+use crate::process::{Phase, Process};
+use crate::queue::Queue;
+use crate::settled::{Head, Settled};
+use dt_base::{NoMemory, Verdict};
+use std::alloc::Global;
+use std::marker::Model;
+
+/// The queue of live processes, whose head takes its turn next. What a turn costs is charged when it is settled.
+#[derive(Drop)]
+pub struct Core {
+    queue: Queue,
+    blocked: usize,
+    left: u64,
+    verdict: Option<Verdict>,
+}
+
+impl Model for Core {
+    ghost use Rattle.dt_sched.specs.Core.{CoreView, core_of, IsCore};
+
+    ghost Value = { CoreView };
+
+    ghost view = { λ c. core_of c.queue c.blocked c.left c.verdict };
+
+    ghost invariant = { λ c. IsCore (core_of c.queue c.blocked c.left c.verdict) };
+}
+
+impl Phase {
+    // What a turn costs, in instructions.
+    fn cost(self) -> u64
+        ensures { result ≡ cost_of self }
+    {
+        match self {
+            Phase::Owes => 0,
+            Phase::Arrived(cost) => u64::from(cost),
+            Phase::Waits => 1,
+        }
+    }
+}
+
+// The blocked turns in a row after a turn.
+fn blocked_after(blocked: usize, turn: Settled) -> usize
+    requires { blocked < 64 }
+    ensures { result ≡ blocked_after blocked turn }
+{
+    match turn {
+        Settled::Waits => blocked + 1,
+        Settled::Stopped(_) => blocked,
+        Settled::Again
+        | Settled::Child(_)
+        | Settled::LastChild(_)
+        | Settled::Moved
+        | Settled::Gone => 0,
+    }
+}
+
+// The verdict after a turn of this process, so many blocked turns in a row, with so many processes.
+fn verdict_after(vpid: u32, blocked: usize, count: usize, turn: Settled) -> Option<Verdict>
+    ensures { result ≡ verdict_after vpid blocked count turn }
+{
+    match turn {
+        Settled::LastChild(_) | Settled::Gone if vpid == 1 => Some(Verdict::Ended),
+        Settled::Waits if blocked == count => Some(Verdict::Deadlock),
+        Settled::Stopped(number) => Some(Verdict::Unsupported(vpid, number)),
+        Settled::Again
+        | Settled::Child(_)
+        | Settled::LastChild(_)
+        | Settled::Waits
+        | Settled::Moved
+        | Settled::Gone => None,
+    }
+}
+
+impl Core {
+    /// The process 1 alone, which owes a segment, and a budget in instructions. There is room for 64 processes, so that
+    /// no other call takes memory; NoMemory where there is none for them.
+    pub fn new(alloc: Global, budget: u64) -> Result<Self, NoMemory>
+        ensures { IfOk result (λ core. core ≡ started budget) }
+    {
+        Ok(Core {
+            queue: Queue::new(alloc)?,
+            blocked: 0,
+            left: budget,
+            verdict: None,
+        })
+    }
+
+    /// The virtual pids of the processes whose segment has not arrived, in queue order.
+    pub fn owing(&self) -> &[u32]
+        ensures order { result.now ≡ owing self.now.queue }
+        ensures sound { IsCore self.now }
+    {
+        self.queue.owing()
+    }
+
+    /// The segment of a process arrives, with its cost of 1 to 65,536 instructions; nothing is charged. The process
+    /// must be one of `owing`.
+    pub fn arrived(&mut self, vpid: u32, cost: u32)
+        requires owing { Contains (owing self.old.queue) vpid }
+        requires count { IsTrue (is_count cost) }
+        ensures { self.new ≡ arrived vpid cost self.old }
+    {
+        self.queue.arrived(vpid, cost);
+    }
+
+    /// What can be done next: over where there is a verdict, or where the head's turn costs more than is left of the
+    /// budget.
+    pub fn head(&self) -> Head
+        ensures head { result ≡ head self.now }
+        ensures sound { IsCore self.now }
+    {
+        match (self.verdict, self.queue.first()) {
+            (Some(verdict), _) => Head::Over(verdict),
+            (None, None) => Head::Over(Verdict::Ended),
+            (None, Some(Process { vpid, phase })) if phase.is_owing() => Head::NotArrived(vpid),
+            (None, Some(Process { vpid, phase })) if phase.cost() <= self.left => Head::Ready(vpid),
+            (None, Some(_)) => Head::Over(Verdict::Budget),
+        }
+    }
+
+    /// Charges the turn of the head and settles what it came to. The head must be ready. A child must be new to the
+    /// queue, and fewer than 64 processes may stand there where its parent lives.
+    pub fn settle(&mut self, turn: Settled)
+        requires ready { IsReady (head self.old) }
+        requires room { IsTrue (has_room self.old.queue turn) }
+        ensures core { self.new ≡ settled self.old turn }
+        ensures falls { self.new.left < self.old.left }
+    {
+        if let Some(Process { vpid, phase }) = self.queue.first() {
+            self.queue.settle(turn);
+            self.blocked = blocked_after(self.blocked, turn);
+            self.left -= phase.cost();
+            self.verdict = verdict_after(vpid, self.blocked, self.queue.len(), turn);
+        }
+    }
+
+    /// Whether the process of this virtual pid waits, so that its call is tried again at its turn.
+    pub fn waits(&self, vpid: u32) -> bool
+        ensures { result ≡ waits vpid self.now.queue }
+    {
+        self.queue.waits(vpid)
+    }
+}
+
+/// Arrivals of two processes in either order give the same core, so that their order cannot matter.
+pub fn arrivals_commute()
+    ensures { ArrivalsCommute }
+{}
+
+/// The head does not change by an arrival of another process.
+pub fn head_stays_at_another_arrival()
+    ensures { HeadStays }
+{}

@@ -1,0 +1,46 @@
+// As many processes as have room.
+use crate::driver::{Came, Driver};
+use dt_base::Verdict;
+use dt_sched::Head;
+use std::test::Fail;
+
+// Process 1 with 63 children that go on.
+fn full(rt: HostRuntime) -> Result<Driver, Fail> {
+    let mut driver = Driver::new(rt.alloc(), 1_000_000)?;
+    for _ in 0..3000 {
+        if driver.core().owing().len() == 64 {
+            break;
+        }
+        driver.arrive(0, &[]);
+        let came = if driver.core().head() == Head::Ready(1) {
+            Came::Child
+        } else {
+            Came::Again
+        };
+        driver.turn(came);
+    }
+    Ok(driver)
+}
+
+#[test]
+fn there_is_room_for_64(rt: HostRuntime) -> Result<(), Fail> {
+    let mut driver = full(rt)?;
+    assert_eq!(rt; driver.core().owing().len(), 64);
+    assert_eq!(rt; driver.core().owing().last(), Some(&64));
+    for count in (0..64).rev() {
+        assert!(rt; driver.arrive(63, &[]).is_some());
+        assert_eq!(rt; driver.core().owing().len(), count);
+    }
+    Ok(())
+}
+
+#[test]
+fn deadlock_comes_when_all_64_wait(rt: HostRuntime) -> Result<(), Fail> {
+    let mut driver = full(rt)?;
+    for _ in 0..64 {
+        driver.arrive(0, &[]);
+        assert!(rt; matches!(driver.turn(Came::Waits), Head::Ready(_)));
+    }
+    assert_eq!(rt; driver.core().head(), Head::Over(Verdict::Deadlock));
+    Ok(())
+}
