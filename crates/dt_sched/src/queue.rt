@@ -13,12 +13,14 @@ use std::marker::Model;
 const ROOM: usize = 64;
 
 impl Phase {
+    /// Whether its process owes a segment that has not arrived.
     pub fn is_owing(self) -> bool
         ensures { result ≡ is_owing self }
     {
         matches!(self, Phase::Owes)
     }
 
+    /// Whether its process waits, and owes nothing.
     pub fn is_waiting(self) -> bool
         ensures { result ≡ is_waiting self }
     {
@@ -26,6 +28,7 @@ impl Phase {
     }
 }
 
+/// The live processes in the order of their turns, and which of them owe a segment.
 #[derive(Drop)]
 pub struct Queue {
     processes: Vec<Process>,
@@ -79,7 +82,7 @@ fn owe(owed: &mut Vec<u32>, vpid: u32, phase: Phase)
 }
 
 impl Queue {
-    // The process 1 alone, which owes a segment.
+    /// Process 1 alone, which owes a segment.
     pub fn new(alloc: Global) -> Result<Self, NoMemory>
         ensures { IfOk result (λ queue. queue ≡ owes 1 ∷ []) }
     {
@@ -93,14 +96,14 @@ impl Queue {
         Ok(Queue { processes, owed })
     }
 
-    // Those whose segment has not arrived.
+    /// The virtual pids of those that owe a segment which has not arrived, in the order of their turns.
     pub fn owing(&self) -> &[u32]
         ensures { result.now ≡ owing self.now }
     {
         &self.owed
     }
 
-    // How many there are.
+    /// How many processes there are: at most 64.
     pub fn len(&self) -> usize
         ensures count { result ≡ length self.now }
         ensures each_once { IsTrue (each_once self.now) }
@@ -109,7 +112,7 @@ impl Queue {
         self.processes.len()
     }
 
-    // The head.
+    /// The head: the process whose turn it is.
     pub fn first(&self) -> Option<Process>
         ensures { result ≡ first_of self.now }
     {
@@ -119,7 +122,7 @@ impl Queue {
         }
     }
 
-    // Whether the process of this virtual pid waits.
+    /// Whether the process of this virtual pid waits.
     pub fn waits(&self, vpid: u32) -> bool
         ensures { result ≡ waits vpid self.now }
     {
@@ -131,7 +134,7 @@ impl Queue {
         false
     }
 
-    // Lets the segment of a process arrive.
+    /// Lets the segment of a process arrive, with its cost in instructions.
     pub fn arrived(&mut self, vpid: u32, cost: u32)
         ensures { self.new ≡ map (arrived_at vpid cost) self.old }
     {
@@ -177,7 +180,7 @@ impl Queue {
         }
     }
 
-    // Moves the head to the tail, and a child behind it, or takes it away.
+    /// Moves the head to the tail, and a child behind it, or takes it away.
     #[tactic(auto, using(crate::proofs::Tables::at_the_tail))]
     pub fn settle(&mut self, turn: Settled)
         requires ready { IsTrue (is_ready self.old) }

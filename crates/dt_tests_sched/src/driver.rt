@@ -78,6 +78,7 @@ fn settle(core: &mut Core, next: u32, came: Came) -> u32
 }
 
 impl Driver {
+    /// A core with process 1, and 2 as the first child's virtual pid.
     pub fn new(alloc: Global, budget: u64) -> Result<Self, NoMemory> {
         Ok(Driver {
             core: Core::new(alloc, budget)?,
@@ -85,12 +86,13 @@ impl Driver {
         })
     }
 
+    /// The core, to look at.
     pub fn core(&self) -> &Core {
         &self.core
     }
 
-    // The segment of one of those that owe arrives: that many places after the first, or the last of them. Its virtual
-    // pid, where one owes.
+    /// Lets the segment of one of those that owe arrive: that many places after the first, or the last of them. Its
+    /// virtual pid, where one owes.
     pub fn arrive(&mut self, index: usize, costs: &[u32]) -> Option<u32> {
         let owing = self.core.owing();
         if owing.is_empty() {
@@ -105,7 +107,7 @@ impl Driver {
         Some(vpid)
     }
 
-    // The head takes its turn, where it is ready.
+    /// Lets the head take its turn, where it is ready.
     pub fn turn(&mut self, came: Came) -> Head {
         let head = self.core.head();
         if let Head::Ready(_) = head {
