@@ -63,7 +63,7 @@ backed-sound c w sound = record {
   backs = record { enough = λ n. omega (arith, sound.holds n); is_in = sound.all_in };
 }
 
-module _ (c left new : SharedInCode) (w u v : World) (end : End) (sound : IsSound c w) (lives : c.process.end ≡ None) (backed : IsBacked (at left.fs.files left.fs.tree u)) (others : KeepsHolds (over (tree_of c.fs.tree w.forest) c.fs.files) (over (tree_of left.fs.tree u.forest) left.fs.files)) where
+module _ (c left new : SharedInCode) (w u v : World) (end : End) (sound : IsSound c w) (lives : c.process.end ≡ None) (backed : IsBacked (at left.fs.files left.fs.tree u)) (others : KeepsHolds c.process.caller.vpid (over (tree_of c.fs.tree w.forest) c.fs.files) (over (tree_of left.fs.tree u.forest) left.fs.files)) where
   abbrev pub between : FileTree
   between = tree_of left.fs.tree u.forest
 

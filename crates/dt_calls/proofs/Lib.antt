@@ -1,5 +1,2 @@
-pub mod Walked
-pub mod Opened
 pub mod Held
-pub mod Parts
 pub mod Processes

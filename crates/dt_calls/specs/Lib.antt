@@ -1,5 +1,4 @@
 pub mod Container
-pub mod Lookup
 pub mod Launch
 pub mod Effect
 pub mod FileCalls

@@ -11,10 +11,10 @@ ghost use Rattle.dt_calls.specs.InCode.{Lives, IsHome, shared_of, container_of, 
 ghost use Rattle.dt_calls.specs.Sound.{IsSound};
 
 use crate::call::{Effect, Outcome, serve};
-use crate::launch::program_at;
 use crate::numbers::FIRST_PID;
 use crate::shared::Shared;
 use dt_base::{Command, End, Errno, Event, Image};
+use dt_exec::start_program;
 use dt_host::{Host, HostErr};
 use dt_mcalls::Break;
 use dt_rv64::{Machine, Stop};
@@ -107,7 +107,7 @@ impl Container {
         ensures cause { HasCause (H.count host.old) (H.count host.new) (IsErrOf result HostErr.Failed) }
     {
         let random = self.shared.fs.rand.start16();
-        match program_at(alloc, host, &self.shared.fs.tree, command, &random)? {
+        match start_program(alloc, host, &self.shared.fs.tree, command, &random)? {
             Ok(program) => {
                 self.shared.process.program_break = Break {
                     start: program.break_start,

@@ -3,10 +3,7 @@
 
 mod call;
 mod container;
-mod launch;
-mod lookup;
 pub mod numbers;
-mod reading;
 mod shared;
 
 pub use container::{Container, Launch, Served};

@@ -3,7 +3,7 @@ use Rattle.std.proofs.Common.{◌≡◌, ℕ, ◌+◌, ◌<◌, ◌≤◌, List,
 use Rattle.std.proofs.lemmas.Bool.{cases_eq}
 use Rattle.dt_base.specs.declared.answer.Answer.TheVariants.{Value}
 use Rattle.dt_base.specs.declared.caller.Caller.{Caller}
-use Rattle.dt_host.specs.World.{World, Forest, IsFile, IsDir, IsLive}
+use Rattle.dt_host.specs.World.{World, Forest, OnlyForest, IsFile, IsDir, IsLive}
 use Rattle.dt_host.proofs.Spots.{IsLive-IsDir}
 use Rattle.dt_space.specs.Space.{PageView}
 use Rattle.dt_tree.specs.Changes.{one_more, held, released}
@@ -68,8 +68,8 @@ held_still old mid v n c stands is grown some =
     subst (λ t. 1 ≤ holds_of t c) (sym grown) (still (tree_of old v) n c stands.tree (IsLive-IsDir (shape_of old v) n is) some)
 
 -- the working directory is another
-pub reaches_moved : (fs : Fs) (new : Table) (w v : World) (caller : Caller) (space : List PageView) (n before now : ℕ) → Sound (stage fs w caller space) → IsDir (shape_of fs.tree w.forest) n → Stands new v.forest → tree_of new v.forest ≡ released (held (tree_of fs.tree w.forest) n) caller.cwd → before ≤ now → Ends (with_cwd n) (stage fs w caller space) (stage (record fs { tree = new }) v (record caller { cwd = n }) space) (Ok (Value 0)) before now
-reaches_moved fs new w v caller space n before now sound is stands tree later = record {
+pub reaches_moved : (fs : Fs) (new : Table) (w v : World) (caller : Caller) (space : List PageView) (n before now : ℕ) → Sound (stage fs w caller space) → IsDir (shape_of fs.tree w.forest) n → Stands new v.forest → tree_of new v.forest ≡ released (held (tree_of fs.tree w.forest) n) caller.cwd → OnlyForest w v → before ≤ now → Ends (with_cwd n) (stage fs w caller space) (stage (record fs { tree = new }) v (record caller { cwd = n }) space) (Ok (Value 0)) before now
+reaches_moved fs new w v caller space n before now sound is stands tree rest later = record {
   served = cc;
   sound = record {
     stands = stands;
@@ -81,12 +81,14 @@ reaches_moved fs new w v caller space n before now sound is stands tree later = 
   };
   others = record {
     vpid = refl;
+    tables = λ q apart. refl;
     holds = λ q.
         let now = ap (λ t. holds_of t q) tree in
         omega (arith, holds-moved t n caller.cwd sound.stands.tree live some q);
     files = λ q enough file. subst (λ t. IsFile t.shape q) (sym tree) (files-moved t n caller.cwd sound.stands.tree live some q (omega arith) file);
     dirs = λ q enough dir. subst (λ t. IsDir t.shape q) (sym tree) (dirs-moved t n caller.cwd sound.stands.tree live some q (omega arith) dir);
   };
+  rest = rest;
   cause = record { later = later; rose = λ failed. cc };
 }
   where

@@ -8,7 +8,7 @@ use Rattle.dt_base.specs.declared.errno.Errno.TheVariants.{NoEnt, NoSpc, FBig}
 use Rattle.dt_base.specs.declared.image.What.TheVariants.{File}
 use Rattle.dt_base.specs.declared.limits.TheConstants.{FILE_LIMIT}
 use Rattle.dt_base.specs.Bytes.{resized}
-use Rattle.dt_host.specs.World.{World, Forest, file, dir, IsFile, IsDir, node_at, names_at, content, with_node, with_entry}
+use Rattle.dt_host.specs.World.{World, Forest, OnlyForest, file, dir, IsFile, IsDir, node_at, names_at, content, with_node, with_entry}
 use Rattle.dt_host.proofs.Spots.{IsLive-IsDir}
 use Rattle.dt_host.proofs.Worlds.{node_at-with_node, node_at-with_node_other, IsFile-with_bytes}
 use Rattle.dt_space.specs.Space.{PageView}
@@ -27,16 +27,17 @@ use Rattle.dt_scene.proofs.Kept.{sound_kept, others_kept}
 
 -- a step that changed tree and time
 pub steps_done : {A : Type 0} (d : Scene → Done A) (old : Fs) (tree : Table) (clock : ℕ) (w v : World) (caller : Caller) (space : List PageView) (value : A) (before now : ℕ)
-    → Sound (stage old w caller space) → Stands tree v.forest → KeepsHeld (tree_of old.tree w.forest) (tree_of tree v.forest) → before ≤ now → clock ≡ stamp (scene (stage old w caller space))
+    → Sound (stage old w caller space) → Stands tree v.forest → KeepsHeld (tree_of old.tree w.forest) (tree_of tree v.forest) → OnlyForest w v → before ≤ now → clock ≡ stamp (scene (stage old w caller space))
     → d (scene (stage old w caller space)) ≡ done (tree_of tree v.forest) value
     → Steps d (stage old w caller space) (stage (record { tree = tree; files = old.files; clock = clock; rand = old.rand }) v caller space) (Ok (Ok value)) before now
-steps_done d old tree clock w v caller space value before now sound stands kept later at is =
+steps_done d old tree clock w v caller space value before now sound stands kept rest later at is =
     let s = scene (stage old w caller space) in
     let new : Fs = record { tree = tree; files = old.files; clock = clock; rand = old.rand } in
     record {
       next = λ row. ap (λ x. on_done s x row) is ∙ ap (λ ticks. row value (record s { tree = tree_of tree v.forest; clock = ticks })) (sym at);
       sound = sound_kept old new w v caller space space sound stands kept refl;
       others = others_kept s (scene (stage new v caller space)) refl refl kept;
+      rest = rest;
       cause = record { later = later; rose = λ failed. cc };
     }
 

@@ -3,7 +3,7 @@ ghost use Rattle.std.specs.Prelude.{◌≡◌, ◌≤◌, IfOk, OnOk, IsErrOf, f
 ghost use Rattle.dt_base.specs.Abi.{low_word};
 ghost use Rattle.dt_base.specs.declared.limits.TheConstants.{MODE_LIMIT as MOST};
 ghost use Rattle.dt_host.specs.Cause.{HasCause};
-ghost use Rattle.dt_host.specs.World.{IsDir, IsLive};
+ghost use Rattle.dt_host.specs.World.{IsDir, IsLive, OnlyForest};
 ghost use Rattle.dt_tree.specs.Changes.{held, released};
 ghost use Rattle.dt_tree.specs.FileTree.{holds_of};
 ghost use Rattle.dt_tree.specs.Shape.{is_link};
@@ -268,6 +268,7 @@ fn swap_hold<H: Host>(tree: &mut Tree, host: &mut H, last: u64, next: u64) -> Re
     ensures tree { OnOk result (tree_of tree.new (H.view host.new).forest
         ≡ released (held (tree_of tree.old (H.view host.old).forest) next) last) }
     ensures stands { OnOk result (Stands tree.new (H.view host.new).forest) }
+    ensures rest { OnlyForest (H.view host.old) (H.view host.new) }
     ensures cause { HasCause (H.count host.old) (H.count host.new)
         (IsErrOf result HostErr.Failed) }
 {

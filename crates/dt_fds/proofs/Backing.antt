@@ -1,11 +1,11 @@
 -- The tree backs the descriptions: what this gives, and how it lasts.
-use Rattle.std.proofs.Common.{arith, ◌≡◌, ℕ, ◌+◌, ◌<◌, ◌≤◌, ◌==◌, Bool, true, false, cond, Option, None, Some, refl, sym, ap, subst}
+use Rattle.std.proofs.Common.{arith, ◌≡◌, ℕ, ◌+◌, ◌<◌, ◌≤◌, ◌==◌, Bool, true, false, cond, Option, None, Some, refl, sym, ap, subst, ◌∙◌}
 use Rattle.std.proofs.lemmas.Bool.Decides.{nat_tests}
-use Rattle.std.specs.Prelude.{IfSome, IsSome, option_and_then, option_map}
+use Rattle.std.specs.Prelude.{IfSome, IsSome, option_and_then, option_map, slice_set}
 use Rattle.std.specs.Cmp.{nat_cmp_total}
 use Rattle.std.specs.FinMap.{get, remove, nat_cmp-IsAntisymmetric}
 use Rattle.dt_host.specs.World.{Forest, Node, node_at, IsFile, IsDir, IsLive, file_bytes}
-use Rattle.dt_host.proofs.Maps.{at_insert, at_remove}
+use Rattle.dt_host.proofs.Maps.{at_insert, at_remove, get-insert_other, get-remove_other}
 use Rattle.dt_host.proofs.Spots.{IsLive-IsDir}
 use Rattle.dt_host.proofs.Totals.{total-insert, total-remove}
 use Rattle.dt_host.specs.Total.{total, weight}
@@ -18,7 +18,7 @@ use Rattle.dt_fds.specs.declared.desc.Desc.{Desc}
 use Rattle.dt_fds.specs.declared.desc.DescKind.{DescKind}
 use Rattle.dt_fds.specs.declared.desc.DescKind.TheVariants.{File, Dir, Input, Stream}
 use Rattle.dt_fds.specs.declared.desc.Slot.{Slot}
-use Rattle.dt_fds.specs.Descriptions.{Descriptions, inode_of, descriptors_of, with_slot, with_new, opened, swept, freed, gone, with_description, forgotten}
+use Rattle.dt_fds.specs.Descriptions.{Descriptions, Table, inode_of, descriptors_of, table_of, with_slot, with_table, with_new, opened, swept, freed, gone, with_description, forgotten}
 use Rattle.dt_fds.specs.Holding.{Holding, over, with_hold, without_hold, let_go}
 use Rattle.dt_fds.specs.Backs.{named_by, descriptions_of, IsIn, AllIn, Backs, KeepsNodes, KeepsOthers}
 
@@ -128,39 +128,65 @@ backs-swept f t k s h =
       is_in = in-kept (swept f k) t (let_go t (gone f k)) enough (kept-let_go t (gone f k) s) (λ q. open-swept f k q (λ desc. IsIn t.shape desc.kind) (h.is_in q));
     }
 
+-- the tables stay
+pub tables-swept : (f : Descriptions) (k : ℕ) → (swept f k).tables ≡ f.tables
+unfolding swept
+tables-swept f k = elim (descriptors_of f k == 0) as (λ b. (cond b (record f { descs = remove f.descs k }) f).tables ≡ f.tables) [
+  | true ↦ refl
+  | false ↦ refl
+]
+
 -- what others hold stays also then
-pub others-swept : (f : Descriptions) (t : FileTree) (k : ℕ) → IsTree t → Backs (over t f) → KeepsOthers (over t f) (over (let_go t (gone f k)) (swept f k))
-others-swept f t k s h =
+pub others-swept : (p : ℕ) (f : Descriptions) (t : FileTree) (k : ℕ) → IsTree t → Backs (over t f) → KeepsOthers p (over t f) (over (let_go t (gone f k)) (swept f k))
+others-swept p f t k s h =
     let held = gone-held f t k h in
     let holds : (n : ℕ) → holds_of (let_go t (gone f k)) n + descriptions_of f n ≡ holds_of t n + descriptions_of (swept f k) n = λ n. omega (arith, nodes-swept f k n, holds-let_go t (gone f k) n held) in
     record {
+      tables = λ q apart. ap (λ tables. get tables q) (tables-swept f k);
       holds = holds;
       files = λ n less is. kept-let_go t (gone f k) s (File n) (omega (arith, holds n)) is;
       dirs = λ n less is. kept-let_go t (gone f k) s (Dir n) (omega (arith, holds n)) is;
     }
 
 -- what a change of descriptions alone leaves
-pub KeepsNodes-same : (f : Descriptions) → KeepsNodes f f
-KeepsNodes-same f = record { counts = λ n. refl; all_in = λ v h. h }
+pub KeepsNodes-same : (p : ℕ) (f : Descriptions) → KeepsNodes p f f
+KeepsNodes-same p f = record { tables = λ q apart. refl; counts = λ n. refl; all_in = λ v h. h }
 
 -- a slot is no description
-pub KeepsNodes-with_slot : (f : Descriptions) (p fd : ℕ) (slot : Option Slot) → KeepsNodes f (with_slot f p fd slot)
+pub KeepsNodes-with_slot : (f : Descriptions) (p fd : ℕ) (slot : Option Slot) → KeepsNodes p f (with_slot f p fd slot)
 unfolding with_slot descriptions_of
-KeepsNodes-with_slot f p fd slot = record { counts = λ n. refl; all_in = λ v h. h }
+KeepsNodes-with_slot f p fd slot = record {
+  tables = λ q apart. get-insert_other nat_cmp_total nat_cmp-IsAntisymmetric f.tables p (slice_set (table_of f p) fd slot) q apart;
+  counts = λ n. refl;
+  all_in = λ v h. h;
+}
 
 -- a table is no description
-pub KeepsNodes-forgotten : (f : Descriptions) (p : ℕ) → KeepsNodes f (forgotten f p)
+pub KeepsNodes-forgotten : (f : Descriptions) (p : ℕ) → KeepsNodes p f (forgotten f p)
 unfolding descriptions_of
-KeepsNodes-forgotten f p = record { counts = λ n. refl; all_in = λ v h. h }
+KeepsNodes-forgotten f p = record {
+  tables = λ q apart. get-remove_other nat_cmp_total nat_cmp-IsAntisymmetric f.tables p q apart;
+  counts = λ n. refl;
+  all_in = λ v h. h;
+}
+
+pub KeepsNodes-with_table : (f : Descriptions) (p : ℕ) (table : Table) → KeepsNodes p f (with_table f p table)
+unfolding descriptions_of
+KeepsNodes-with_table f p table = record {
+  tables = λ q apart. get-insert_other nat_cmp_total nat_cmp-IsAntisymmetric f.tables p table q apart;
+  counts = λ n. refl;
+  all_in = λ v h. h;
+}
 
 -- a description of the same kind in the place of one
-pub KeepsNodes-described : (f : Descriptions) (change : Desc → Desc) (k : ℕ) → ((desc : Desc) → (let new = change desc in new.kind ≡ desc.kind)) → KeepsNodes f (with_description f k change)
+pub KeepsNodes-described : (p : ℕ) (f : Descriptions) (change : Desc → Desc) (k : ℕ) → ((desc : Desc) → (let new = change desc in new.kind ≡ desc.kind)) → KeepsNodes p f (with_description f k change)
 unfolding with_description descriptions_of
-KeepsNodes-described f change k same = by_found (get f.descs k) refl
+KeepsNodes-described p f change k same = by_found (get f.descs k) refl
   where
-    by_found : (found : Option Desc) → get f.descs k ≡ found → KeepsNodes f (record f { descs = put_back f.descs k (option_map change found) })
-    by_found None e = KeepsNodes-same f
+    by_found : (found : Option Desc) → get f.descs k ≡ found → KeepsNodes p f (record f { descs = put_back f.descs k (option_map change found) })
+    by_found None e = KeepsNodes-same p f
     by_found (Some desc) e = record {
+      tables = λ q apart. refl;
       counts = λ n.
           let sum = total-insert nat_cmp_total (names_node n) f.descs k (change desc) in
           let was = ap (weight (names_node n)) e in
@@ -171,31 +197,45 @@ KeepsNodes-described f change k same = by_found (get f.descs k) refl
     }
 
 -- with it a tree that backs the descriptions still does
-pub backs-kept : (f g : Descriptions) (t : FileTree) → KeepsNodes f g → Backs (over t f) → Backs (over t g)
-backs-kept f g t kept h = record { enough = λ n. omega (arith, h.enough n, kept.counts n); is_in = kept.all_in t.shape h.is_in }
+pub backs-kept : (p : ℕ) (f g : Descriptions) (t : FileTree) → KeepsNodes p f g → Backs (over t f) → Backs (over t g)
+backs-kept p f g t kept h = record { enough = λ n. omega (arith, h.enough n, kept.counts n); is_in = kept.all_in t.shape h.is_in }
 
 -- and what others hold stays
-pub others-kept : (f g : Descriptions) (t : FileTree) → KeepsNodes f g → KeepsOthers (over t f) (over t g)
-others-kept f g t kept = record { holds = λ n. omega (arith, kept.counts n); files = λ n less is. is; dirs = λ n less is. is }
+pub others-kept : (p : ℕ) (f g : Descriptions) (t : FileTree) → KeepsNodes p f g → KeepsOthers p (over t f) (over t g)
+others-kept p f g t kept = record {
+  tables = kept.tables;
+  holds = λ n. omega (arith, kept.counts n);
+  files = λ n less is. is;
+  dirs = λ n less is. is;
+}
 
 -- over two changes that leave what others hold it stays
-pub KeepsOthers-then : (a b c : Holding) → KeepsOthers a b → KeepsOthers b c → KeepsOthers a c
-KeepsOthers-then a b c p q = record {
-  holds = λ n. omega (arith, p.holds n, q.holds n);
-  files = λ n less is. q.files n (omega (arith, p.holds n)) (p.files n less is);
-  dirs = λ n less is. q.dirs n (omega (arith, p.holds n)) (p.dirs n less is);
+pub KeepsOthers-then : (p : ℕ) (a b c : Holding) → KeepsOthers p a b → KeepsOthers p b c → KeepsOthers p a c
+KeepsOthers-then p a b c first second = record {
+  tables = λ q apart. second.tables q apart ∙ first.tables q apart;
+  holds = λ n. omega (arith, first.holds n, second.holds n);
+  files = λ n less is. second.files n (omega (arith, first.holds n)) (first.files n less is);
+  dirs = λ n less is. second.dirs n (omega (arith, first.holds n)) (first.dirs n less is);
 }
+
+-- so far some descriptors are closed, what others hold stays, nothing but the forest changed, and no fault was taken back
+pub record Kept (defined good kept only : Type 0) (before now : ℕ) : Type 0 where
+  pub made : defined
+  pub backed : good
+  pub others : kept
+  pub rest : only
+  pub later : before ≤ now
 
 -- a descriptor is closed
 pub backs-freed : (f : Descriptions) (t : FileTree) (p fd k : ℕ) → IsTree t → Backs (over t f) → Backs (over (let_go t (gone (with_slot f p fd None) k)) (freed f p fd k))
 unfolding freed
-backs-freed f t p fd k s h = backs-swept (with_slot f p fd None) t k s (backs-kept f (with_slot f p fd None) t (KeepsNodes-with_slot f p fd None) h)
+backs-freed f t p fd k s h = backs-swept (with_slot f p fd None) t k s (backs-kept p f (with_slot f p fd None) t (KeepsNodes-with_slot f p fd None) h)
 
-pub others-freed : (f : Descriptions) (t : FileTree) (p fd k : ℕ) → IsTree t → Backs (over t f) → KeepsOthers (over t f) (over (let_go t (gone (with_slot f p fd None) k)) (freed f p fd k))
+pub others-freed : (f : Descriptions) (t : FileTree) (p fd k : ℕ) → IsTree t → Backs (over t f) → KeepsOthers p (over t f) (over (let_go t (gone (with_slot f p fd None) k)) (freed f p fd k))
 unfolding freed
 others-freed f t p fd k s h =
     let slot = KeepsNodes-with_slot f p fd None in
-    KeepsOthers-then (over t f) (over t (with_slot f p fd None)) _ (others-kept f (with_slot f p fd None) t slot) (others-swept (with_slot f p fd None) t k s (backs-kept f (with_slot f p fd None) t slot h))
+    KeepsOthers-then p (over t f) (over t (with_slot f p fd None)) _ (others-kept p f (with_slot f p fd None) t slot) (others-swept p (with_slot f p fd None) t k s (backs-kept p f (with_slot f p fd None) t slot h))
 
 pub both : (f g : Descriptions) (t u : FileTree) → f ≡ g → t ≡ u → ◌≡◌ {A = Holding} (over t f) (over u g)
 both f g t u p q = λ i. record { files = p i; tree = q i }
@@ -244,10 +284,16 @@ backs-new f t desc s h fresh is = record {
   is_in = subst (λ v. AllIn v (with_new f desc)) (sym (shape-with_hold t (inode_of desc.kind))) (all_in-new t.shape f desc h.is_in is);
 }
 
+-- the tables stay
+tables-new : (f : Descriptions) (desc : Desc) → (with_new f desc).tables ≡ f.tables
+unfolding with_new
+tables-new f desc = refl
+
 -- and what others hold stays
-pub others-new : (f : Descriptions) (t : FileTree) (desc : Desc) → IsTree t → get f.descs f.next ≡ None → IsIn t.shape desc.kind
-    → KeepsOthers (over t f) (over (with_hold t (inode_of desc.kind)) (with_new f desc))
-others-new f t desc s fresh is = record {
+pub others-new : (p : ℕ) (f : Descriptions) (t : FileTree) (desc : Desc) → IsTree t → get f.descs f.next ≡ None → IsIn t.shape desc.kind
+    → KeepsOthers p (over t f) (over (with_hold t (inode_of desc.kind)) (with_new f desc))
+others-new p f t desc s fresh is = record {
+  tables = λ q apart. ap (λ tables. get tables q) (tables-new f desc);
   holds = λ n. omega (arith, nodes-new f desc n fresh, holds-with_hold t s n (inode_of desc.kind) (live-in t.shape desc.kind is));
   files = λ n less there. subst (λ v. IsFile v n) (sym (shape-with_hold t (inode_of desc.kind))) there;
   dirs = λ n less there. subst (λ v. IsDir v n) (sym (shape-with_hold t (inode_of desc.kind))) there;
@@ -257,11 +303,11 @@ others-new f t desc s fresh is = record {
 pub backs-opened : (f : Descriptions) (t : FileTree) (p fd : ℕ) (desc : Desc) (cloexec : Bool) → IsTree t → Backs (over t f) → get f.descs f.next ≡ None → IsIn t.shape desc.kind
     → Backs (over (with_hold t (inode_of desc.kind)) (opened f p fd desc cloexec))
 backs-opened f t p fd desc cloexec s h fresh is =
-    backs-kept (with_new f desc) _ (with_hold t (inode_of desc.kind)) (KeepsNodes-with_slot (with_new f desc) p fd (Some (record { number = f.next; cloexec = cloexec }))) (backs-new f t desc s h fresh is)
+    backs-kept p (with_new f desc) _ (with_hold t (inode_of desc.kind)) (KeepsNodes-with_slot (with_new f desc) p fd (Some (record { number = f.next; cloexec = cloexec }))) (backs-new f t desc s h fresh is)
 
 pub others-opened : (f : Descriptions) (t : FileTree) (p fd : ℕ) (desc : Desc) (cloexec : Bool) → IsTree t → get f.descs f.next ≡ None → IsIn t.shape desc.kind
-    → KeepsOthers (over t f) (over (with_hold t (inode_of desc.kind)) (opened f p fd desc cloexec))
+    → KeepsOthers p (over t f) (over (with_hold t (inode_of desc.kind)) (opened f p fd desc cloexec))
 others-opened f t p fd desc cloexec s fresh is =
     let node = inode_of desc.kind in
-    KeepsOthers-then (over t f) (over (with_hold t node) (with_new f desc)) _ (others-new f t desc s fresh is)
-    (others-kept (with_new f desc) _ (with_hold t node) (KeepsNodes-with_slot (with_new f desc) p fd (Some (record { number = f.next; cloexec = cloexec }))))
+    KeepsOthers-then p (over t f) (over (with_hold t node) (with_new f desc)) _ (others-new p f t desc s fresh is)
+    (others-kept p (with_new f desc) _ (with_hold t node) (KeepsNodes-with_slot (with_new f desc) p fd (Some (record { number = f.next; cloexec = cloexec }))))

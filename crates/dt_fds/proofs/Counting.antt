@@ -37,7 +37,7 @@ there_is : {X : Type 0} (found : Option X) (d : X) → IsSome found → found �
 there_is None d h = cc
 there_is (Some x) d h = refl
 
-length_in : (tables : Tables) (p : ℕ) → ((q : ℕ) → IfSome (get tables q) (λ table. length table ≡ DESCRIPTOR_LIMIT)) → IsSome (get tables p) → length (table_in tables p) ≡ DESCRIPTOR_LIMIT
+pub length_in : (tables : Tables) (p : ℕ) → ((q : ℕ) → IfSome (get tables q) (λ table. length table ≡ DESCRIPTOR_LIMIT)) → IsSome (get tables p) → length (table_in tables p) ≡ DESCRIPTOR_LIMIT
 length_in tables p sized there = by_found (get tables p) (sized p) there
   where
     by_found : (found : Option Table) → IfSome found (λ table. length table ≡ DESCRIPTOR_LIMIT) → IsSome found → length (unwrap_or found []) ≡ DESCRIPTOR_LIMIT

@@ -2,3 +2,5 @@ pub mod Counting
 pub mod Slots
 pub mod Backing
 pub mod Starting
+pub mod Sharing
+pub mod Tabled

@@ -12,7 +12,7 @@ use Rattle.std.proofs.lemmas.Option.{unwrap_or-slice_get}
 use Rattle.std.proofs.lemmas.List.{get_or-set_other, get_or-drop}
 use Rattle.dt_host.proofs.Maps.{get-insert_same}
 use Rattle.dt_fds.specs.declared.desc.Slot.{Slot}
-use Rattle.dt_fds.specs.Holding.{Holding, without, closed_below}
+use Rattle.dt_fds.specs.Holding.{Holding, without, closed_below, without_marked, marked_closed_below}
 use Rattle.dt_fds.specs.Descriptions.{Descriptions, Table, table_of, slot_at, descriptors_of, lowest_free, with_slot, swept, freed}
 
 flat : {X : Type 0} (found : Option (Option X)) → option_flatten found ≡ unwrap_or found None
@@ -85,6 +85,13 @@ unfolding closed_below
 closed-next p fd h a b same next =
     let more : suc fd ≡ fd + 1 = omega arith in
     next ∙ ap (λ h. without h p fd (slot_at h.files p fd)) same ∙ ap (λ n. closed_below p n h) more
+
+-- one more descriptor is passed
+pub marked-next : (p fd : ℕ) (h a b : Holding) → a ≡ marked_closed_below p fd h → b ≡ without_marked a p fd (slot_at a.files p fd) → b ≡ marked_closed_below p (fd + 1) h
+unfolding marked_closed_below
+marked-next p fd h a b same next =
+    let more : suc fd ≡ fd + 1 = omega arith in
+    next ∙ ap (λ h. without_marked h p fd (slot_at h.files p fd)) same ∙ ap (λ n. marked_closed_below p n h) more
 
 still_free : (p count : ℕ) (h : Holding) (fd : ℕ) → (fd < count → slot_at h.files p fd ≡ None) → fd < suc count → slot_at (without h p count (slot_at h.files p count)).files p fd ≡ None
 still_free p count h fd before less = elim (cases_eq fd count) [

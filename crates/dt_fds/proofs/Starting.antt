@@ -4,7 +4,7 @@ use Rattle.std.specs.Prelude.{unwrap_or, is_some, IfSome, replicate}
 use Rattle.std.specs.List.{sum_by}
 use Rattle.std.specs.Ordering.{nat_cmp}
 use Rattle.std.specs.Cmp.{nat_cmp_total}
-use Rattle.std.specs.FinMap.{empty, insert, get-empty, nat_cmp-IsAntisymmetric}
+use Rattle.std.specs.FinMap.{FinMap, empty, get, insert, get-empty, nat_cmp-IsAntisymmetric}
 use Rattle.dt_host.proofs.Maps.{at_insert}
 use Rattle.dt_host.proofs.Totals.{total-insert, total-empty}
 use Rattle.dt_host.specs.Total.{weight}
@@ -46,6 +46,23 @@ counts-none p = record {
   sized = λ q. at_insert nat_cmp_total nat_cmp-IsAntisymmetric (λ found. IfSome found (λ table. length table ≡ DESCRIPTOR_LIMIT)) empty p _ q
       (λ is. free-length DESCRIPTOR_LIMIT)
       (λ apart. subst (λ (found : Option Table). IfSome found (λ table. length table ≡ DESCRIPTOR_LIMIT)) (sym (get-empty nat_cmp q)) tt);
+}
+
+-- a process more begins with nothing open
+pub counts-begun : (descs : FinMap nat_cmp Desc) (counts : FinMap nat_cmp ℕ) (tables : FinMap nat_cmp Table) (next p : ℕ) → get tables p ≡ None → Counts descs counts tables next
+    → Counts descs counts (insert tables p (replicate DESCRIPTOR_LIMIT None)) next
+counts-begun descs counts tables next p none h = record {
+  counted = λ k.
+      let sum = total-insert nat_cmp_total (sum_by (refers k)) tables p (replicate DESCRIPTOR_LIMIT None) in
+      let free = refers-free DESCRIPTOR_LIMIT k in
+      let here = ap (weight (sum_by (refers k))) none in
+      omega (arith, h.counted k);
+  alive = h.alive;
+  same = h.same;
+  good = h.good;
+  fresh = h.fresh;
+  sized = λ q. at_insert nat_cmp_total nat_cmp-IsAntisymmetric (λ found. IfSome found (λ table. length table ≡ DESCRIPTOR_LIMIT)) tables p _ q
+      (λ is. free-length DESCRIPTOR_LIMIT) (λ apart. h.sized q);
 }
 
 -- no description is of a node

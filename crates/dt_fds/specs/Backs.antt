@@ -1,9 +1,9 @@
 -- What holds between calls of open files and their tree: what is open is in the tree, and held.
-use Rattle.std.specs.Prelude.{◌≡◌, ℕ, ◌+◌, ◌<◌, ◌≤◌, Option, None, Some, IfSome, Result, Ok, Err, OnOk, IsErrOf}
+use Rattle.std.specs.Prelude.{◌≡◌, ◌≢◌, ℕ, ◌+◌, ◌<◌, ◌≤◌, Option, None, Some, IfSome, Result, Ok, Err, OnOk, IsErrOf}
 use Rattle.std.specs.FinMap.{get}
 use Rattle.dt_host.specs.Cause.{HasCause}
 use Rattle.dt_host.specs.Total.{total}
-use Rattle.dt_host.specs.World.{World, Forest, IsFile, IsDir}
+use Rattle.dt_host.specs.World.{World, Forest, IsFile, IsDir, OnlyForest}
 use Rattle.dt_host.specs.declared.error.HostErr.{HostErr}
 use Rattle.dt_host.specs.declared.error.HostErr.TheVariants.{Failed, NoMemory}
 use Rattle.dt_host.specs.declared.error.CallErr.{CallErr}
@@ -42,14 +42,21 @@ pub record Backs (h : Holding) : Type 0 where
   pub enough : (n : ℕ) → descriptions_of h.files n ≤ holds_of h.tree n
   pub is_in : AllIn h.tree.shape h.files
 
--- as many descriptions are of each node, and each description's node is there and of its kind if that was so before
-pub record KeepsNodes (old new : Descriptions) : Type 0 where
+-- the tables of all processes but one stay
+abbrev pub KeepsTables : ℕ → Descriptions → Descriptions → Type 0
+KeepsTables p old new = (q : ℕ) → q ≢ p → get new.tables q ≡ get old.tables q
+
+-- as many descriptions are of each node, each description's node is there and of its kind if that was so before, and the
+-- tables of other processes stay
+pub record KeepsNodes (p : ℕ) (old new : Descriptions) : Type 0 where
+  pub tables : KeepsTables p old new
   pub counts : (n : ℕ) → descriptions_of new n ≡ descriptions_of old n
   pub all_in : (v : Forest) → AllIn v old → AllIn v new
 
 -- what others hold stays: the holds of a node that are of no description are as many as before, and where there are such,
--- a file stays a file and a directory a directory
-pub record KeepsOthers (old new : Holding) : Type 0 where
+-- a file stays a file and a directory a directory; and the tables of other processes stay
+pub record KeepsOthers (p : ℕ) (old new : Holding) : Type 0 where
+  pub tables : KeepsTables p old.files new.files
   pub holds : (n : ℕ) → holds_of new.tree n + descriptions_of old.files n ≡ holds_of old.tree n + descriptions_of new.files n
   pub files : (n : ℕ) → descriptions_of old.files n < holds_of old.tree n → IsFile old.tree.shape n → IsFile new.tree.shape n
   pub dirs : (n : ℕ) → descriptions_of old.files n < holds_of old.tree n → IsDir old.tree.shape n → IsDir new.tree.shape n
@@ -74,10 +81,11 @@ pub record IsBacked (a : At) : Type 0 where
   pub backs : Backs (holding a)
 
 -- descriptions and tree came to this, unless the host failed or memory was wanting
-pub record Leaves {A : Type 0} (defined : Holding) (old new : At) (result : Result A HostErr) (before now : ℕ) : Type 0 where
+pub record Leaves {A : Type 0} (p : ℕ) (defined : Holding) (old new : At) (result : Result A HostErr) (before now : ℕ) : Type 0 where
   pub made : OnOk result (holding new ≡ defined)
   pub backed : OnOk result (IsBacked new)
-  pub others : OnOk result (KeepsOthers (holding old) (holding new))
+  pub others : OnOk result (KeepsOthers p (holding old) (holding new))
+  pub rest : OnlyForest old.world new.world
   pub cause : HasCause before now (IsErrOf result Failed)
 
 -- the host failed
@@ -94,8 +102,9 @@ Does (Err (is_refused errno)) new defined = defined ≡ record { answer = Err er
 Does (Err (has_failed error)) new defined = Unit {0}
 
 -- a call is made as it is defined
-pub record Makes {A : Type 0} (call : Holding → Outcome A) (old new : At) (result : Result A CallErr) (before now : ℕ) : Type 0 where
+pub record Makes {A : Type 0} (p : ℕ) (call : Holding → Outcome A) (old new : At) (result : Result A CallErr) (before now : ℕ) : Type 0 where
   pub made : Does result (holding new) (call (holding old))
   pub backed : UnlessFailed result (IsBacked new)
-  pub others : UnlessFailed result (KeepsOthers (holding old) (holding new))
+  pub others : UnlessFailed result (KeepsOthers p (holding old) (holding new))
+  pub rest : OnlyForest old.world new.world
   pub cause : HasCause before now (HasFailed result)

@@ -146,6 +146,25 @@ marked f p fd cloexec (Some slot) = duplicated f p fd slot cloexec
 abbrev pub forgotten : Descriptions → ℕ → Descriptions
 forgotten f p = record f { tables = remove f.tables p }
 
+-- a descriptor refers to what that slot refers to, if there is one, with the same close-on-exec bit
+abbrev pub with_copy : Descriptions → ℕ → ℕ → Option Slot → Descriptions
+with_copy f p fd None = f
+with_copy f p fd (Some slot) = with_slot f p fd (Some slot)
+
+-- with this table of a process
+abbrev pub with_table : Descriptions → ℕ → Table → Descriptions
+with_table f p table = record f { tables = insert f.tables p table }
+
+-- with this table for a process, if there is one
+abbrev pub given_table : Descriptions → ℕ → Option Table → Descriptions
+given_table f p None = f
+given_table f p (Some table) = with_table f p table
+
+-- the child has a table like its parent's: the same descriptors refer to the same descriptions, under the same close-on-exec
+-- bits (fork(2)); a parent that has none gives none
+unfoldable pub shared_all : ℕ → ℕ → Descriptions → Descriptions
+shared_all parent child f = given_table f child (get f.tables parent)
+
 -- nothing is open: a process has a table whose descriptors are free
 abbrev pub none_open : ℕ → Descriptions
 none_open p = record { descs = empty; tables = insert empty p (replicate DESCRIPTOR_LIMIT None); next = 1 }

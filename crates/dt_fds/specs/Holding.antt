@@ -112,6 +112,22 @@ unfoldable pub closed_below : ℕ → ℕ → Holding → Holding
 closed_below p zero h = h
 closed_below p (suc fd) h = let rest = closed_below p fd h in without rest p fd (slot_at rest.files p fd)
 
+-- a descriptor, if it is open and its close-on-exec bit is set, is closed
+abbrev pub without_marked : Holding → ℕ → ℕ → Option Slot → Holding
+without_marked h p fd None = h
+without_marked h p fd (Some slot) = if slot.cloexec then without h p fd (Some slot) else h
+
+-- the descriptors below a number are closed, in order, those that are open and whose close-on-exec bit is set
+unfoldable pub marked_closed_below : ℕ → ℕ → Holding → Holding
+marked_closed_below p zero h = h
+marked_closed_below p (suc fd) h =
+    let rest = marked_closed_below p fd h in
+    without_marked rest p fd (slot_at rest.files p fd)
+
+-- execve(2): the descriptors of a process whose close-on-exec bit is set are closed
+unfoldable pub closed_on_exec : ℕ → Holding → Holding
+closed_on_exec p h = marked_closed_below p DESCRIPTOR_LIMIT h
+
 -- a process is gone: its descriptors are closed, and it has no table
 unfoldable pub dropped : ℕ → Holding → Holding
 dropped p h =

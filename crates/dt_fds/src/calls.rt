@@ -2,12 +2,12 @@
 ghost use Rattle.std.specs.Prelude.{◌≡◌, ◌≢◌, ◌<◌, None, Some, IsSome, IfSome, OnOk, IsErrOf};
 ghost use Rattle.std.specs.FinMap.{get};
 ghost use Rattle.dt_host.specs.Cause.{HasCause};
-ghost use Rattle.dt_host.specs.World.{IsLive};
+ghost use Rattle.dt_host.specs.World.{IsLive, OnlyForest};
 ghost use Rattle.dt_tree.specs.FileTree.{holds_of};
 ghost use Rattle.dt_tree.specs.Table.{Stands, shape_of, tree_of};
 ghost use Rattle.dt_fds.specs.declared.desc.TheConstants.{DESCRIPTOR_LIMIT};
 ghost use Rattle.dt_fds.specs.Descriptions.{IsDesc, inode_of, slot_at, opened};
-ghost use Rattle.dt_fds.specs.Holding.{over, with_hold, without_hold, let_go, without, add_call, close_call, dup_within, dup_at_call, closed_below, dropped};
+ghost use Rattle.dt_fds.specs.Holding.{over, with_hold, without_hold, let_go, without, add_call, close_call, dup_within, dup_at_call, closed_below, dropped, without_marked, marked_closed_below, closed_on_exec};
 ghost use Rattle.dt_fds.specs.Backs.{IsIn, IsBacked, at, holding, Leaves, Makes};
 
 use crate::desc::{DESCRIPTOR_LIMIT, Desc, Slot};
@@ -30,7 +30,7 @@ impl Files {
         requires backed { IsBacked (at self.old tree.old (H.view host.now)) }
         requires good { IsDesc desc }
         requires there { IsIn (shape_of tree.old (H.view host.now).forest) desc.kind }
-        ensures { Makes (add_call pid desc cloexec) (at self.old tree.old (H.view host.now))
+        ensures { Makes pid (add_call pid desc cloexec) (at self.old tree.old (H.view host.now))
             (at self.new tree.new (H.view host.now)) result (H.count host.now) (H.count host.now) }
     {
         match self.free(pid, 0) {
@@ -53,7 +53,7 @@ impl Files {
         fd: u32,
     ) -> Result<(), CallErr>
         requires { IsBacked (at self.old tree.old (H.view host.old)) }
-        ensures { Makes (close_call pid fd) (at self.old tree.old (H.view host.old))
+        ensures { Makes pid (close_call pid fd) (at self.old tree.old (H.view host.old))
             (at self.new tree.new (H.view host.new)) result (H.count host.old) (H.count host.new) }
     {
         let _before = host.faults();
@@ -77,7 +77,7 @@ impl Files {
     ) -> Result<(), CallErr>
         requires backed { IsBacked (at self.old tree.old (H.view host.old)) }
         requires apart { old ≢ new }
-        ensures { Makes (dup_at_call pid old new cloexec) (at self.old tree.old (H.view host.old))
+        ensures { Makes pid (dup_at_call pid old new cloexec) (at self.old tree.old (H.view host.old))
             (at self.new tree.new (H.view host.new)) result (H.count host.old) (H.count host.new) }
     {
         let _before = host.faults();
@@ -101,7 +101,7 @@ impl Files {
         requires backed { IsBacked (at self.old tree.old (H.view host.old)) }
         requires apart { old ≢ new }
         requires within { new < DESCRIPTOR_LIMIT }
-        ensures { Makes (dup_within pid old new cloexec) (at self.old tree.old (H.view host.old))
+        ensures { Makes pid (dup_within pid old new cloexec) (at self.old tree.old (H.view host.old))
             (at self.new tree.new (H.view host.new)) result (H.count host.old) (H.count host.new) }
     {
         let _before = host.faults();
@@ -125,7 +125,7 @@ impl Files {
         pid: u32,
     ) -> Result<(), HostErr>
         requires { IsBacked (at self.old tree.old (H.view host.old)) }
-        ensures { Leaves (dropped pid (holding (at self.old tree.old (H.view host.old))))
+        ensures { Leaves pid (dropped pid (holding (at self.old tree.old (H.view host.old))))
             (at self.old tree.old (H.view host.old)) (at self.new tree.new (H.view host.new))
             result (H.count host.old) (H.count host.new) }
     {
@@ -134,11 +134,31 @@ impl Files {
         Ok(())
     }
 
+    /// Closes those descriptors of a process, in order, whose close-on-exec bit is set (execve(2)).
+    #[tactic(auto, unfolding(crate::specs::Holding::marked_closed_below))]
+    pub fn close_exec<H: Host>(
+        &mut self,
+        host: &mut H,
+        tree: &mut Tree,
+        pid: u32,
+    ) -> Result<(), HostErr>
+        requires { IsBacked (at self.old tree.old (H.view host.old)) }
+        ensures { Leaves pid (closed_on_exec pid (holding (at self.old tree.old (H.view host.old))))
+            (at self.old tree.old (H.view host.old)) (at self.new tree.new (H.view host.new))
+            result (H.count host.old) (H.count host.new) }
+    {
+        let _before = host.faults();
+        for fd in 0..DESCRIPTOR_LIMIT as u32 {
+            self.free_marked(host, tree, pid, fd)?;
+        }
+        Ok(())
+    }
+
     // Closes all descriptors of a process.
     #[tactic(auto, unfolding(crate::specs::Holding::closed_below))]
     fn close_all<H: Host>(&mut self, host: &mut H, tree: &mut Tree, pid: u32) -> Result<(), HostErr>
         requires { IsBacked (at self.old tree.old (H.view host.old)) }
-        ensures { Leaves (closed_below pid DESCRIPTOR_LIMIT
+        ensures { Leaves pid (closed_below pid DESCRIPTOR_LIMIT
             (holding (at self.old tree.old (H.view host.old))))
             (at self.old tree.old (H.view host.old)) (at self.new tree.new (H.view host.new))
             result (H.count host.old) (H.count host.new) }
@@ -166,7 +186,7 @@ impl Files {
         requires table { IsSome (get self.old.tables pid) }
         requires within { fd < DESCRIPTOR_LIMIT }
         requires free { slot_at self.old pid fd ≡ None }
-        ensures { Leaves (over (with_hold (tree_of tree.old (H.view host.now).forest)
+        ensures { Leaves pid (over (with_hold (tree_of tree.old (H.view host.now).forest)
             (inode_of desc.kind)) (opened self.old pid fd desc cloexec))
             (at self.old tree.old (H.view host.now)) (at self.new tree.new (H.view host.now))
             result (H.count host.now) (H.count host.now) }
@@ -185,7 +205,7 @@ impl Files {
         fd: u32,
     ) -> Result<(), HostErr>
         requires { IsBacked (at self.old tree.old (H.view host.old)) }
-        ensures { Leaves (without (holding (at self.old tree.old (H.view host.old))) pid fd
+        ensures { Leaves pid (without (holding (at self.old tree.old (H.view host.old))) pid fd
             (slot_at self.old pid fd))
             (at self.old tree.old (H.view host.old)) (at self.new tree.new (H.view host.new))
             result (H.count host.old) (H.count host.new) }
@@ -194,6 +214,27 @@ impl Files {
         match self.slot(pid, fd) {
             Some(slot) => self.drop_slot(host, tree, pid, fd, slot),
             None => Ok(()),
+        }
+    }
+
+    // Frees a descriptor, if it is open and its close-on-exec bit is set.
+    fn free_marked<H: Host>(
+        &mut self,
+        host: &mut H,
+        tree: &mut Tree,
+        pid: u32,
+        fd: u32,
+    ) -> Result<(), HostErr>
+        requires { IsBacked (at self.old tree.old (H.view host.old)) }
+        ensures { Leaves pid (without_marked (holding (at self.old tree.old (H.view host.old))) pid fd
+            (slot_at self.old pid fd))
+            (at self.old tree.old (H.view host.old)) (at self.new tree.new (H.view host.new))
+            result (H.count host.old) (H.count host.new) }
+    {
+        let _before = host.faults();
+        match self.slot(pid, fd) {
+            Some(slot) if slot.cloexec => self.drop_slot(host, tree, pid, fd, slot),
+            Some(_) | None => Ok(()),
         }
     }
 
@@ -208,7 +249,7 @@ impl Files {
     ) -> Result<(), HostErr>
         requires backed { IsBacked (at self.old tree.old (H.view host.old)) }
         requires here { slot_at self.old pid fd ≡ Some slot }
-        ensures { Leaves (without (holding (at self.old tree.old (H.view host.old))) pid fd
+        ensures { Leaves pid (without (holding (at self.old tree.old (H.view host.old))) pid fd
             (Some slot))
             (at self.old tree.old (H.view host.old)) (at self.new tree.new (H.view host.new))
             result (H.count host.old) (H.count host.new) }
@@ -241,6 +282,7 @@ fn let_go<H: Host>(host: &mut H, tree: &mut Tree, gone: Option<Desc>) -> Result<
     ensures tree { OnOk result (tree_of tree.new (H.view host.new).forest
         ≡ let_go (tree_of tree.old (H.view host.old).forest) gone) }
     ensures stands { OnOk result (Stands tree.new (H.view host.new).forest) }
+    ensures rest { OnlyForest (H.view host.old) (H.view host.new) }
     ensures cause { HasCause (H.count host.old) (H.count host.new)
         (IsErrOf result HostErr.Failed) }
 {
@@ -259,6 +301,7 @@ fn release<H: Host>(host: &mut H, tree: &mut Tree, inode: Option<u64>) -> Result
     ensures tree { OnOk result (tree_of tree.new (H.view host.new).forest
         ≡ without_hold (tree_of tree.old (H.view host.old).forest) inode) }
     ensures stands { OnOk result (Stands tree.new (H.view host.new).forest) }
+    ensures rest { OnlyForest (H.view host.old) (H.view host.new) }
     ensures cause { HasCause (H.count host.old) (H.count host.new)
         (IsErrOf result HostErr.Failed) }
 {

@@ -1,16 +1,16 @@
 // Changes of open files that leave the tree.
-ghost use Rattle.std.specs.Prelude.{◌≡◌, ◌<◌, ◌≤◌, None, Some, IsSome, IfSome, OnOk, IsErrOf};
+ghost use Rattle.std.specs.Prelude.{◌≡◌, ◌<◌, ◌≤◌, None, Some, IsSome, IfSome, OnOk, OnErr, IsErrOf};
 ghost use Rattle.std.specs.FinMap.{get};
 ghost use Rattle.dt_tree.specs.FileTree.{FileTree};
 ghost use Rattle.dt_tree.specs.Calls.{UnlessFailed};
 ghost use Rattle.dt_fds.specs.declared.desc.TheConstants.{DESCRIPTOR_LIMIT};
-ghost use Rattle.dt_fds.specs.Descriptions.{slot_at, description_at, is_after, is_of_dir, changed, at_place, with_flags, marked, duplicated};
+ghost use Rattle.dt_fds.specs.Descriptions.{slot_at, description_at, is_after, is_of_dir, changed, at_place, with_flags, marked, duplicated, with_copy, table_of, with_table, shared_all};
 ghost use Rattle.dt_fds.specs.Holding.{over, dup_call};
 ghost use Rattle.dt_fds.specs.Backs.{KeepsNodes, Does, HasFailed};
 
-use crate::desc::{Slot, Spot};
+use crate::desc::{DESCRIPTOR_LIMIT, Slot, Spot};
 use crate::files::Files;
-use dt_base::Errno;
+use dt_base::{Errno, NoMemory};
 use dt_host::{CallErr, HostErr};
 
 impl Files {
@@ -21,7 +21,7 @@ impl Files {
         requires { from ≤ DESCRIPTOR_LIMIT }
         ensures call { (t : FileTree) → Does result (over t self.new)
             (dup_call pid fd from cloexec (over t self.old)) }
-        ensures nodes { UnlessFailed result (KeepsNodes self.old self.new) }
+        ensures nodes { UnlessFailed result (KeepsNodes pid self.old self.new) }
         ensures quiet { HasFailed result → ⊥ }
     {
         match self.slot(pid, fd) {
@@ -43,7 +43,7 @@ impl Files {
         requires { IfSome (description_at self.old pid fd)
             (λ desc. is_after spot ≡ is_of_dir desc.kind) }
         ensures files { self.new ≡ changed self.old (at_place spot) (slot_at self.old pid fd) }
-        ensures nodes { KeepsNodes self.old self.new }
+        ensures nodes { KeepsNodes pid self.old self.new }
     {
         match self.slot(pid, fd) {
             Some(slot) => {
@@ -59,7 +59,7 @@ impl Files {
     pub fn set_flags(&mut self, pid: u32, fd: u32, append: bool, nonblock: bool)
         ensures files { self.new
             ≡ changed self.old (with_flags append nonblock) (slot_at self.old pid fd) }
-        ensures nodes { KeepsNodes self.old self.new }
+        ensures nodes { KeepsNodes pid self.old self.new }
     {
         match self.slot(pid, fd) {
             Some(slot) => {
@@ -74,11 +74,59 @@ impl Files {
     /// not open.
     pub fn set_cloexec(&mut self, pid: u32, fd: u32, cloexec: bool)
         ensures files { self.new ≡ marked self.old pid fd cloexec (slot_at self.old pid fd) }
-        ensures nodes { KeepsNodes self.old self.new }
+        ensures nodes { KeepsNodes pid self.old self.new }
     {
         match self.slot(pid, fd) {
             Some(slot) => self.mark(pid, fd, slot, cloexec),
             None => {}
+        }
+    }
+
+    /// Gives a child a table like its parent's: its descriptors refer to the same descriptions, and have the same
+    /// close-on-exec bits (fork(2); clone(2) without CLONE_FILES). Offsets and flags are shared from then on. A parent
+    /// that has no table gives none.
+    #[tactic(auto, using(crate::proofs::Sharing::sharing))]
+    pub fn share_all(&mut self, parent: u32, child: u32) -> Result<(), NoMemory>
+        requires { get self.old.tables child ≡ None }
+        ensures files { OnOk result (self.new ≡ shared_all parent child self.old) }
+        ensures nodes { KeepsNodes child self.old self.new }
+    {
+        if self.has_table(parent) {
+            self.copy_table(parent, child)?;
+        }
+        Ok(())
+    }
+
+    // Gives a child a table like its parent's, which has one.
+    fn copy_table(&mut self, parent: u32, child: u32) -> Result<(), NoMemory>
+        requires parent { IsSome (get self.old.tables parent) }
+        requires child { get self.old.tables child ≡ None }
+        ensures files { OnOk result (self.new ≡ with_table self.old child (table_of self.old parent)) }
+        ensures nodes { KeepsNodes child self.old self.new }
+    {
+        self.sized(parent);
+        self.begin(child)?;
+        for fd in 0..DESCRIPTOR_LIMIT as u32 {
+            self.share_slot(parent, child, fd)?;
+        }
+        Ok(())
+    }
+
+    // Lets a free descriptor of a child refer to what its parent's refers to, if that is open.
+    fn share_slot(&mut self, parent: u32, child: u32, fd: u32) -> Result<(), NoMemory>
+        requires table { IsSome (get self.old.tables child) }
+        requires within { fd < DESCRIPTOR_LIMIT }
+        requires free { slot_at self.old child fd ≡ None }
+        ensures ok { OnOk result
+            (self.new ≡ with_copy self.old child fd (slot_at self.old parent fd)) }
+        ensures err { OnErr result (self.new ≡ self.old) }
+    {
+        match self.slot(parent, fd) {
+            Some(slot) => {
+                self.living(parent, fd, slot);
+                self.place(child, fd, slot)
+            }
+            None => Ok(()),
         }
     }
 

@@ -1,15 +1,15 @@
 // The open files of processes.
-ghost use Rattle.std.specs.Prelude.{◌≡◌, ℕ, ◌+◌, ◌-◌, ◌<◌, ◌≤◌, ◌==◌, cond, false, None, Some, IsSome, IfSome, IfOk, OnOk, OnErr, is_some, unwrap_or, slice_set, length, []};
+ghost use Rattle.std.specs.Prelude.{◌≡◌, ℕ, ◌+◌, ◌-◌, ◌<◌, ◌≤◌, ◌==◌, cond, false, None, Some, IsSome, IfSome, IfOk, OnOk, OnErr, is_some, unwrap_or, slice_set, length, replicate, []};
 ghost use Rattle.std.specs.Option.{option_copied, is_none};
 ghost use Rattle.std.specs.List.{position};
 ghost use Rattle.std.specs.FinMap.{get, insert, remove};
 ghost use Rattle.dt_fds.specs.Backs.{KeepsNodes};
 ghost use Rattle.dt_fds.specs.declared.desc.TheConstants.{DESCRIPTOR_LIMIT};
-ghost use Rattle.dt_fds.specs.Descriptions.{IsDesc, none_open, table_of, slot_at, description_at, cloexec_at, lowest_free, with_slot, with_new, opened, duplicated, freed, swept, gone, with_description, at_place, with_flags, is_after, is_of_dir, forgotten};
+ghost use Rattle.dt_fds.specs.Descriptions.{IsDesc, none_open, table_of, slot_at, description_at, cloexec_at, lowest_free, with_slot, with_table, with_new, opened, duplicated, freed, swept, gone, with_description, at_place, with_flags, is_after, is_of_dir, forgotten};
 
 use crate::desc::{DESCRIPTOR_LIMIT, Desc, DescKind, Slot, Spot};
-use crate::numbered::Numbered;
 use dt_base::NoMemory;
+use dt_numbered::Numbered;
 use std::alloc::Global;
 use std::marker::Model;
 
@@ -62,6 +62,13 @@ impl Files {
         self.free(pid, 0).is_none()
     }
 
+    /// Whether a process has a table of descriptors.
+    pub fn has_table(&self, pid: u32) -> bool
+        ensures { result ≡ is_some (get self.now.tables pid) }
+    {
+        self.tables.contains(u64::from(pid))
+    }
+
     /// A descriptor's close-on-exec bit; none where the process has no such descriptor (fcntl(2), F_GETFD).
     pub fn is_cloexec(&self, pid: u32, fd: u32) -> Option<bool>
         ensures { result ≡ cloexec_at self.now pid fd }
@@ -104,6 +111,14 @@ impl Files {
         let _ = &self.descs;
     }
 
+    // A table has a place for each descriptor that may be open: nothing is done.
+    pub(crate) fn sized(&self, pid: u32)
+        requires { IsSome (get self.now.tables pid) }
+        ensures { length (table_of self.now pid) ≡ DESCRIPTOR_LIMIT }
+    {
+        let _ = &self.tables;
+    }
+
     // The lowest free descriptor from a given one on, if there is one.
     #[tactic(auto, unfolding(crate::specs::Descriptions::lowest_free))]
     pub(crate) fn free(&self, pid: u32, from: u32) -> Option<u32>
@@ -141,7 +156,8 @@ impl Files {
         requires within { fd < DESCRIPTOR_LIMIT }
         requires free { slot_at self.old pid fd ≡ None }
         requires living { IsSome (get self.old.descs slot.number) }
-        ensures { OnOk result (self.new ≡ with_slot self.old pid fd (Some slot)) }
+        ensures ok { OnOk result (self.new ≡ with_slot self.old pid fd (Some slot)) }
+        ensures err { OnErr result (self.new ≡ self.old) }
     {
         raise(&mut self.counts, slot.number)?;
         put_slot(&mut self.tables, pid, fd, Some(slot));
@@ -200,7 +216,7 @@ impl Files {
         requires kind { IfSome (get self.old.descs number)
             (λ desc. is_after spot ≡ is_of_dir desc.kind) }
         ensures files { self.new ≡ with_description self.old number (at_place spot) }
-        ensures nodes { KeepsNodes self.old self.new }
+        ensures nodes { (p : ℕ) → KeepsNodes p self.old self.new }
     {
         put_place(&mut self.descs, number, spot);
     }
@@ -210,7 +226,7 @@ impl Files {
     pub(crate) fn flag(&mut self, number: u64, append: bool, nonblock: bool)
         requires { IsSome (get self.old.descs number) }
         ensures files { self.new ≡ with_description self.old number (with_flags append nonblock) }
-        ensures nodes { KeepsNodes self.old self.new }
+        ensures nodes { (p : ℕ) → KeepsNodes p self.old self.new }
     {
         put_flags(&mut self.descs, number, append, nonblock);
     }
@@ -220,17 +236,28 @@ impl Files {
     pub(crate) fn mark(&mut self, pid: u32, fd: u32, slot: Slot, cloexec: bool)
         requires here { slot_at self.old pid fd ≡ Some slot }
         ensures files { self.new ≡ duplicated self.old pid fd slot cloexec }
-        ensures nodes { KeepsNodes self.old self.new }
+        ensures nodes { KeepsNodes pid self.old self.new }
     {
         let number = slot.number;
         put_slot(&mut self.tables, pid, fd, Some(Slot { number, cloexec }));
+    }
+
+    // Gives a process that has no table one whose descriptors are free.
+    pub(crate) fn begin(&mut self, pid: u32) -> Result<(), NoMemory>
+        requires { get self.old.tables pid ≡ None }
+        ensures ok { OnOk result
+            (self.new ≡ with_table self.old pid (replicate DESCRIPTOR_LIMIT None)) }
+        ensures err { OnErr result (self.new ≡ self.old) }
+    {
+        self.tables.put(u64::from(pid), [None; DESCRIPTOR_LIMIT])?;
+        Ok(())
     }
 
     // Takes away the table of a process that has nothing open.
     pub(crate) fn forget(&mut self, pid: u32)
         requires { (fd : ℕ) → fd < DESCRIPTOR_LIMIT → slot_at self.old pid fd ≡ None }
         ensures files { self.new ≡ forgotten self.old pid }
-        ensures nodes { KeepsNodes self.old self.new }
+        ensures nodes { KeepsNodes pid self.old self.new }
     {
         self.tables.take(u64::from(pid));
     }

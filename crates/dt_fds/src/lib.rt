@@ -6,7 +6,6 @@ mod changes;
 mod desc;
 mod files;
 mod first;
-mod numbered;
 
 pub use desc::{DESCRIPTOR_LIMIT, Desc, DescKind, Slot, Spot};
 pub use files::Files;

@@ -1,12 +1,13 @@
 -- The legal answers of a host, as relations between the world before a call, what was asked, the answer, and the world after it.
 -- Those of the calls without a relation here stand as clauses at the trait.
-use Rattle.std.specs.Prelude.{◌≡◌, ℕ, ◌-◌, ◌≤◌, min, List, [], ◌++◌, length, take, drop, None, Result, MatchResult}
+use Rattle.std.specs.Prelude.{◌≡◌, ℕ, ◌-◌, ◌≤◌, min, List, [], ◌++◌, length, take, drop, false, None, Result, MatchResult}
 use Rattle.std.specs.FinMap.{empty}
+use Rattle.std.specs.FinSet.{contains, insert, remove}
 use Rattle.dt_host.specs.declared.entry.HostEntry.{HostEntry}
 use Rattle.dt_host.specs.declared.kind.NodeKind.{NodeKind}
 use Rattle.dt_host.specs.declared.kind.NodeKind.TheVariants.{File, Dir, Link}
 use Rattle.dt_host.specs.Sink.{MovesSome}
-use Rattle.dt_host.specs.World.{World, Node, file, dir, link, node_at, with_node, with_forest, with_entry, without_entry, without_node, with_bytes, content}
+use Rattle.dt_host.specs.World.{World, Node, file, dir, link, node_at, with_node, with_forest, with_pids, with_entry, without_entry, without_node, with_bytes, content}
 use Rattle.dt_base.specs.Bytes.{overwritten, resized}
 
 -- a new node of that kind
@@ -39,6 +40,19 @@ Unbinds old d name result new =
 abbrev pub Forgets : {A E : Type 0} → World → ℕ → Result A E → World → Type 0
 Forgets old n result new =
     MatchResult result (λ _. new ≡ with_forest old (without_node old.forest n)) (λ _. new ≡ old)
+
+-- a pid that was not live is one
+pub record MadePid (old new : World) (p : ℕ) : Type 0 where
+  pub free : contains old.pids p ≡ false
+  pub made : new ≡ with_pids old (insert old.pids p)
+
+-- the answers of `new_pid`
+abbrev pub MakesPid : {E : Type 0} → World → Result ℕ E → World → Type 0
+MakesPid old result new = MatchResult result (MadePid old new) (λ _. new ≡ old)
+
+-- the answers of `drop_pid`
+abbrev pub DropsPid : {A E : Type 0} → World → ℕ → Result A E → World → Type 0
+DropsPid old p result new = MatchResult result (λ _. new ≡ with_pids old (remove old.pids p)) (λ _. new ≡ old)
 
 -- an entry that `names` found, as its name and its number
 abbrev pub named : HostEntry → List ℕ × ℕ

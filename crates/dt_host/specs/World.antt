@@ -1,8 +1,10 @@
--- What a host keeps: the nodes of a tree by number, and which of them is the root.
+-- What a host keeps: the nodes of a tree by number, which of them is the root, and the pids that are live.
 use Rattle.std.specs.Prelude.{◌≡◌, ◌≢◌, ℕ, ◌^◌, ◌<◌, List, [], length, Option, None, Some, option_and_then, unwrap_or, IsSome}
 use Rattle.std.specs.Ordering.{nat_cmp}
 use Rattle.std.specs.Cmp.Lexicographic.{slice_cmp}
 use Rattle.std.specs.FinMap.{FinMap, empty, get, insert, remove}
+use Rattle.std.specs.FinSet as set
+use Rattle.std.specs.FinSet.{FinSet}
 
 -- the entries of a directory: a node's number by the bytes of its name
 abbrev pub Names : Type 0
@@ -19,9 +21,14 @@ pub record Forest : Type 0 where
   pub nodes : FinMap nat_cmp Node
   pub root : ℕ
 
+-- the pids of live processes
+abbrev pub Pids : Type 0
+Pids = FinSet nat_cmp
+
 -- all that a host keeps
 pub record World : Type 0 where
   pub forest : Forest
+  pub pids : Pids
 
 -- the node of that number
 abbrev pub node_at : Forest → ℕ → Option Node
@@ -123,14 +130,26 @@ IsBare v d = (name : List ℕ) → entry v d name ≡ None
 abbrev pub with_forest : World → Forest → World
 with_forest w v = record w { forest = v }
 
+-- the world with these pids
+abbrev pub with_pids : World → Pids → World
+with_pids w pids = record w { pids = pids }
+
+-- nothing but the forest may have changed
+abbrev pub OnlyForest : World → World → Type 0
+OnlyForest old new = new.pids ≡ old.pids
+
+-- nothing but the pids may have changed
+abbrev pub OnlyPids : World → World → Type 0
+OnlyPids old new = new.forest ≡ old.forest
+
 -- a forest of nothing but a root without entries
 abbrev pub empty_forest : ℕ → Forest
 empty_forest root = record { nodes = insert empty root (dir empty); root = root }
 
--- a world of nothing but a root without entries
+-- a world of nothing but a root without entries: no pid is live
 abbrev pub empty_world : ℕ → World
-empty_world root = record { forest = empty_forest root }
+empty_world root = record { forest = empty_forest root; pids = set.empty }
 
--- nothing is there but a root without entries
+-- nothing is there but a root without entries, and no pid is live
 abbrev pub IsEmptyStart : World → Type 0
 IsEmptyStart w = w ≡ empty_world w.forest.root

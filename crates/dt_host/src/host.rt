@@ -1,10 +1,11 @@
-// What keeps the nodes of a container, and what each of its calls may answer.
-ghost use Rattle.std.specs.Prelude.{◌≡◌, ◌≢◌, ℕ, ◌+◌, ◌<◌, ◌≤◌, ◌^◌, None, Some, length, map, IfOk, IfSome, IsErrOf, IsSome};
+// What keeps the nodes and the pids of a container, and what each of its calls may answer.
+ghost use Rattle.std.specs.Prelude.{◌≡◌, ◌≢◌, ℕ, ◌+◌, ◌<◌, ◌≤◌, ◌^◌, None, Some, true, length, map, IfOk, IfSome, IsErrOf, IsSome};
 ghost use Rattle.std.specs.List.Sorted.{IsPermutation};
 ghost use Rattle.std.specs.FinMap.{entries};
+ghost use Rattle.std.specs.FinSet.{contains};
 ghost use Rattle.dt_host.specs.Cause.{HasCause};
 ghost use Rattle.dt_host.specs.World.{World, IsLive, IsFile, IsDir, IsLink, IsSized, IsNameless, IsBare, file_at, target_at, names_at, entry, content};
-ghost use Rattle.dt_host.specs.Legal.{Makes, Binds, Unbinds, Forgets, named, Reads, Writes, Cuts};
+ghost use Rattle.dt_host.specs.Legal.{Makes, Binds, Unbinds, Forgets, named, Reads, Writes, Cuts, MakesPid, DropsPid};
 
 use crate::entry::HostEntry;
 use crate::error::HostErr;
@@ -12,7 +13,7 @@ use crate::kind::NodeKind;
 use crate::raw::RawStat;
 use dt_base::{Blob, FILE_LIMIT};
 
-/// The host that keeps the nodes of a container. Its numbers, orders and lengths are its own choice.
+/// The host that keeps the nodes and the pids of a container. Its numbers, orders and lengths are its own choice.
 pub trait Host {
     ghost view: { Self → World };
 
@@ -125,6 +126,19 @@ pub trait Host {
         requires file { IsFile (view self.old).forest ino }
         requires fits { len ≤ FILE_LIMIT }
         ensures legal { Cuts (view self.old) ino len result (view self.new) }
+        ensures cause { HasCause (count self.old) (count self.new)
+            (IsErrOf result HostErr.Failed) };
+
+    /// A pid that was not live, and is live from now on.
+    fn new_pid(&mut self) -> Result<u64, HostErr>
+        ensures legal { MakesPid (view self.old) result (view self.new) }
+        ensures cause { HasCause (count self.old) (count self.new)
+            (IsErrOf result HostErr.Failed) };
+
+    /// Lets a pid go that is live.
+    fn drop_pid(&mut self, p: u64) -> Result<(), HostErr>
+        requires { contains (view self.old).pids p ≡ true }
+        ensures legal { DropsPid (view self.old) p result (view self.new) }
         ensures cause { HasCause (count self.old) (count self.new)
             (IsErrOf result HostErr.Failed) };
 

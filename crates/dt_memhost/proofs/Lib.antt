@@ -3,3 +3,4 @@ pub mod Numbered
 pub mod Forests
 pub mod Arranged
 pub mod Worded
+pub mod Live

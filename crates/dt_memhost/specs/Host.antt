@@ -1,16 +1,18 @@
 -- A host in memory, and how it answers: a call that is listed fails and is counted, and any other chooses by words.
 use Rattle.std.specs.Prelude.{◌≡◌, ℕ, ◌-◌, ◌%◌, min, ◌==◌, List, [], ◌++◌, length, take, drop, map, Option, Some, Vec, Ok, Err, Result, MatchBool, MatchResult, if◌then◌else◌}
 use Rattle.dt_host.specs.declared.kind.NodeKind.{NodeKind}
-use Rattle.std.specs.FinMap.{empty, insert, remove}
+use Rattle.std.specs.FinMap.{empty, insert, remove, contains_key}
+use Rattle.std.specs.FinSet as set
 use Rattle.dt_host.specs.declared.entry.HostEntry.{HostEntry}
 use Rattle.dt_host.specs.declared.raw.RawStat.{RawStat}
 use Rattle.dt_host.specs.declared.error.HostErr.{HostErr}
 use Rattle.dt_host.specs.declared.error.HostErr.TheVariants.{Failed, NoMemory}
-use Rattle.dt_host.specs.World.{World, empty_world, with_forest, with_node, with_entry, without_entry, without_node, entry, content, target_at}
+use Rattle.dt_host.specs.World.{World, empty_world, with_forest, with_pids, with_node, with_entry, without_entry, without_node, entry, content, target_at}
 use Rattle.dt_host.specs.Legal.{new_node, named, with_write, with_size}
 use Rattle.dt_memhost.specs.Picks.{Picks, length_by}
 use Rattle.dt_memhost.specs.Script.{Script, script_of, fails_next, counted, failed, picked, picked_all, restarted, word_of, words_of}
 use Rattle.dt_memhost.specs.Order.{Orders, order_at, with_last, without_name, picked_order}
+use Rattle.dt_memhost.specs.declared.number.TheConstants.{INODE_NUMBERS, PID_NUMBERS}
 use Rattle.dt_memhost.specs.Number.{Numbers}
 
 -- what the host keeps, the order of binding in its nodes, and the script
@@ -19,7 +21,7 @@ pub record HostState : Type 0 where
   pub orders : Orders
   pub script : Script
 
--- a host before any call: a root without entries, whose number is 1, the words and the calls that fail
+-- a host before any call: a root without entries, whose number is 1, no pid, the words and the calls that fail
 abbrev pub empty_host : Picks → List ℕ → HostState
 empty_host picks fails = record { view = empty_world 1; orders = insert empty 1 []; script = script_of picks fails }
 
@@ -58,7 +60,7 @@ FindsBy old d name result new =
 
 -- a word chooses the number of the new node
 pub record MakesNumber (old : HostState) (kind : NodeKind) (new : HostState) (n : ℕ) : Type 0 where
-  pub chosen : Numbers old.view.forest.nodes (word_of old.script) n
+  pub chosen : Numbers (contains_key old.view.forest.nodes) INODE_NUMBERS (word_of old.script) n
   pub view : new.view ≡ with_forest old.view (with_node old.view.forest n (new_node kind))
   pub orders : new.orders ≡ insert old.orders n []
   pub script : new.script ≡ picked (counted old.script)
@@ -102,6 +104,30 @@ pub record ForgetsNode {A : Type 0} (old : HostState) (n : ℕ) (answer : A) (re
 -- how it answers `forget`, which takes no memory
 abbrev pub ForgetsBy : {A : Type 0} → HostState → ℕ → A → Result A HostErr → HostState → Type 0
 ForgetsBy old n answer result new = UnlessListed old result new (ForgetsNode old n answer result new)
+
+-- a word chooses the pid, which is live
+pub record AddsPid (old new : HostState) (p : ℕ) : Type 0 where
+  pub chosen : Numbers (set.contains old.view.pids) PID_NUMBERS (word_of old.script) p
+  pub view : new.view ≡ with_pids old.view (set.insert old.view.pids p)
+  pub orders : new.orders ≡ old.orders
+  pub script : new.script ≡ picked (counted old.script)
+
+-- how it answers `new_pid`
+abbrev pub MakesPidBy : HostState → Result ℕ HostErr → HostState → Type 0
+MakesPidBy old result new =
+    UnlessListed old result new
+    (MatchResult result (AddsPid old new) (Starves old (picked (counted old.script)) new))
+
+-- the pid is no longer live
+pub record RemovesPid {A : Type 0} (old : HostState) (p : ℕ) (answer : A) (result : Result A HostErr) (new : HostState) : Type 0 where
+  pub ok : result ≡ Ok answer
+  pub view : new.view ≡ with_pids old.view (set.remove old.view.pids p)
+  pub orders : new.orders ≡ old.orders
+  pub script : new.script ≡ counted old.script
+
+-- how it answers `drop_pid`, which takes no memory
+abbrev pub DropsPidBy : {A : Type 0} → HostState → ℕ → A → Result A HostErr → HostState → Type 0
+DropsPidBy old p answer result new = UnlessListed old result new (RemovesPid old p answer result new)
 
 -- its choices begin anew
 pub record Restarts {A : Type 0} (old : HostState) (number : ℕ) (answer : A) (result : Result A HostErr) (new : HostState) : Type 0 where

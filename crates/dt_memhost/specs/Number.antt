@@ -1,22 +1,19 @@
--- The number of a new node, by a word.
-use Rattle.std.specs.Prelude.{◌≡◌, ℕ, zero, suc, ◌+◌, ◌%◌, ◌<◌, Option, None, Some, IsSome, MatchOption, if◌then◌else◌}
-use Rattle.std.specs.Ordering.{nat_cmp}
-use Rattle.std.specs.FinMap.{FinMap, get, contains_key}
-use Rattle.dt_host.specs.World.{Node}
-use Rattle.dt_memhost.specs.declared.number.TheConstants.{NUMBERS}
+-- The number that a word chooses out of so many from 1 on: one that isn't live.
+use Rattle.std.specs.Prelude.{◌≡◌, ℕ, zero, suc, ◌+◌, ◌%◌, ◌<◌, Bool, true, false, Option, None, Some, MatchOption, if◌then◌else◌}
 
 -- the first of so many numbers, from this one on, isn't live, going round
-unfoldable pub around : FinMap nat_cmp Node → ℕ → ℕ → Option ℕ
-around nodes from zero = None
-around nodes from (suc left) =
-    if contains_key nodes (1 + from % NUMBERS) then around nodes (from + 1) left else Some (1 + from % NUMBERS)
+unfoldable pub around : (ℕ → Bool) → ℕ → ℕ → ℕ → Option ℕ
+around live limit from zero = None
+around live limit from (suc left) =
+    if live (1 + from % limit) then around live limit (from + 1) left else Some (1 + from % limit)
 
 -- the least number above those that words choose which isn't live
-pub record IsLeastAbove (nodes : FinMap nat_cmp Node) (number : ℕ) : Type 0 where
-  pub above : NUMBERS < number
-  pub free : get nodes number ≡ None
-  pub least : (q : ℕ) → NUMBERS < q → q < number → IsSome (get nodes q)
+pub record IsLeastAbove (live : ℕ → Bool) (limit number : ℕ) : Type 0 where
+  pub above : limit < number
+  pub free : live number ≡ false
+  pub least : (q : ℕ) → limit < q → q < number → live q ≡ true
 
--- the number that a word chooses: that word's, or the next upwards that isn't live; where all are live, the least above them
-abbrev pub Numbers : FinMap nat_cmp Node → ℕ → ℕ → Type 0
-Numbers nodes word number = MatchOption (around nodes word NUMBERS) (IsLeastAbove nodes number) (λ found. number ≡ found)
+-- the number that a word chooses: its own, or the next upwards that isn't live; where all are live, the least above
+abbrev pub Numbers : (ℕ → Bool) → ℕ → ℕ → ℕ → Type 0
+Numbers live limit word number =
+    MatchOption (around live limit word limit) (IsLeastAbove live limit number) (λ found. number ≡ found)

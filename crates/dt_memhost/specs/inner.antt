@@ -4,3 +4,4 @@ pub mod Node
 pub mod Forest
 pub mod Codes
 pub mod EntryTree
+pub mod Live

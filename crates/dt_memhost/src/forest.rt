@@ -1,7 +1,7 @@
 // The nodes of a host in memory, and the order of binding in each directory.
 ghost use Rattle.std.specs.Prelude.{◌≡◌, ◌+◌, ◌<◌, ◌≤◌, ◌^◌, None, length, map, option_map, option_copied, vec_items, IfOk, IfSome, OnOk, OnErr};
 ghost use Rattle.std.specs.List.Sorted.{IsPermutation};
-ghost use Rattle.std.specs.FinMap.{entries, get};
+ghost use Rattle.std.specs.FinMap.{entries, get, contains_key};
 ghost use Rattle.dt_host.specs.World.{IsFile, IsDir, IsSized, file_at, target_at, names_at, content, entry};
 ghost use Rattle.dt_base.specs.Bytes.{overwritten, resized};
 ghost use Rattle.dt_host.specs.Legal.{named};
@@ -11,8 +11,8 @@ ghost use Rattle.dt_memhost.specs.inner.Forest.{empty_ordered, made, bound, unbo
 
 use crate::dir::Entries;
 use crate::node::MemNode;
-use crate::nodes::Nodes;
-use crate::{nodes, number};
+use crate::nodes::{self, Nodes};
+use crate::number::{self, INODE_NUMBERS};
 use dt_base::{Blob, NoMemory};
 use dt_host::{HostEntry, NodeKind};
 use std::alloc::Global;
@@ -116,11 +116,11 @@ impl MemForest {
 
     /// The number of a new node, by a word.
     pub(crate) fn number_by(&self, word: u32) -> u64
-        ensures chosen { Numbers self.now.forest.nodes word result }
+        ensures chosen { Numbers (contains_key self.now.forest.nodes) INODE_NUMBERS word result }
         ensures positive { 1 ≤ result }
         ensures free { get self.now.forest.nodes result ≡ None }
     {
-        number::number_by(&self.nodes, word)
+        number::number_by(&self.nodes, INODE_NUMBERS, word)
     }
 
     /// Puts a new node under a number.

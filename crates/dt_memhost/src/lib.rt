@@ -10,12 +10,14 @@ mod nodes;
 mod number;
 mod order;
 mod picker;
+mod pids;
 mod script;
 mod sink;
 mod store;
 mod transfer;
 
 pub use host::MemHost;
+pub use number::{INODE_NUMBERS, PID_NUMBERS};
 pub use picker::Picker;
 pub use sink::MemSink;
 pub use store::MemStore;

@@ -1,43 +1,49 @@
-// The number of a new node, by a word.
-ghost use Rattle.std.specs.Prelude.{◌≡◌, ◌≤◌};
-ghost use Rattle.std.specs.FinMap.{get};
-ghost use Rattle.dt_memhost.specs.inner.Node.{nodes_of};
+// The numbers that words choose: those of nodes and those of processes.
+ghost use Rattle.std.specs.Prelude.{◌≡◌, ◌<◌};
 ghost use Rattle.dt_memhost.specs.Number.{around, Numbers, IsLeastAbove};
+ghost use Rattle.dt_memhost.specs.inner.Live.{has};
 
-use crate::nodes::Nodes;
+use std::collections::BTreeMap;
 
-/// How many numbers, from 1 on, words choose from.
-pub(crate) const NUMBERS: u64 = 16_384;
+/// How many numbers of nodes, from 1 on, words choose from.
+pub const INODE_NUMBERS: u32 = 16_384;
 
-/// The number that a word chooses.
-pub(crate) fn number_by(nodes: &Nodes, word: u32) -> u64
-    ensures { Numbers (nodes_of nodes.now.entries) word result }
+/// How many pids, from 1 on, words choose from.
+pub const PID_NUMBERS: u32 = 128;
+
+/// The number that a word chooses out of so many, where those of a map are live.
+pub(crate) fn number_by<V>(live: &BTreeMap<u64, V>, limit: u32, word: u32) -> u64
+    requires { 0 < limit }
+    ensures { Numbers (has live.now) limit word result }
 {
-    match number_around(nodes, word) {
+    match number_around(live, limit, word) {
         Some(number) => number,
-        None => number_above(nodes),
+        None => number_above(live, limit),
     }
 }
 
 // The word's number, or the next upwards that isn't live, going round.
-fn number_around(nodes: &Nodes, word: u32) -> Option<u64>
-    ensures { result ≡ around (nodes_of nodes.now.entries) word NUMBERS }
+fn number_around<V>(live: &BTreeMap<u64, V>, limit: u32, word: u32) -> Option<u64>
+    requires { 0 < limit }
+    ensures { result ≡ around (has live.now) limit word limit }
 {
-    for step in 0..NUMBERS {
-        let number = 1 + (u64::from(word) + step) % NUMBERS;
-        if !nodes.contains_key(&number) {
+    let limit = u64::from(limit);
+    for step in 0..limit {
+        let number = 1 + (u64::from(word) + step) % limit;
+        if !live.contains_key(&number) {
             return Some(number);
         }
     }
     None
 }
 
-// The least number above those that words choose which isn't live.
-fn number_above(nodes: &Nodes) -> u64
-    ensures { IsLeastAbove (nodes_of nodes.now.entries) result }
+// The least number above the limit that isn't live.
+fn number_above<V>(live: &BTreeMap<u64, V>, limit: u32) -> u64
+    ensures { IsLeastAbove (has live.now) limit result }
 {
-    for number in NUMBERS + 1..NUMBERS + 2 + nodes.len() as u64 {
-        if !nodes.contains_key(&number) {
+    let limit = u64::from(limit);
+    for number in limit + 1..limit + 2 + live.len() as u64 {
+        if !live.contains_key(&number) {
             return number;
         }
     }

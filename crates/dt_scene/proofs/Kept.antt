@@ -1,5 +1,5 @@
 -- How soundness lasts, and that a call leaves what others hold.
-use Rattle.std.proofs.Common.{◌≡◌, ℕ, ◌<◌, ◌≤◌, List, [], Option, None, Some, refl, sym, ap, ◌∙◌, subst, arith}
+use Rattle.std.proofs.Common.{◌≡◌, ◌≢◌, ℕ, ◌<◌, ◌≤◌, List, [], Option, None, Some, refl, sym, ap, ◌∙◌, subst, arith}
 use Rattle.std.specs.Prelude.{Result, Ok, Err, IfOk, OnOk, IfSome}
 use Rattle.std.specs.FinMap.{get}
 use Rattle.dt_base.specs.declared.answer.Answer.{Answer}
@@ -15,7 +15,7 @@ use Rattle.dt_base.specs.declared.errno.Errno.{Errno}
 use Rattle.dt_fds.proofs.Backing.{named}
 use Rattle.dt_host.specs.Cause.{Rose}
 use Rattle.dt_host.specs.Total.{weight}
-use Rattle.dt_host.specs.World.{World, Forest, IsFile, IsDir}
+use Rattle.dt_host.specs.World.{World, Forest, IsFile, IsDir, OnlyForest}
 use Rattle.dt_host.specs.declared.error.HostErr.{HostErr}
 use Rattle.dt_space.specs.Space.{PageView}
 use Rattle.dt_tree.specs.Calls.{Done, KeepsHeld, done}
@@ -70,6 +70,7 @@ sound_kept old new w v caller space pages sound stands kept same = record {
 pub others_kept : (old new : Scene) → old.caller ≡ new.caller → new.files ≡ old.files → KeepsHeld old.tree new.tree → KeepsOthers old new
 others_kept old new same files kept = record {
   vpid = ap (λ c. c.vpid) (sym same);
+  tables = λ q apart. ap (λ f. get f.tables q) files;
   holds = λ n.
       let count = ap (λ f. descriptions_of f n) files in
       let cwd = ap (λ c. one_for n c.cwd) same in
@@ -79,7 +80,7 @@ others_kept old new same files kept = record {
 }
 
 -- a change of open files that leaves the nodes that they are of
-pub sound_nodes : (old new : Fs) (w : World) (caller : Caller) (space pages : List PageView) → Sound (stage old w caller space) → KeepsNodes old.files new.files → new.tree ≡ old.tree → Sound (stage new w caller pages)
+pub sound_nodes : (old new : Fs) (w : World) (caller : Caller) (space pages : List PageView) → Sound (stage old w caller space) → KeepsNodes caller.vpid old.files new.files → new.tree ≡ old.tree → Sound (stage new w caller pages)
 sound_nodes old new w caller space pages sound nodes same = record {
   stands = subst (λ t. Stands t w.forest) (sym same) sound.stands;
   is_dir = subst (λ t. IsDir (shape_of t w.forest) caller.cwd) (sym same) sound.is_dir;
@@ -87,9 +88,10 @@ sound_nodes old new w caller space pages sound nodes same = record {
   enough = λ n. let tree = ap (λ t. holds_of (tree_of t w.forest) n) same in omega (arith, sound.enough n, nodes.counts n);
 }
 
-pub others_nodes : (old new : Scene) → old.caller ≡ new.caller → old.tree ≡ new.tree → KeepsNodes old.files new.files → KeepsOthers old new
+pub others_nodes : (old new : Scene) → old.caller ≡ new.caller → old.tree ≡ new.tree → KeepsNodes old.caller.vpid old.files new.files → KeepsOthers old new
 others_nodes old new same tree nodes = record {
   vpid = ap (λ c. c.vpid) (sym same);
+  tables = nodes.tables;
   holds = λ n.
       let holds = ap (λ t. holds_of t n) tree in
       let cwd = ap (λ c. one_for n c.cwd) same in
@@ -99,7 +101,7 @@ others_nodes old new same tree nodes = record {
 }
 
 -- a change of open files and of what they hold
-pub sound_held : (old new : Fs) (w v : World) (caller : Caller) (space pages : List PageView) → Sound (stage old w caller space) → IsBacked (at new.files new.tree v) → KeepsHolds (holding (scene (stage old w caller space))) (holding (scene (stage new v caller pages))) → Sound (stage new v caller pages)
+pub sound_held : (old new : Fs) (w v : World) (caller : Caller) (space pages : List PageView) → Sound (stage old w caller space) → IsBacked (at new.files new.tree v) → KeepsHolds caller.vpid (holding (scene (stage old w caller space))) (holding (scene (stage new v caller pages))) → Sound (stage new v caller pages)
 sound_held old new w v caller space pages sound backed kept = record {
   stands = backed.stands;
   is_dir = kept.dirs caller.cwd (cwd_more old w caller space sound) sound.is_dir;
@@ -107,9 +109,10 @@ sound_held old new w v caller space pages sound backed kept = record {
   enough = λ n. omega (arith, sound.enough n, kept.holds n);
 }
 
-pub others_held : (old new : Scene) → old.caller ≡ new.caller → KeepsHolds (holding old) (holding new) → KeepsOthers old new
+pub others_held : (old new : Scene) → old.caller ≡ new.caller → KeepsHolds old.caller.vpid (holding old) (holding new) → KeepsOthers old new
 others_held old new same kept = record {
   vpid = ap (λ c. c.vpid) (sym same);
+  tables = kept.tables;
   holds = λ n. let cwd = ap (λ c. one_for n c.cwd) same in omega (arith, kept.holds n);
   files = λ n held. kept.files n (omega arith);
   dirs = λ n held. kept.dirs n (omega arith);
@@ -121,6 +124,7 @@ reaches_after defined fs w v caller space new result before mid now stays later 
   served = s.served;
   sound = s.sound;
   others = subst (λ x. OnOk result (KeepsOthers (scene (stage fs x caller space)) (scene new))) stays s.others;
+  rest = s.rest ∙ ap (λ (x : World). x.pids) stays;
   cause = record { later = omega arith; rose = λ failed. rose_from (s.cause.rose failed) };
 }
   where
@@ -129,45 +133,47 @@ reaches_after defined fs w v caller space new result before mid now stays later 
 
 -- a call changed tree and time, and left what is held
 pub reaches_kept : (defined : Row) (old : Fs) (tree : Table) (clock : ℕ) (w v : World) (caller : Caller) (space : List PageView) (answer : Answer) (before now : ℕ)
-    → Sound (stage old w caller space) → Stands tree v.forest → KeepsHeld (tree_of old.tree w.forest) (tree_of tree v.forest) → before ≤ now
+    → Sound (stage old w caller space) → Stands tree v.forest → KeepsHeld (tree_of old.tree w.forest) (tree_of tree v.forest) → OnlyForest w v → before ≤ now
     → defined ≡ record { next = record (scene (stage old w caller space)) { tree = tree_of tree v.forest; clock = clock }; answer = answer }
     → Reaches defined (stage old w caller space) (stage (record { tree = tree; files = old.files; clock = clock; rand = old.rand }) v caller space) (Ok answer) before now
-reaches_kept defined old tree clock w v caller space answer before now sound stands kept later is =
+reaches_kept defined old tree clock w v caller space answer before now sound stands kept rest later is =
     let new : Fs = record { tree = tree; files = old.files; clock = clock; rand = old.rand } in
     record {
       served = is;
       sound = sound_kept old new w v caller space space sound stands kept refl;
       others = others_kept (scene (stage old w caller space)) (scene (stage new v caller space)) refl refl kept;
+      rest = rest;
       cause = record { later = later; rose = λ failed. cc };
     }
 
 -- a call of the tree was done
 pub reaches_done : {A : Type 0} (d : Done A) (old : Fs) (tree : Table) (clock : ℕ) (w v : World) (caller : Caller) (space : List PageView) (value : A) (before now : ℕ)
-    → Sound (stage old w caller space) → Stands tree v.forest → KeepsHeld (tree_of old.tree w.forest) (tree_of tree v.forest) → before ≤ now
+    → Sound (stage old w caller space) → Stands tree v.forest → KeepsHeld (tree_of old.tree w.forest) (tree_of tree v.forest) → OnlyForest w v → before ≤ now
     → clock ≡ stamp (scene (stage old w caller space)) → d ≡ done (tree_of tree v.forest) value
     → Reaches (by_done (scene (stage old w caller space)) d) (stage old w caller space) (stage (record { tree = tree; files = old.files; clock = clock; rand = old.rand }) v caller space) (Ok (Value 0)) before now
-reaches_done d old tree clock w v caller space value before now sound stands kept later at is =
+reaches_done d old tree clock w v caller space value before now sound stands kept rest later at is =
     let s = scene (stage old w caller space) in
-    reaches_kept (by_done s d) old tree clock w v caller space (Value 0) before now sound stands kept later
+    reaches_kept (by_done s d) old tree clock w v caller space (Value 0) before now sound stands kept rest later
     (ap (by_done s) is ∙ ap (λ ticks. answers (record s { tree = tree_of tree v.forest; clock = ticks }) 0) (sym at))
 
 -- a call on open files came to this
 pub reaches_held : {A : Type 0} (number : A → ℕ) (o : Outcome A) (old : Fs) (tree : Table) (files : Descriptions) (w v : World) (caller : Caller) (space : List PageView) (found : Result A Errno) (before now : ℕ)
-    → Sound (stage old w caller space) → IsBacked (at files tree v) → KeepsHolds (over (tree_of old.tree w.forest) old.files) (over (tree_of tree v.forest) files) → before ≤ now
+    → Sound (stage old w caller space) → IsBacked (at files tree v) → KeepsHolds caller.vpid (over (tree_of old.tree w.forest) old.files) (over (tree_of tree v.forest) files) → OnlyForest w v → before ≤ now
     → o ≡ record { answer = found; next = over (tree_of tree v.forest) files }
     → Reaches (by_outcome number (scene (stage old w caller space)) o) (stage old w caller space) (stage (record { tree = tree; files = files; clock = old.clock; rand = old.rand }) v caller space) (Ok (answer_of number found)) before now
-reaches_held number o old tree files w v caller space found before now sound backed kept later is =
+reaches_held number o old tree files w v caller space found before now sound backed kept rest later is =
     let new : Fs = record { tree = tree; files = files; clock = old.clock; rand = old.rand } in
     record {
       served = ap (by_outcome number (scene (stage old w caller space))) is;
       sound = sound_held old new w v caller space space sound backed kept;
       others = others_held (scene (stage old w caller space)) (scene (stage new v caller space)) refl kept;
+      rest = rest;
       cause = record { later = later; rose = λ failed. cc };
     }
 
 -- a call changed open files alone, and left the nodes that they are of
 pub reaches_nodes : (defined : Row) (old : Fs) (files : Descriptions) (w : World) (caller : Caller) (space pages : List PageView) (answer : Answer) (before now : ℕ)
-    → Sound (stage old w caller space) → KeepsNodes old.files files → before ≤ now
+    → Sound (stage old w caller space) → KeepsNodes caller.vpid old.files files → before ≤ now
     → defined ≡ record { next = record (scene (stage old w caller space)) { files = files; space = pages }; answer = answer }
     → Reaches defined (stage old w caller space) (stage (record { tree = old.tree; files = files; clock = old.clock; rand = old.rand }) w caller pages) (Ok answer) before now
 reaches_nodes defined old files w caller space pages answer before now sound nodes later is =
@@ -176,6 +182,7 @@ reaches_nodes defined old files w caller space pages answer before now sound nod
       served = is;
       sound = sound_nodes old new w caller space pages sound nodes refl;
       others = others_nodes (scene (stage old w caller space)) (scene (stage new w caller pages)) refl refl nodes;
+      rest = refl;
       cause = record { later = later; rose = λ failed. cc };
     }
 
@@ -183,17 +190,19 @@ reaches_nodes defined old files w caller space pages answer before now sound nod
 pub others_both : (old mid new : Scene) → KeepsOthers old mid → KeepsOthers mid new → KeepsOthers old new
 others_both old mid new first second = record {
   vpid = second.vpid ∙ first.vpid;
+  tables = λ q apart. second.tables q (subst (λ p. q ≢ p) (sym first.vpid) apart) ∙ first.tables q apart;
   holds = λ n. omega (arith, first.holds n, second.holds n);
   files = λ n held is. second.files n (omega (arith, first.holds n)) (first.files n held is);
   dirs = λ n held is. second.dirs n (omega (arith, first.holds n)) (first.dirs n held is);
 }
 
 -- what is reached after a first step
-pub reaches_next : (defined rest : Row) (old mid new : Stage) (result : Result Answer HostErr) (before between now : ℕ) → KeepsOthers (scene old) (scene mid) → before ≤ between → defined ≡ rest → Reaches rest mid new result between now → Reaches defined old new result before now
-reaches_next defined rest old mid new result before between now first later same s = record {
+pub reaches_next : (defined rest : Row) (old mid new : Stage) (result : Result Answer HostErr) (before between now : ℕ) → KeepsOthers (scene old) (scene mid) → OnlyForest old.world mid.world → before ≤ between → defined ≡ rest → Reaches rest mid new result between now → Reaches defined old new result before now
+reaches_next defined rest old mid new result before between now first only later same s = record {
   served = by_result result s.served;
   sound = s.sound;
   others = both_of result s.others;
+  rest = s.rest ∙ only;
   cause = record { later = omega (arith, s.cause.later); rose = λ failed. rose_from (s.cause.rose failed) };
 }
   where
@@ -238,10 +247,12 @@ reaches_caller defined fs w old new space answer count sound same vpid is = reco
   };
   others = record {
     vpid = vpid;
+    tables = λ q apart. refl;
     holds = λ n. let cwd = ap (one_for n) same in omega arith;
     files = λ n held is. is;
     dirs = λ n held is. is;
   };
+  rest = refl;
   cause = record { later = omega arith; rose = λ failed. cc };
 }
 

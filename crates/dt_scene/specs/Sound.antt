@@ -2,11 +2,11 @@
 use Rattle.std.specs.Prelude.{◌≡◌, ℕ, ◌+◌, ◌<◌, ◌≤◌, List, Result, IfOk, OnOk, IsErrOf}
 use Rattle.dt_base.specs.declared.answer.Answer.{Answer}
 use Rattle.dt_base.specs.declared.caller.Caller.{Caller}
-use Rattle.dt_fds.specs.Backs.{AllIn, descriptions_of}
+use Rattle.dt_fds.specs.Backs.{AllIn, KeepsTables, descriptions_of}
 use Rattle.dt_host.specs.Cause.{HasCause}
 use Rattle.dt_host.specs.declared.error.HostErr.{HostErr}
 use Rattle.dt_host.specs.declared.error.HostErr.TheVariants.{Failed}
-use Rattle.dt_host.specs.World.{World, IsFile, IsDir}
+use Rattle.dt_host.specs.World.{World, IsFile, IsDir, OnlyForest}
 use Rattle.dt_space.specs.Space.{PageView}
 use Rattle.dt_tree.specs.Table.{Stands, shape_of, tree_of}
 use Rattle.dt_tree.specs.FileTree.{holds_of}
@@ -49,9 +49,11 @@ pub record Sound (g : Stage) : Type 0 where
   pub enough : (n : ℕ) → named_in (scene g) n ≤ holds_of (tree_of g.fs.tree g.world.forest) n
 
 -- a call leaves what others hold: the process is the same; the holds of a node that are neither of an open file nor of the
--- process's working directory are as many as before; and where there are such, a file stays a file and a directory one
+-- process's working directory are as many as before; where there are such, a file stays a file and a directory one; and the
+-- descriptors of other processes stay
 pub record KeepsOthers (old new : Scene) : Type 0 where
   pub vpid : new.caller.vpid ≡ old.caller.vpid
+  pub tables : KeepsTables old.caller.vpid old.files new.files
   pub holds : (n : ℕ) → holds_of new.tree n + named_in old n ≡ holds_of old.tree n + named_in new n
   pub files : (n : ℕ) → named_in old n < holds_of old.tree n → IsFile old.tree.shape n → IsFile new.tree.shape n
   pub dirs : (n : ℕ) → named_in old n < holds_of old.tree n → IsDir old.tree.shape n → IsDir new.tree.shape n
@@ -61,6 +63,7 @@ pub record Reaches (defined : Row) (old new : Stage) (result : Result Answer Hos
   pub served : IfOk result (λ answer. defined ≡ record { next = scene new; answer = answer })
   pub sound : OnOk result (Sound new)
   pub others : OnOk result (KeepsOthers (scene old) (scene new))
+  pub rest : OnlyForest old.world new.world
   pub cause : HasCause before now (IsErrOf result Failed)
 
 -- the code serves a row of these arguments

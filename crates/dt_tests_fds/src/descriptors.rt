@@ -2,7 +2,7 @@
 ghost use Rattle.std.specs.Prelude.{◌≢◌, OnOk};
 ghost use Rattle.dt_fds.specs.Backs.{IsBacked, at};
 
-use crate::scene::{PID, Scene};
+use crate::scene::{CHILD, PID, Scene};
 use dt_base::Errno;
 use dt_fds::DescKind;
 use dt_host::HostErr;
@@ -78,5 +78,21 @@ fn a_duplicate_is_refused_past_the_limit(rt: HostRuntime) -> Result<(), Fail> {
     assert_eq!(rt; scene.dup_at(0, u32::MAX)?, Err(Errno::BadF));
     assert_eq!(rt; scene.dup_at(0, 63)?, Ok(()));
     assert!(rt; scene.files.look(PID, 63).is_some());
+    Ok(())
+}
+
+#[test]
+fn a_full_table_is_shared(rt: HostRuntime) -> Result<(), Fail> {
+    let mut scene = Scene::new(rt.alloc())?;
+    assert_eq!(rt; fill(&mut scene)?, 61);
+    assert!(rt; scene.share_all()?);
+    assert!(rt; scene.files.is_full(CHILD));
+    assert!(rt; scene.files.look(CHILD, 63).is_some());
+    assert_eq!(rt; scene.close(63)?, Ok(()));
+    assert!(rt; !scene.files.is_full(PID));
+    assert!(rt; scene.files.is_full(CHILD));
+    scene.drop_all(CHILD)?;
+    assert!(rt; scene.files.look(CHILD, 63).is_none());
+    assert!(rt; scene.files.look(PID, 62).is_some());
     Ok(())
 }

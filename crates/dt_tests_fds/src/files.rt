@@ -29,6 +29,8 @@ fn another_process_has_nothing_open(rt: HostRuntime) -> Result<(), Fail> {
     let files = Files::first(rt.alloc(), PID)?;
     assert!(rt; files.look(2, 0).is_none());
     assert_eq!(rt; files.is_cloexec(2, 0), None);
+    assert!(rt; files.has_table(PID));
+    assert!(rt; !files.has_table(2));
     Ok(())
 }
 

@@ -1,6 +1,6 @@
 // What open descriptions keep in the tree.
 use crate::image::{DIR, FILE};
-use crate::scene::{PID, Scene};
+use crate::scene::{CHILD, PID, Scene};
 use dt_base::Errno;
 use dt_fds::DescKind;
 use std::test::Fail;
@@ -65,10 +65,57 @@ fn all_nodes_go_with_their_process(rt: HostRuntime) -> Result<(), Fail> {
     assert_eq!(rt; scene.dup(3, 63, false)?, Ok(63));
     assert_eq!(rt; scene.unlink(b"d")?, Ok(()));
     assert_eq!(rt; scene.unlink(b"f")?, Ok(()));
-    scene.drop_all()?;
+    scene.drop_all(PID)?;
     assert!(rt; scene.files.look(PID, 63).is_none());
     assert!(rt; !scene.tree.is_dir(DIR));
     assert_eq!(rt; scene.add(DescKind::Input)?, Err(Errno::MFile));
+    assert_eq!(rt; scene.free_number()?, DIR);
+    Ok(())
+}
+
+#[test]
+fn a_node_goes_with_the_last_of_the_processes_that_share_it(rt: HostRuntime) -> Result<(), Fail> {
+    let mut scene = Scene::new(rt.alloc())?;
+    assert_eq!(rt; scene.open(b"d")?, Ok(3));
+    assert!(rt; scene.share_all()?);
+    assert_eq!(rt; scene.unlink(b"d")?, Ok(()));
+    scene.drop_all(PID)?;
+    assert!(rt; scene.files.look(PID, 3).is_none());
+    assert!(rt; scene.files.look(CHILD, 3).is_some());
+    assert!(rt; scene.tree.is_dir(DIR));
+    scene.drop_all(CHILD)?;
+    assert!(rt; !scene.tree.is_dir(DIR));
+    assert_eq!(rt; scene.free_number()?, DIR);
+    Ok(())
+}
+
+#[test]
+fn a_node_stays_while_the_parent_has_it_open(rt: HostRuntime) -> Result<(), Fail> {
+    let mut scene = Scene::new(rt.alloc())?;
+    assert_eq!(rt; scene.open(b"d")?, Ok(3));
+    assert_eq!(rt; scene.unlink(b"d")?, Ok(()));
+    assert!(rt; scene.share_all()?);
+    scene.drop_all(CHILD)?;
+    assert!(rt; scene.tree.is_dir(DIR));
+    assert_eq!(rt; scene.close(3)?, Ok(()));
+    assert!(rt; !scene.tree.is_dir(DIR));
+    Ok(())
+}
+
+#[test]
+fn execve_closes_what_is_marked(rt: HostRuntime) -> Result<(), Fail> {
+    let mut scene = Scene::new(rt.alloc())?;
+    assert_eq!(rt; scene.open(b"d")?, Ok(3));
+    assert_eq!(rt; scene.open(b"f")?, Ok(4));
+    assert_eq!(rt; scene.dup(4, 63, true)?, Ok(63));
+    assert_eq!(rt; scene.unlink(b"d")?, Ok(()));
+    scene.files.set_cloexec(PID, 3, true);
+    scene.close_exec()?;
+    assert!(rt; scene.files.look(PID, 3).is_none());
+    assert!(rt; scene.files.look(PID, 63).is_none());
+    assert_eq!(rt; scene.size(4)?, Some((FILE, 5)));
+    assert!(rt; scene.files.look(PID, 2).is_some());
+    assert!(rt; !scene.tree.is_dir(DIR));
     assert_eq!(rt; scene.free_number()?, DIR);
     Ok(())
 }

@@ -18,6 +18,9 @@ use std::alloc::Global;
 /// The process.
 pub const PID: u32 = 1;
 
+/// A child of it, once there is one.
+pub const CHILD: u32 = 2;
+
 // The words of the host, each of which chooses the least that it may.
 const ZEROS: usize = 1_000;
 
@@ -98,12 +101,32 @@ impl Scene {
         }
     }
 
-    /// Closes all descriptors.
-    pub fn drop_all(&mut self) -> Result<(), HostErr>
+    /// Gives a child a table like that of the process; whether that was done.
+    pub fn share_all(&mut self) -> Result<bool, HostErr>
         requires { IsBacked (at self.old.files self.old.tree self.old.host.view) }
         ensures { OnOk result (IsBacked (at self.new.files self.new.tree self.new.host.view)) }
     {
-        self.files.drop_all(&mut self.host, &mut self.tree, PID)
+        if !self.files.has_table(PID) || self.files.has_table(CHILD) {
+            return Ok(false);
+        }
+        self.files.share_all(PID, CHILD)?;
+        Ok(true)
+    }
+
+    /// Closes the descriptors whose close-on-exec bit is set.
+    pub fn close_exec(&mut self) -> Result<(), HostErr>
+        requires { IsBacked (at self.old.files self.old.tree self.old.host.view) }
+        ensures { OnOk result (IsBacked (at self.new.files self.new.tree self.new.host.view)) }
+    {
+        self.files.close_exec(&mut self.host, &mut self.tree, PID)
+    }
+
+    /// Closes all descriptors of a process.
+    pub fn drop_all(&mut self, pid: u32) -> Result<(), HostErr>
+        requires { IsBacked (at self.old.files self.old.tree self.old.host.view) }
+        ensures { OnOk result (IsBacked (at self.new.files self.new.tree self.new.host.view)) }
+    {
+        self.files.drop_all(&mut self.host, &mut self.tree, pid)
     }
 
     /// Opens what has a name in the root.

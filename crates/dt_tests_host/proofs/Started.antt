@@ -1,13 +1,15 @@
 -- What is live at the start of a host, and after its first calls.
-use Rattle.std.proofs.Common.{◌≡◌, ◌≢◌, ℕ, List, [], Option, Some, None, refl, sym, ap, subst, ◌∙◌}
+use Rattle.std.proofs.Common.{◌≡◌, ◌≢◌, ℕ, ◌||◌, true, List, [], Option, Some, None, refl, sym, ap, subst, ◌∙◌}
 use Rattle.std.specs.Prelude.{IsSome, OnOk, Result, Ok, Err, option_and_then, unwrap_or}
-use Rattle.std.specs.Ordering.{nat_cmp}
+use Rattle.std.proofs.lemmas.Cmp.{tied_itself}
+use Rattle.std.specs.Ordering.{nat_cmp, is_eq}
 use Rattle.std.specs.Cmp.{nat_cmp_total}
 use Rattle.std.specs.Cmp.Lexicographic.{slice_cmp}
 use Rattle.std.specs.FinMap.{get, empty, get-empty, nat_cmp-IsAntisymmetric}
+use Rattle.std.specs.FinSet.{contains, contains-insert}
 use Rattle.dt_host.specs.declared.kind.NodeKind.TheVariants.{File}
 use Rattle.dt_host.specs.World.{World, Forest, Node, file, dir, IsLive, IsFile, IsDir, IsNameless, IsBare, IsEmptyStart, node_at, entry, names_at, file_bytes, dir_names}
-use Rattle.dt_host.specs.Legal.{Binds, Unbinds, Cuts, MadeAt}
+use Rattle.dt_host.specs.Legal.{Binds, Unbinds, Cuts, MadeAt, MadePid}
 use Rattle.dt_host.proofs.Changes.{IsDir-start, IsDir-bound, node_at-start, root-made}
 use Rattle.dt_host.proofs.Maps.{at_insert}
 use Rattle.dt_host.proofs.Worlds.{IsFile-with_bytes}
@@ -74,3 +76,10 @@ module _ (old new : World) (n : ℕ) (start : IsEmptyStart old) (made : MadeAt o
   not_root-made is =
       let there = ap (node_at old.forest) (is ∙ root-made old new n made) ∙ node_at-start old start in
       let free = made.free in cc
+
+-- a pid that was made is live
+pub live-pid : (old new : World) (p : ℕ) → MadePid old new p → contains new.pids p ≡ true
+live-pid old new p made =
+    ap (λ (w : World). contains w.pids p) made.made
+    ∙ contains-insert nat_cmp_total old.pids p p
+    ∙ ap (λ same. is_eq same || contains old.pids p) (tied_itself nat_cmp_total p)

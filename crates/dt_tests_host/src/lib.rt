@@ -5,3 +5,5 @@
 mod hosts;
 #[cfg(test)]
 mod outputs;
+#[cfg(test)]
+mod pids;

@@ -2,7 +2,7 @@
 ghost use Rattle.std.specs.Prelude.{◌≡◌, ◌<◌, ◌≤◌, false, OnOk, IsErrOf};
 ghost use Rattle.dt_base.specs.declared.limits.TheConstants.{MODE_LIMIT};
 ghost use Rattle.dt_host.specs.Cause.{HasCause};
-ghost use Rattle.dt_host.specs.World.{Forest, IsLive};
+ghost use Rattle.dt_host.specs.World.{Forest, IsLive, OnlyForest};
 ghost use Rattle.dt_tree.specs.Changes.{chmodded, held, released};
 ghost use Rattle.dt_tree.specs.Shape.{is_link};
 ghost use Rattle.dt_tree.specs.FileTree.{holds_of};
@@ -61,6 +61,7 @@ impl Tree {
         ensures tree { OnOk result (tree_of self.new (H.view host.new).forest
             ≡ released (tree_of self.old (H.view host.old).forest) vino) }
         ensures stands { OnOk result (Stands self.new (H.view host.new).forest) }
+        ensures rest { OnlyForest (H.view host.old) (H.view host.new) }
         ensures cause { HasCause (H.count host.old) (H.count host.new)
             (IsErrOf result HostErr.Failed) }
     {

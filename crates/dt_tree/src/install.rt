@@ -4,6 +4,7 @@ ghost use Rattle.std.specs.List.{suffix_len};
 ghost use Rattle.dt_base.specs.Image.{IsImage};
 ghost use Rattle.dt_base.specs.Path.{is_slash, parent_of};
 ghost use Rattle.dt_host.specs.Cause.{HasCause};
+ghost use Rattle.dt_host.specs.World.{OnlyForest};
 ghost use Rattle.dt_tree.specs.ImageTree.{last_name, image_tree};
 ghost use Rattle.dt_tree.specs.Table.{Stands, tree_of};
 ghost use Rattle.dt_tree.specs.inner.Places.{LeadsTo};
@@ -22,6 +23,7 @@ impl Tree {
         ensures stands { OnOk result (Stands self.new (H.view host.new).forest) }
         ensures tree { OnOk result
             (tree_of self.new (H.view host.new).forest ≡ image_tree image.now) }
+        ensures rest { OnlyForest (H.view host.old) (H.view host.new) }
         ensures cause { HasCause (H.count host.old) (H.count host.new)
             (IsErrOf result HostErr.Failed) }
     {

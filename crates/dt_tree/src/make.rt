@@ -2,6 +2,7 @@
 ghost use Rattle.std.specs.Prelude.{◌≡◌, false, IfOk, OnOk, IsErrOf, IsTrue};
 ghost use Rattle.dt_base.specs.Image.{is_good_what};
 ghost use Rattle.dt_host.specs.declared.error.CallErr.TheVariants.{Host as host_failed};
+ghost use Rattle.dt_host.specs.World.{OnlyForest};
 ghost use Rattle.dt_host.specs.Cause.{HasCause};
 ghost use Rattle.dt_tree.specs.Calls.{Does, UnlessFailed, KeepsHeld, IsNewName, MayAdd, make_node_of, add_name_of};
 ghost use Rattle.dt_tree.specs.Changes.{made, linked};
@@ -34,6 +35,7 @@ impl Tree {
         ensures stands { UnlessFailed result (Stands self.new (H.view host.new).forest) }
         ensures held { UnlessFailed result (KeepsHeld (tree_of self.old (H.view host.old).forest)
             (tree_of self.new (H.view host.new).forest)) }
+        ensures rest { OnlyForest (H.view host.old) (H.view host.new) }
         ensures cause { HasCause (H.count host.old) (H.count host.new)
             (IsErrOf result (host_failed HostErr.Failed)) }
     {
@@ -63,6 +65,7 @@ impl Tree {
         ensures stands { UnlessFailed result (Stands self.new (H.view host.new).forest) }
         ensures held { UnlessFailed result (KeepsHeld (tree_of self.old (H.view host.old).forest)
             (tree_of self.new (H.view host.new).forest)) }
+        ensures rest { OnlyForest (H.view host.old) (H.view host.new) }
         ensures cause { HasCause (H.count host.old) (H.count host.new)
             (IsErrOf result (host_failed HostErr.Failed)) }
     {
@@ -91,6 +94,7 @@ impl Tree {
             ≡ made (tree_of self.old (H.view host.old).forest) dir name.now what.now mode stamp) }
         ensures held { OnOk result (KeepsHeld (tree_of self.old (H.view host.old).forest)
             (tree_of self.new (H.view host.new).forest)) }
+        ensures rest { OnlyForest (H.view host.old) (H.view host.new) }
         ensures cause { HasCause (H.count host.old) (H.count host.new)
             (IsErrOf result HostErr.Failed) }
     {
@@ -116,6 +120,7 @@ impl Tree {
             ≡ linked (tree_of self.old (H.view host.old).forest) dir name.now n stamp) }
         ensures held { OnOk result (KeepsHeld (tree_of self.old (H.view host.old).forest)
             (tree_of self.new (H.view host.new).forest)) }
+        ensures rest { OnlyForest (H.view host.old) (H.view host.new) }
         ensures cause { HasCause (H.count host.old) (H.count host.new)
             (IsErrOf result HostErr.Failed) }
     {

@@ -1,6 +1,7 @@
 // Names that move.
 ghost use Rattle.std.specs.Prelude.{◌≡◌, OnOk, IsErrOf};
 ghost use Rattle.dt_host.specs.declared.error.CallErr.TheVariants.{Host as host_failed};
+ghost use Rattle.dt_host.specs.World.{OnlyForest};
 ghost use Rattle.dt_host.specs.Cause.{HasCause};
 ghost use Rattle.dt_tree.specs.Calls.{Does, UnlessFailed, KeepsHeld, MayMove, move_name_of};
 ghost use Rattle.dt_tree.specs.Changes.{renamed};
@@ -30,6 +31,7 @@ impl Tree {
             ≡ renamed (tree_of self.old (H.view host.old).forest) from old.now to new.now stamp) }
         ensures held { OnOk result (KeepsHeld (tree_of self.old (H.view host.old).forest)
             (tree_of self.new (H.view host.new).forest)) }
+        ensures rest { OnlyForest (H.view host.old) (H.view host.new) }
         ensures cause { HasCause (H.count host.old) (H.count host.new)
             (IsErrOf result HostErr.Failed) }
     {
@@ -60,6 +62,7 @@ impl Tree {
         ensures stands { UnlessFailed result (Stands self.new (H.view host.new).forest) }
         ensures held { UnlessFailed result (KeepsHeld (tree_of self.old (H.view host.old).forest)
             (tree_of self.new (H.view host.new).forest)) }
+        ensures rest { OnlyForest (H.view host.old) (H.view host.new) }
         ensures cause { HasCause (H.count host.old) (H.count host.new)
             (IsErrOf result (host_failed HostErr.Failed)) }
     {

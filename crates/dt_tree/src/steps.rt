@@ -3,7 +3,7 @@ ghost use Rattle.std.specs.Prelude.{◌≡◌, ◌<◌, ◌≤◌, ◌==◌, ◌
 ghost use Rattle.std.specs.FinMap.{get};
 ghost use Rattle.dt_base.specs.Image.{is_good_what};
 ghost use Rattle.dt_host.specs.Cause.{HasCause};
-ghost use Rattle.dt_host.specs.World.{Forest, IsDir, IsLive, entry, with_entry, without_entry};
+ghost use Rattle.dt_host.specs.World.{Forest, IsDir, IsLive, entry, with_entry, without_entry, OnlyForest};
 ghost use Rattle.dt_tree.specs.declared.limits.TheConstants.{ROOT, NAMES_LIMIT};
 ghost use Rattle.dt_tree.specs.Shape.{names_of, name_count};
 ghost use Rattle.dt_tree.specs.Table.{Mirrors, Stands, kind_of, shape_of, tree_of};
@@ -32,6 +32,7 @@ fn kind_of_new(what: &What) -> Kind
 fn make_real<H: Host>(host: &mut H, what: &What, mode: u32) -> Result<u64, HostErr>
     requires { IsTrue (is_good_what what.now mode) }
     ensures made { IfOk result (IsMadeAt (H.view host.old) (new_node what.now) (H.view host.new)) }
+    ensures rest { OnlyForest (H.view host.old) (H.view host.new) }
     ensures cause { HasCause (H.count host.old) (H.count host.new)
         (IsErrOf result HostErr.Failed) }
 {
@@ -68,6 +69,7 @@ impl Tree {
         ensures mirrors { OnOk result (Mirrors self.new (H.view host.new).forest) }
         ensures tree { OnOk result (tree_of self.new (H.view host.new).forest
             ≡ with_made (tree_of self.old (H.view host.old).forest) (new_node what.now) mode stamp) }
+        ensures rest { OnlyForest (H.view host.old) (H.view host.new) }
         ensures cause { HasCause (H.count host.old) (H.count host.new)
             (IsErrOf result HostErr.Failed) }
     {
@@ -94,6 +96,7 @@ impl Tree {
         ensures tree { OnOk result (tree_of self.new (H.view host.new).forest
             ≡ with_shape (tree_of self.old (H.view host.old).forest)
             (with_entry (shape_of self.old (H.view host.old).forest) dir name.now n)) }
+        ensures rest { OnlyForest (H.view host.old) (H.view host.new) }
         ensures cause { HasCause (H.count host.old) (H.count host.new)
             (IsErrOf result HostErr.Failed) }
     {
@@ -132,6 +135,7 @@ impl Tree {
         ensures tree { OnOk result (tree_of self.new (H.view host.new).forest
             ≡ with_shape (tree_of self.old (H.view host.old).forest)
             (without_entry (shape_of self.old (H.view host.old).forest) dir name.now)) }
+        ensures rest { OnlyForest (H.view host.old) (H.view host.new) }
         ensures cause { HasCause (H.count host.old) (H.count host.new)
             (IsErrOf result HostErr.Failed) }
     {
@@ -167,6 +171,7 @@ impl Tree {
         ensures tree { OnOk result (tree_of self.new (H.view host.new).forest
             ≡ with_shape (tree_of self.old (H.view host.old).forest)
             (without_entry (shape_of self.old (H.view host.old).forest) dir name.now)) }
+        ensures rest { OnlyForest (H.view host.old) (H.view host.new) }
         ensures cause { HasCause (H.count host.old) (H.count host.new)
             (IsErrOf result HostErr.Failed) }
     {
@@ -196,6 +201,7 @@ impl Tree {
         ensures mirrors { OnOk result (Mirrors self.new (H.view host.new).forest) }
         ensures tree { OnOk result (tree_of self.new (H.view host.new).forest
             ≡ swept (tree_of self.old (H.view host.old).forest) n) }
+        ensures rest { OnlyForest (H.view host.old) (H.view host.new) }
         ensures cause { HasCause (H.count host.old) (H.count host.new)
             (IsErrOf result HostErr.Failed) }
     {
@@ -221,6 +227,7 @@ impl Tree {
         ensures mirrors { OnOk result (Mirrors self.new (H.view host.new).forest) }
         ensures tree { OnOk result (tree_of self.new (H.view host.new).forest
             ≡ swept_found found (tree_of self.old (H.view host.old).forest)) }
+        ensures rest { OnlyForest (H.view host.old) (H.view host.new) }
         ensures cause { HasCause (H.count host.old) (H.count host.new)
             (IsErrOf result HostErr.Failed) }
     {
@@ -248,6 +255,7 @@ impl Tree {
         ensures tree { OnOk result (tree_of self.new (H.view host.new).forest
             ≡ created (tree_of self.old (H.view host.old).forest) dir name.now
             (new_node what.now) mode stamp) }
+        ensures rest { OnlyForest (H.view host.old) (H.view host.new) }
         ensures cause { HasCause (H.count host.old) (H.count host.new)
             (IsErrOf result HostErr.Failed) }
     {

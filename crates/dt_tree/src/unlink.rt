@@ -3,7 +3,7 @@ ghost use Rattle.std.specs.Prelude.{◌≡◌, true, IfSome, OnOk, IsErrOf};
 ghost use Rattle.dt_host.specs.declared.error.CallErr.TheVariants.{Host as host_failed};
 ghost use Rattle.dt_host.specs.Cause.{HasCause};
 ghost use Rattle.dt_tree.specs.Calls.{Does, UnlessFailed, KeepsHeld, MayDrop, drop_name_of};
-ghost use Rattle.dt_host.specs.World.{IsDir, entry};
+ghost use Rattle.dt_host.specs.World.{IsDir, entry, OnlyForest};
 ghost use Rattle.dt_tree.specs.Changes.{unlinked};
 ghost use Rattle.dt_tree.specs.Shape.{is_bare};
 ghost use Rattle.dt_tree.specs.Table.{Stands, shape_of, tree_of};
@@ -29,6 +29,7 @@ impl Tree {
         ensures stands { UnlessFailed result (Stands self.new (H.view host.new).forest) }
         ensures held { UnlessFailed result (KeepsHeld (tree_of self.old (H.view host.old).forest)
             (tree_of self.new (H.view host.new).forest)) }
+        ensures rest { OnlyForest (H.view host.old) (H.view host.new) }
         ensures cause { HasCause (H.count host.old) (H.count host.new)
             (IsErrOf result (host_failed HostErr.Failed)) }
     {
@@ -59,6 +60,7 @@ impl Tree {
             ≡ unlinked (tree_of self.old (H.view host.old).forest) dir name.now stamp) }
         ensures held { OnOk result (KeepsHeld (tree_of self.old (H.view host.old).forest)
             (tree_of self.new (H.view host.new).forest)) }
+        ensures rest { OnlyForest (H.view host.old) (H.view host.new) }
         ensures cause { HasCause (H.count host.old) (H.count host.new)
             (IsErrOf result HostErr.Failed) }
     {

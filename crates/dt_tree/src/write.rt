@@ -3,7 +3,7 @@ ghost use Rattle.std.specs.Prelude.{◌≡◌, ◌+◌, ◌≤◌, length, OnOk,
 ghost use Rattle.dt_base.specs.declared.limits.TheConstants.{FILE_LIMIT};
 ghost use Rattle.dt_host.specs.declared.error.CallErr.TheVariants.{Host as host_failed};
 ghost use Rattle.dt_host.specs.Cause.{HasCause};
-ghost use Rattle.dt_host.specs.World.{IsFile};
+ghost use Rattle.dt_host.specs.World.{IsFile, OnlyForest};
 ghost use Rattle.dt_tree.specs.Calls.{Does, UnlessFailed, KeepsHeld, write_at_of, cut_of};
 ghost use Rattle.dt_tree.specs.Changes.{written, truncated};
 ghost use Rattle.dt_tree.specs.Table.{Stands, shape_of, tree_of};
@@ -18,6 +18,7 @@ fn pad<H: Host>(host: &mut H, real: u64, off: u64) -> Result<(), HostErr>
     requires file { IsFile (H.view host.old).forest real }
     requires fits { off ≤ FILE_LIMIT }
     ensures padded { OnOk result (H.view host.new ≡ with_padding (H.view host.old) real off) }
+    ensures rest { OnlyForest (H.view host.old) (H.view host.new) }
     ensures cause { HasCause (H.count host.old) (H.count host.new) (IsErrOf result HostErr.Failed) }
 {
     let size = host.raw(real)?.size;
@@ -33,6 +34,7 @@ fn write_padded<H: Host>(host: &mut H, real: u64, off: u64, bytes: &[u8]) -> Res
     requires fits { off + length bytes.now ≤ FILE_LIMIT }
     ensures written { OnOk result
         (H.view host.new ≡ with_written (H.view host.old) real off bytes.now) }
+    ensures rest { OnlyForest (H.view host.old) (H.view host.new) }
     ensures cause { HasCause (H.count host.old) (H.count host.new) (IsErrOf result HostErr.Failed) }
 {
     pad(host, real, off)?;
@@ -57,6 +59,7 @@ impl Tree {
             ≡ written (tree_of self.old (H.view host.old).forest) vino off bytes.now stamp) }
         ensures held { OnOk result (KeepsHeld (tree_of self.old (H.view host.old).forest)
             (tree_of self.new (H.view host.new).forest)) }
+        ensures rest { OnlyForest (H.view host.old) (H.view host.new) }
         ensures cause { HasCause (H.count host.old) (H.count host.new)
             (IsErrOf result HostErr.Failed) }
     {
@@ -81,6 +84,7 @@ impl Tree {
             ≡ truncated (tree_of self.old (H.view host.old).forest) vino len stamp) }
         ensures held { OnOk result (KeepsHeld (tree_of self.old (H.view host.old).forest)
             (tree_of self.new (H.view host.new).forest)) }
+        ensures rest { OnlyForest (H.view host.old) (H.view host.new) }
         ensures cause { HasCause (H.count host.old) (H.count host.new)
             (IsErrOf result HostErr.Failed) }
     {
@@ -106,6 +110,7 @@ impl Tree {
         ensures stands { UnlessFailed result (Stands self.new (H.view host.new).forest) }
         ensures held { UnlessFailed result (KeepsHeld (tree_of self.old (H.view host.old).forest)
             (tree_of self.new (H.view host.new).forest)) }
+        ensures rest { OnlyForest (H.view host.old) (H.view host.new) }
         ensures cause { HasCause (H.count host.old) (H.count host.new)
             (IsErrOf result (host_failed HostErr.Failed)) }
     {
@@ -132,6 +137,7 @@ impl Tree {
         ensures stands { UnlessFailed result (Stands self.new (H.view host.new).forest) }
         ensures held { UnlessFailed result (KeepsHeld (tree_of self.old (H.view host.old).forest)
             (tree_of self.new (H.view host.new).forest)) }
+        ensures rest { OnlyForest (H.view host.old) (H.view host.new) }
         ensures cause { HasCause (H.count host.old) (H.count host.new)
             (IsErrOf result (host_failed HostErr.Failed)) }
     {

@@ -7,6 +7,7 @@ use Rattle.dt_host.specs.declared.error.HostErr.TheVariants.{Failed}
 use Rattle.dt_tree.specs.Calls.{Done}
 use Rattle.dt_fcalls.specs.Open.{on_done}
 use Rattle.dt_scene.specs.Scene.{Scene, Row, refused}
+use Rattle.dt_host.specs.World.{OnlyForest}
 use Rattle.dt_scene.specs.Sound.{Stage, Sound, KeepsOthers, scene}
 
 -- what follows on that step begins here, or is refused
@@ -19,4 +20,5 @@ pub record Steps {A : Type 0} (d : Scene → Done A) (old new : Stage) (result :
   pub next : IfOk result (GoesOn (scene old) (d (scene old)) (scene new))
   pub sound : OnOk result (Sound new)
   pub others : OnOk result (KeepsOthers (scene old) (scene new))
+  pub rest : OnlyForest old.world new.world
   pub cause : HasCause before now (IsErrOf result Failed)

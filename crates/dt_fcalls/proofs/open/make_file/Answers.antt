@@ -11,7 +11,7 @@ returns-in-Ok-clause-step g c =
     let w = g.H.Host.view c.args.host.now in
     let s = scene (stage c.args.fs.now w c.args.caller.now c.args.space.now) in
     steps_done (makes_file c.args.mode c.args.place.now) c.args.fs.now c.make_node.new.self c.stamp.new.self w (g.H.Host.view c.make_node.new.host) c.args.caller.now c.args.space.now c.in-Ok.n _ _
-    c.requires.sound c.in-Ok.ensures.stands c.in-Ok.ensures.held c.make_node.ensures.cause.later c.stamp.ensures.rest
+    c.requires.sound c.in-Ok.ensures.stands c.in-Ok.ensures.held c.make_node.ensures.rest c.make_node.ensures.cause.later c.stamp.ensures.rest
     ((λ i. make_node_of s.tree c.args.place.now.parent (sym c.as_slice.ensures i) (File (sym (c.new-2.ensures ∙ c.new.ensures.items) i)) c.args.mode (sym c.next_stamp-stamp.ensures i)) ∙ c.in-Ok.ensures.done)
 
 pub returns-in-Ok-clause-file : goal.returns-in-Ok-clause-file

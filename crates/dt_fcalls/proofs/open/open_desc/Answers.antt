@@ -1,4 +1,4 @@
-use Rattle.std.proofs.Common.{ℕ, Ok, Err, sym, subst, arith}
+use Rattle.std.proofs.Common.{ℕ, Ok, Err, refl, sym, subst, arith}
 use Rattle.dt_base.specs.declared.answer.Answer.TheVariants.{Value}
 use Rattle.dt_fds.specs.Backs.{IsBacked, KeepsOthers as KeepsHolds, Does, at, holding as held_at}
 use Rattle.dt_fds.specs.Holding.{add_call}
@@ -20,7 +20,7 @@ returns-in-Ok g c =
     subst (λ fd. Reaches (opens c.args.flags c.args.desc s) old new (Ok (Value fd)) count count) (sym c.from.ensures)
     (reaches_same _ _ _ _ _ _ _ (λ i. by_outcome (λ fd. fd) s (add_call c.args.caller.now.vpid c.args.desc (sym c.has.ensures i) (holding s)))
     (reaches_held (λ fd. fd) _ c.args.fs.now c.add.new.tree c.add.new.self w w c.args.caller.now c.args.space.now (Ok c.in-Ok.fd) _ _
-    c.requires.sound c.in-Ok.ensures.backed c.in-Ok.ensures.others (omega arith) c.in-Ok.ensures.made))
+    c.requires.sound c.in-Ok.ensures.backed c.in-Ok.ensures.others refl (omega arith) c.in-Ok.ensures.made))
 
 pub returns-in-Err-Errno : goal.returns-in-Err-Errno
 returns-in-Err-Errno g c =
@@ -33,6 +33,6 @@ returns-in-Err-Errno g c =
     (reaches_held (λ fd. fd) _ c.args.fs.now c.add.new.tree c.add.new.self w w c.args.caller.now c.args.space.now (Err c.in-Err-Errno.errno) _ _
     c.requires.sound
     (subst (λ (e : CallErr). UnlessFailed {A = ℕ} (Err e) (IsBacked new)) same c.in-Err-Errno.ensures.backed)
-    (subst (λ (e : CallErr). UnlessFailed {A = ℕ} (Err e) (KeepsHolds (holding s) (held_at new))) same c.in-Err-Errno.ensures.others)
-    (omega arith)
+    (subst (λ (e : CallErr). UnlessFailed {A = ℕ} (Err e) (KeepsHolds c.args.caller.now.vpid (holding s) (held_at new))) same c.in-Err-Errno.ensures.others)
+    refl (omega arith)
     (subst (λ (e : CallErr). Does {A = ℕ} (Err e) (held_at new) (add_call c.args.caller.now.vpid c.args.desc c.has.result (holding s))) same c.in-Err-Errno.ensures.made))

@@ -12,5 +12,6 @@ returns-in-Ok-clause-row g c = record {
   served = written_so (scene (stage c.args.fs.now (g.H.Host.view c.args.host.now) c.args.caller.now c.args.space.now)) (tree_of c.write_at.new.self (g.H.Host.view c.write_at.new.host).forest) c.stamp.new.self c.next_stamp-stamp.result (length c.args.bytes.now) c.in-Ok.field-0 (write_at_of (tree_of c.args.fs.now.tree (g.H.Host.view c.args.host.now).forest) c.args.n c.args.offset c.args.bytes.now) c.next_stamp-stamp.ensures c.stamp.ensures.rest c.in-Ok.ensures.done;
   sound = sound_kept c.args.fs.now _ _ _ _ _ _ c.requires.sound c.in-Ok.ensures.stands c.in-Ok.ensures.held refl;
   others = others_kept _ _ refl refl c.in-Ok.ensures.held;
+  rest = c.write_at.ensures.rest;
   cause = grind (arith, common_steps);
 }

@@ -11,4 +11,4 @@ returns-in-Ok g c =
     let s = scene (stage c.args.fs.now w c.args.caller.now c.args.space.now) in
     reaches_same _ _ _ _ _ _ _ (λ i. by_done s (drop_name_of s.tree c.args.place.now.parent (sym c.as_slice.ensures i) (sym c.next_stamp-stamp.ensures i)))
     (reaches_done _ c.args.fs.now c.drop_name.new.self c.stamp.new.self w (g.H.Host.view c.drop_name.new.host) c.args.caller.now c.args.space.now _ _ _
-    c.requires.sound c.in-Ok.ensures.stands c.in-Ok.ensures.held c.drop_name.ensures.cause.later c.stamp.ensures.rest c.in-Ok.ensures.done)
+    c.requires.sound c.in-Ok.ensures.stands c.in-Ok.ensures.held c.drop_name.ensures.rest c.drop_name.ensures.cause.later c.stamp.ensures.rest c.in-Ok.ensures.done)

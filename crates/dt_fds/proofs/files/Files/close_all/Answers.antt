@@ -12,7 +12,8 @@ loop-fd-preserved g c =
     record {
       made = closed-next c.args.pid c.loop-fd.fd _ _ _ c.loop-fd.invariant.made left.made;
       backed = left.backed;
-      others = KeepsOthers-then _ _ _ c.loop-fd.invariant.others left.others;
+      others = KeepsOthers-then c.args.pid _ _ _ c.loop-fd.invariant.others left.others;
+      rest = left.rest ∙ c.loop-fd.invariant.rest;
       later = omega (arith, c.loop-fd.invariant.later, left.cause.later);
     }
 
@@ -23,5 +24,6 @@ returns g c =
       made = c.loop-fd.invariant.made ∙ ap (λ n. closed_below c.args.pid n (holding (at c.args.self.now c.args.tree.now (g.H.Host.view c.args.host.now)))) all;
       backed = c.loop-fd.invariant.backed;
       others = c.loop-fd.invariant.others;
+      rest = c.loop-fd.invariant.rest;
       cause = record { later = c.loop-fd.invariant.later; rose = λ failed. cc };
     }

@@ -1,17 +1,13 @@
-use Rattle.std.proofs.Common.{◌≡◌, ℕ, ◌≤◌}
+use Rattle.std.proofs.Common.{◌≡◌}
+use Rattle.dt_host.specs.World.{OnlyForest}
 use Rattle.dt_fds.specs.Holding.{closed_below}
 use Rattle.dt_fds.specs.Backs.{IsBacked, KeepsOthers, at, holding}
+use Rattle.dt_fds.proofs.Backing.{Kept}
 use Rattle.dt_fds.proofs.files.Files.close_all.Given as goal
 
--- so far the descriptors below are closed, what others hold stays, and no fault was taken back
-pub record Kept (defined good kept : Type 0) (before now : ℕ) : Type 0 where
-  pub made : defined
-  pub backed : good
-  pub others : kept
-  pub later : before ≤ now
-
+-- so far the descriptors below are closed
 abbrev pub invariant-loop-fd : goal.invariant-loop-fd
 invariant-loop-fd g l =
     let old = holding (at l.fn.self l.fn.tree (g.H.Host.view l.fn.host)) in
     let now = holding (at l.self l.tree (g.H.Host.view l.host)) in
-    Kept (now ≡ closed_below l.pid l.fd old) (IsBacked (at l.self l.tree (g.H.Host.view l.host))) (KeepsOthers old now) (g.H.Host.count l.fn.host) (g.H.Host.count l.host)
+    Kept (now ≡ closed_below l.pid l.fd old) (IsBacked (at l.self l.tree (g.H.Host.view l.host))) (KeepsOthers l.pid old now) (OnlyForest (g.H.Host.view l.fn.host) (g.H.Host.view l.host)) (g.H.Host.count l.fn.host) (g.H.Host.count l.host)

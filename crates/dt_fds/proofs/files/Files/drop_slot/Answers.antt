@@ -12,7 +12,7 @@ pub let_go-requires-clause-held : goal.let_go-requires-clause-held
 let_go-requires-clause-held g c =
     let t = tree_of c.args.tree.now (g.H.Host.view c.args.host.now).forest in
     subst (λ gone. IfSome gone (λ desc. IfSome (inode_of desc.kind) (λ n. 0 < holds_of t n))) (sym c.clear-gone.ensures.gone)
-    (gone-held (with_slot c.args.self.now c.args.pid c.args.fd None) t c.args.slot.number (backs-kept c.args.self.now _ t (KeepsNodes-with_slot c.args.self.now c.args.pid c.args.fd None) c.requires.backed.backs))
+    (gone-held (with_slot c.args.self.now c.args.pid c.args.fd None) t c.args.slot.number (backs-kept c.args.pid c.args.self.now _ t (KeepsNodes-with_slot c.args.self.now c.args.pid c.args.fd None) c.requires.backed.backs))
 
 pub returns : goal.returns
 returns g c =
@@ -26,6 +26,7 @@ returns g c =
         stands = left.stands;
         backs = subst Backs (sym made) (backs-freed f t c.args.pid c.args.fd c.args.slot.number c.requires.backed.stands.tree c.requires.backed.backs);
       };
-      others = subst (KeepsOthers (over t f)) (sym made) (others-freed f t c.args.pid c.args.fd c.args.slot.number c.requires.backed.stands.tree c.requires.backed.backs);
+      others = subst (KeepsOthers c.args.pid (over t f)) (sym made) (others-freed f t c.args.pid c.args.fd c.args.slot.number c.requires.backed.stands.tree c.requires.backed.backs);
+      rest = left.rest;
       cause = left.cause;
     }

@@ -43,13 +43,14 @@ returns-in_ok-share-in-Some g c =
     let files = sym (shared ∙ ap (λ h. duplicated h.files p new c.in-Some.slot c.args.cloexec) free.made) in
     let tree = sym (ap (λ h. h.tree) free.made) in
     let left = tree_of c.free_slot.new.tree (g.H.Host.view c.free_slot.new.host).forest in
-    let kept = subst (KeepsNodes c.free_slot.new.self) (sym shared) (KeepsNodes-with_slot c.free_slot.new.self p new _) in
+    let kept = subst (KeepsNodes p c.free_slot.new.self) (sym shared) (KeepsNodes-with_slot c.free_slot.new.self p new _) in
     record {
       made = ap (dup_over h p new c.args.cloexec) (sym c.in-Some.ensures.slot) ∙ (λ i. record { answer = Ok tt; next = record { files = files i; tree = tree i } });
       backed = record {
         stands = free.backed.stands;
-        backs = backs-kept c.free_slot.new.self _ left kept free.backed.backs;
+        backs = backs-kept p c.free_slot.new.self _ left kept free.backed.backs;
       };
-      others = KeepsOthers-then h (over left c.free_slot.new.self) _ free.others (others-kept c.free_slot.new.self _ left kept);
+      others = KeepsOthers-then p h (over left c.free_slot.new.self) _ free.others (others-kept p c.free_slot.new.self _ left kept);
+      rest = free.rest;
       cause = record { later = free.cause.later; rose = λ never. absurd never };
     }

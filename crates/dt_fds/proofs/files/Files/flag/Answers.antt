@@ -37,4 +37,4 @@ returns-clause-files c = by_found (get c.self.inside.descs c.args.number) refl (
         ∙ sym (ap (λ found. record old { descs = put_back c.self.inside.descs c.args.number (option_map (with_flags c.args.append c.args.nonblock) found) }) e)
 
 pub returns-clause-nodes : goal.returns-clause-nodes
-returns-clause-nodes c = subst (KeepsNodes c.args.self.now) (sym (returns-clause-files c)) (KeepsNodes-described c.args.self.now (with_flags c.args.append c.args.nonblock) c.args.number (λ desc. refl))
+returns-clause-nodes c = λ p. subst (KeepsNodes p c.args.self.now) (sym (returns-clause-files c)) (KeepsNodes-described p c.args.self.now (with_flags c.args.append c.args.nonblock) c.args.number (λ desc. refl))

@@ -18,4 +18,4 @@ pub returns-clause-files : goal.returns-clause-files
 returns-clause-files c = tables-same _ _ _ _ (c.take.ensures.map ∙ ap (remove c.self.inside.tables) c.from.ensures) ∙ ap (λ f. forgotten f c.args.pid) c.self.view_is
 
 pub returns-clause-nodes : goal.returns-clause-nodes
-returns-clause-nodes c = subst (KeepsNodes c.args.self.now) (sym (returns-clause-files c)) (KeepsNodes-forgotten c.args.self.now c.args.pid)
+returns-clause-nodes c = subst (KeepsNodes c.args.pid c.args.self.now) (sym (returns-clause-files c)) (KeepsNodes-forgotten c.args.self.now c.args.pid)

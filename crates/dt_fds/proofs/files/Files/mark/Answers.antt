@@ -25,4 +25,4 @@ unfolding with_slot
 returns-clause-files c = tables-same _ _ _ _ c.put_slot.ensures ∙ ap (λ f. duplicated f c.args.pid c.args.fd c.args.slot c.args.cloexec) c.self.view_is
 
 pub returns-clause-nodes : goal.returns-clause-nodes
-returns-clause-nodes c = subst (KeepsNodes c.args.self.now) (sym (returns-clause-files c)) (KeepsNodes-with_slot c.args.self.now c.args.pid c.args.fd _)
+returns-clause-nodes c = subst (KeepsNodes c.args.pid c.args.self.now) (sym (returns-clause-files c)) (KeepsNodes-with_slot c.args.self.now c.args.pid c.args.fd _)

@@ -1,4 +1,4 @@
-use Rattle.std.proofs.Common.{arith, sym, ap, subst, ◌∙◌}
+use Rattle.std.proofs.Common.{arith, refl, sym, ap, subst, ◌∙◌}
 use Rattle.dt_tree.specs.Table.{tree_of}
 use Rattle.dt_fds.specs.Descriptions.{inode_of, opened}
 use Rattle.dt_fds.specs.Holding.{over, with_hold}
@@ -20,6 +20,7 @@ returns g c =
         stands = c.in_ok-hold.ensures.stands;
         backs = subst Backs (sym made) (backs-opened f t c.args.pid c.args.fd c.args.desc c.args.cloexec c.requires.backed.stands.tree c.requires.backed.backs c.in_ok-enter.ensures.fresh c.requires.there);
       };
-      others = subst (KeepsOthers (over t f)) (sym made) (others-opened f t c.args.pid c.args.fd c.args.desc c.args.cloexec c.requires.backed.stands.tree c.in_ok-enter.ensures.fresh c.requires.there);
+      others = subst (KeepsOthers c.args.pid (over t f)) (sym made) (others-opened f t c.args.pid c.args.fd c.args.desc c.args.cloexec c.requires.backed.stands.tree c.in_ok-enter.ensures.fresh c.requires.there);
+      rest = refl;
       cause = record { later = omega arith; rose = λ failed. cc };
     }

@@ -18,6 +18,7 @@ use Rattle.dt_tree.proofs.tree.Tree.install.Goals as goal
 pub loop-entry-init : goal.loop-entry-init
 loop-entry-init g c = record {
   later = omega arith;
+  rest = refl;
   stands = c.requires.stands;
   tree = c.requires.new;
   nodes = ap (λ (t : FileTree). len t.shape.nodes) (c.requires.new ∙ image_tree-nil) ∙ one_node;
@@ -52,6 +53,7 @@ loop-entry-preserved g c =
     let nodes = ap (λ (t : FileTree). len t.shape.nodes) after ∙ len-created t n (last_name e.path) e.what e.mode 0 s can in
     record {
       later = omega (arith, c.create.ensures.cause.later, c.loop-entry.invariant.later);
+      rest = c.create.ensures.rest ∙ c.loop-entry.invariant.rest;
       stands = c.in_ok-create.ensures.stands;
       tree = after ∙ ap (λ t. created t n (last_name e.path) (new_node e.what) e.mode 0) c.loop-entry.invariant.tree ∙ sym (more entries is c.loop-entry.entry-index e at n leads);
       nodes = omega (arith, nodes, c.loop-entry.invariant.nodes);

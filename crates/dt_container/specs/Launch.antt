@@ -1,0 +1,33 @@
+-- How a run starts its program (execve(2), from its path on).
+use Rattle.std.specs.Prelude.{Result, Ok, Err}
+use Rattle.std.specs.FinMap.{insert}
+use Rattle.dt_base.specs.declared.errno.Errno.{Errno}
+use Rattle.dt_base.specs.Command.{Words}
+use Rattle.dt_exec.specs.declared.program.Program.{Program}
+use Rattle.dt_exec.specs.Program.{start_program}
+use Rattle.dt_procs.specs.declared.member.TheConstants.{FIRST_PID}
+use Rattle.dt_virt.specs.Words.{start_bytes}
+use Rattle.dt_container.specs.declared.container.Launch.{Launch}
+use Rattle.dt_container.specs.declared.container.Launch.TheVariants.{Started, NoStart}
+use Rattle.dt_container.specs.Container.{Container, process_at, with_process}
+use Rattle.dt_container.specs.Execve.{with_program}
+
+-- the container after a launch, and what it came to
+pub record Launched : Type 0 where
+  pub container : Container
+  pub launch : Launch
+
+-- a program that can be started has its machine at home, and its break where it starts
+abbrev pub started : Container → Result Program Errno → Launched
+started c (Err errno) = record { container = c; launch = NoStart errno }
+started c (Ok program) = record {
+  container = record c {
+    shared = with_process c.shared (with_program (process_at c.shared FIRST_PID) program);
+    machines = insert c.machines FIRST_PID program.machine;
+  };
+  launch = Started;
+}
+
+-- the program of a command is started: it is handed the command's words, its path, and 16 bytes that the seed gives
+unfoldable pub launch : Container → Words → Launched
+launch c words = started c (start_program c.shared.tree.shape words (start_bytes c.shared.rand))

@@ -1,0 +1,38 @@
+-- The system calls on a process's memory: brk(2), mmap(2), munmap(2), mprotect(2).
+use Rattle.std.specs.Prelude.{ℕ}
+use Rattle.dt_base.specs.declared.abi.TheConstants.{A0, A1, A2, A3, MMAP, MUNMAP, MPROTECT}
+use Rattle.dt_rv64.specs.declared.machine.Machine.{Machine}
+use Rattle.dt_rv64.specs.Effects.{register}
+use Rattle.dt_mcalls.specs.Called.{Called}
+use Rattle.dt_mcalls.specs.Brk.{Moved, brk_of}
+use Rattle.dt_mcalls.specs.Mmap.{mmap_of}
+use Rattle.dt_mcalls.specs.Munmap.{munmap_of}
+use Rattle.dt_mcalls.specs.Mprotect.{mprotect_of}
+use Rattle.dt_container.specs.declared.shared.Process.{Process}
+use Rattle.dt_container.specs.Container.{Shared}
+use Rattle.dt_container.specs.Effect.{Effect, done, answers}
+
+-- a call of this number leaves the process's pages so, and gives its answer
+abbrev pub called : Shared → Process → Machine → ℕ → Called → Effect
+called c own m number r = answers c own (record m { space = r.pages }) number r.answer
+
+-- the break and the pages are these, and the break is the answer
+abbrev pub moved_break : Shared → Process → Machine → Moved → Effect
+moved_break c own m r =
+    done c (record own { program_break = r.program_break }) (record m { space = r.pages }) r.program_break.end
+
+-- brk(2)
+unfoldable pub brk_call : Shared → Process → Machine → Effect
+brk_call c own m = moved_break c own m (brk_of own.program_break m.space (register m A0))
+
+-- munmap(2)
+unfoldable pub munmap_call : Shared → Process → Machine → Effect
+munmap_call c own m = called c own m MUNMAP (munmap_of m.space (register m A0) (register m A1))
+
+-- mmap(2), of zeros: which file and which part of it is not looked at
+unfoldable pub mmap_call : Shared → Process → Machine → Effect
+mmap_call c own m = called c own m MMAP (mmap_of m.space (register m A0) (register m A1) (register m A2) (register m A3))
+
+-- mprotect(2)
+unfoldable pub mprotect_call : Shared → Process → Machine → Effect
+mprotect_call c own m = called c own m MPROTECT (mprotect_of m.space (register m A0) (register m A1) (register m A2))

@@ -1,0 +1,240 @@
+// A container.
+ghost use Rattle.std.specs.Prelude.{◌≡◌, [], None, Some, is_some, IsSome, IfOk, IsErrOf};
+ghost use Rattle.std.specs.FinMap.{get, insert, remove};
+ghost use Rattle.dt_host.specs.Cause.{HasCause};
+ghost use Rattle.dt_host.specs.World.{IsEmptyStart};
+ghost use Rattle.dt_procs.specs.Table.{members_of};
+ghost use Rattle.dt_procs.specs.Members.{end_of};
+ghost use Rattle.dt_rv64.specs.declared.segments.Stop.TheVariants.{Call as a_call};
+ghost use Rattle.dt_tree.specs.ImageTree.{image_tree};
+ghost use Rattle.dt_container.specs.Container.{first_container};
+ghost use Rattle.dt_container.specs.Launch.{launch};
+ghost use Rattle.dt_container.specs.Settle.{serve};
+ghost use Rattle.dt_container.specs.InCode.{Lives, home_of, container_of, launched_as, turned_as};
+ghost use Rattle.dt_container.specs.Sound.{IsSoundContainer};
+
+use crate::call::serve;
+use crate::shared::Shared;
+use dt_base::{Command, End, Errno, Event, Image};
+use dt_exec::start_program;
+use dt_host::{Host, HostErr};
+use dt_numbered::Numbered;
+use dt_procs::FIRST_PID;
+use dt_rv64::{Machine, Stop};
+use dt_tree::Tree;
+use std::alloc::Global;
+use std::marker::Model;
+use std::mem;
+
+/// What launching a program comes to.
+#[derive(Clone, Copy, Debug, PartialEq, Eq)]
+pub enum Launch {
+    /// Its machine is at home, and owes a segment.
+    Started,
+    /// It can't be started.
+    NoStart(Errno),
+}
+
+/// What became of a process whose stop was served.
+#[derive(Clone, Copy, Debug, PartialEq, Eq)]
+pub enum Served {
+    /// It goes on.
+    Done,
+    /// It goes on, and has made a child of this virtual pid.
+    Child(u32),
+    /// It has ended, and has made a child of this virtual pid before.
+    LastChild(u32),
+    /// Its call waits, and is tried again in its next turn.
+    Blocked,
+    /// It has ended.
+    Ended,
+    /// It stays at its stop: its call, by its number, isn't supported.
+    Unsupported(u64),
+}
+
+/// A container: what its processes share, the machines that are at home, and the events of the last turn.
+///
+/// A process that lives may have its machine away, to run a segment. After an error a container may only be dropped.
+#[derive(Drop)]
+pub struct Container {
+    pub(crate) alloc: Global,
+    pub(crate) shared: Shared,
+    pub(crate) places: Numbered<Option<Machine>>,
+    pub(crate) events: Vec<Event>,
+}
+
+impl Model for Container {
+    ghost use Rattle.std.specs.Coded.{codes, coded_ℕ};
+    ghost use Rattle.std.specs.FinMap.{code};
+    ghost use Rattle.dt_fds.specs.inner.Codes.{descriptions_code};
+    ghost use Rattle.dt_tree.specs.inner.Codes.{table_code};
+    ghost use Rattle.dt_container.specs.InCode.{ContainerView};
+
+    ghost Value = { ContainerView };
+
+    ghost coded = { Prim.hlevel (codes, table_code, descriptions_code, code, coded_ℕ) };
+
+    ghost view = { λ c. record { shared = c.shared; places = c.places; events = c.events.items } };
+}
+
+impl Container {
+    /// A container with an image's tree, at a host that holds nothing. Its process has no machine yet.
+    pub fn install<H: Host>(
+        alloc: Global,
+        host: &mut H,
+        image: &Image,
+        seed: u64,
+    ) -> Result<Self, HostErr>
+        requires { IsEmptyStart (H.view host.old) }
+        ensures ok { IfOk result
+            (λ c. container_of c (H.view host.new) ≡ first_container (image_tree image.now) seed) }
+        ensures sound { IfOk result (λ c. IsSoundContainer c (H.view host.new)) }
+        ensures lives { IfOk result (λ c. Lives c FIRST_PID) }
+        ensures cause { HasCause (H.count host.old) (H.count host.new) (IsErrOf result HostErr.Failed) }
+    {
+        let mut tree = Tree::new(alloc, host)?;
+        tree.install(host, image)?;
+        let shared = Shared::new(alloc, host, tree, seed)?;
+        let mut places = Numbered::new(alloc);
+        places.put(u64::from(FIRST_PID), None)?;
+        let container = Container {
+            alloc,
+            shared,
+            places,
+            events: Vec::new(alloc),
+        };
+        container.counted();
+        Ok(container)
+    }
+
+    /// Starts the program of a command (execve(2)), or says why it can't be started.
+    #[tactic(auto, unfolding(crate::specs::Launch::launch))]
+    pub fn launch<H: Host>(
+        &mut self,
+        alloc: Global,
+        host: &mut H,
+        command: &Command,
+    ) -> Result<Launch, HostErr>
+        requires sound { IsSoundContainer self.old (H.view host.old) }
+        requires lives { Lives self.old FIRST_PID }
+        ensures ok { IfOk result (λ l. launch (container_of self.old (H.view host.old)) command.now
+            ≡ launched_as (container_of self.new (H.view host.new)) l) }
+        ensures sound { IfOk result (λ _. IsSoundContainer self.new (H.view host.new)) }
+        ensures cause { HasCause (H.count host.old) (H.count host.new) (IsErrOf result HostErr.Failed) }
+    {
+        let random = self.shared.fs.rand.start16();
+        match start_program(alloc, host, &self.shared.fs.tree, command, &random)? {
+            Ok(program) => {
+                let mut own = self.shared.process(FIRST_PID);
+                own.start(program.break_start);
+                self.shared.put(own);
+                self.give_machine(FIRST_PID, program.machine);
+                self.counted();
+                Ok(Launch::Started)
+            }
+            Err(errno) => Ok(Launch::NoStart(errno)),
+        }
+    }
+
+    /// Whether a process lives and has its machine at home.
+    #[tactic(auto, using(crate::proofs::Homes::homes))]
+    pub fn is_home(&self, vpid: u32) -> bool
+        ensures { result ≡ is_some (get (home_of self.now.places) vpid) }
+    {
+        matches!(self.places.get(u64::from(vpid)), Some(Some(_)))
+    }
+
+    /// Takes the machine of a process away, which is at home.
+    #[tactic(auto, using(crate::proofs::Homes::homes))]
+    pub fn take_machine(&mut self, vpid: u32) -> Machine
+        requires { IsSome (get (home_of self.old.places) vpid) }
+        ensures machine { get (home_of self.old.places) vpid ≡ Some result }
+        ensures rest { self.new ≡ record self.old { places = insert self.old.places vpid None } }
+        ensures home { home_of self.new.places ≡ remove (home_of self.old.places) vpid }
+    {
+        let Some(machine) = self.places.swap(u64::from(vpid), None) else {
+            unreachable!()
+        };
+        machine
+    }
+
+    /// Brings the machine of a process that lives home.
+    #[tactic(auto, using(crate::proofs::Homes::homes))]
+    pub fn give_machine(&mut self, vpid: u32, machine: Machine)
+        requires { IsSome (get self.old.places vpid) }
+        ensures rest { self.new ≡ record self.old { places = insert self.old.places vpid (Some machine) } }
+        ensures home { home_of self.new.places ≡ insert (home_of self.old.places) vpid machine }
+    {
+        self.places.set(u64::from(vpid), Some(machine));
+    }
+
+    /// Serves the stop of a process that lives and has its machine at home, and settles what becomes of it.
+    #[tactic(auto, unfolding(crate::specs::Settle::serve, crate::specs::Settle::serve_machine))]
+    pub fn serve<H: Host>(
+        &mut self,
+        alloc: Global,
+        host: &mut H,
+        vpid: u32,
+        stop: Stop,
+    ) -> Result<Served, HostErr>
+        requires sound { IsSoundContainer self.old (H.view host.old) }
+        requires home { IsSome (get (home_of self.old.places) vpid) }
+        ensures ok { IfOk result (λ s. serve (container_of self.old (H.view host.old)) vpid stop
+            ≡ Some (turned_as (container_of self.new (H.view host.new)) s)) }
+        ensures sound { IfOk result (λ _. IsSoundContainer self.new (H.view host.new)) }
+        ensures cause { HasCause (H.count host.old) (H.count host.new) (IsErrOf result HostErr.Failed) }
+    {
+        let mut own = self.shared.process(vpid);
+        let mut machine = self.take_machine(vpid);
+        let next = self.shared.pids.next();
+        let effect = serve(alloc, host, &mut self.shared, &mut own, &mut machine, stop)?;
+        self.settle(host, next, own, machine, effect)
+    }
+
+    /// Tries the waiting call of a process again.
+    pub fn retry<H: Host>(
+        &mut self,
+        alloc: Global,
+        host: &mut H,
+        vpid: u32,
+    ) -> Result<Served, HostErr>
+        requires sound { IsSoundContainer self.old (H.view host.old) }
+        requires home { IsSome (get (home_of self.old.places) vpid) }
+        ensures ok { IfOk result (λ s. serve (container_of self.old (H.view host.old)) vpid a_call
+            ≡ Some (turned_as (container_of self.new (H.view host.new)) s)) }
+        ensures sound { IfOk result (λ _. IsSoundContainer self.new (H.view host.new)) }
+        ensures cause { HasCause (H.count host.old) (H.count host.new) (IsErrOf result HostErr.Failed) }
+    {
+        self.serve(alloc, host, vpid, Stop::Call)
+    }
+
+    /// What the last turn showed.
+    pub fn events(&self) -> &[Event]
+        ensures { result.now ≡ self.now.events }
+    {
+        &self.events
+    }
+
+    /// What the last turn showed, which the container then keeps no longer.
+    pub fn take_events(&mut self) -> Vec<Event>
+        ensures events { result.items ≡ self.old.events }
+        ensures rest { self.new ≡ record self.old { events = [] } }
+    {
+        let none = Vec::new(self.alloc);
+        mem::replace(&mut self.events, none)
+    }
+
+    /// The file tree.
+    pub fn tree(&self) -> &Tree
+        ensures { result.now ≡ self.now.shared.fs.tree }
+    {
+        &self.shared.fs.tree
+    }
+
+    /// How a process ended, if it is there and has.
+    pub fn end(&self, vpid: u32) -> Option<End>
+        ensures { result ≡ end_of (members_of self.now.shared.pids) vpid }
+    {
+        self.shared.pids.end(vpid)
+    }
+}

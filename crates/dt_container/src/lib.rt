@@ -1,0 +1,11 @@
+//! A container: what processes share and each has of its own beside its machine, the start of a program, and the system calls.
+#![tactic(auto)]
+
+mod call;
+mod container;
+mod ending;
+pub mod numbers;
+mod settling;
+mod shared;
+
+pub use container::{Container, Launch, Served};

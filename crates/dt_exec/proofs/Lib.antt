@@ -1,0 +1,6 @@
+pub mod Walked
+pub mod Opened
+pub mod Parts
+pub mod NoNul
+pub mod Collected
+pub mod Positions

@@ -1,0 +1,151 @@
+-- Texts of which no byte is 0.
+use Rattle.std.proofs.Common.{◌≡◌, ℕ, ◌+◌, ◌%◌, ◌^◌, ◌≤◌, suc, zero, Bool, true, false, List, [], ◌∷◌, ◌++◌, length, take, drop, Option, Some, None, Result, Ok, Err, refl, sym, ap, subst, ◌∙◌, arith}
+use Rattle.std.specs.Prelude.{IsTrue, IfOk, IfSome, ◌==◌, ◌&&◌, ◌||◌, not, nat_lt, if◌then◌else◌}
+use Rattle.std.specs.List.{list_all, position_or_len, prefix_len}
+use Rattle.std.specs.Option.{option_to_list}
+use Rattle.std.proofs.lemmas.Bool.Decides.{nat_tests}
+use Rattle.std.proofs.lemmas.List.{take-append-drop}
+use Rattle.std.proofs.lemmas.List.Folds.{list_all-append}
+use Rattle.dt_base.specs.Path.{has_no_nul}
+use Rattle.dt_space.specs.Space.{PageView, byte_at}
+use Rattle.dt_space.specs.Text.{text_from, text_at}
+use Rattle.dt_space.specs.declared.access.TextErr.{TextErr}
+use Rattle.dt_space.specs.declared.access.TextErr.TheVariants as text_err
+use Rattle.dt_space.specs.declared.access.TheConstants.{READ}
+use Rattle.dt_exec.specs.declared.limits.TheConstants.{SCRIPT_LINE_LIMIT}
+use Rattle.dt_exec.specs.declared.script.Script.{Script}
+use Rattle.dt_base.specs.declared.errno.Errno.TheVariants.{NameTooLong}
+use Rattle.dt_base.specs.declared.limits.TheConstants.{PATH_LIMIT}
+use Rattle.dt_exec.specs.Arguments.{text_or, not_empty, path_argument}
+use Rattle.dt_exec.specs.Script.{HasNoNul, is_blank, blanks_skipped, blanks_cut, some_word, script_named, script_by, script_args}
+
+one_more : (byte : ℕ) (rest : List ℕ) → IsTrue (has_no_nul rest) → IsTrue (has_no_nul (suc byte ∷ rest))
+one_more byte rest is = grind (arith, nat_tests)
+
+from_no_nul : (address : ℕ) (byte : Option ℕ) (rest : Result (List ℕ) TextErr) → ((text : List ℕ) → rest ≡ Ok text → IsTrue (has_no_nul text)) → (text : List ℕ) → text_from address byte rest ≡ Ok text → IsTrue (has_no_nul text)
+from_no_nul address None rest more text is = cc
+from_no_nul address (Some zero) rest more text is = let same : [] ≡ text = cc in subst (λ t. IsTrue (has_no_nul t)) same refl
+from_no_nul address (Some (suc byte)) (Ok rest) more text is =
+    let same : (suc byte ∷ rest) ≡ text = cc in subst (λ t. IsTrue (has_no_nul t)) same (one_more byte rest (more rest refl))
+from_no_nul address (Some (suc byte)) (Err error) more text is = cc
+
+-- a text that was read from memory has no NUL
+pub text_no_nul : (pages : List PageView) (address max : ℕ) (text : List ℕ) → text_at pages address max ≡ Ok text → IsTrue (has_no_nul text)
+unfolding text_at
+text_no_nul pages address zero text is = cc
+text_no_nul pages address (suc max) text is =
+    from_no_nul address (byte_at pages READ address) (text_at pages ((address + 1) % 2 ^ 64) max) (λ t. text_no_nul pages ((address + 1) % 2 ^ 64) max t) text is
+
+both : (a b : Bool) → IsTrue (a && b) → IsTrue a × IsTrue b
+both true true is = (refl, refl)
+both true false is = cc
+both false b is = cc
+
+pub each : (a b : Bool) → IsTrue a → IsTrue b → IsTrue (a && b)
+each true true p q = refl
+each true false p q = cc
+each false b p q = cc
+
+module _ {X : Type 0} (p : X → Bool) where
+  parts : (n : ℕ) (xs : List X) → IsTrue (list_all p xs) → IsTrue (list_all p (take n xs)) × IsTrue (list_all p (drop n xs))
+  parts n xs is = both _ _ (sym (list_all-append p (take n xs) (drop n xs)) ∙ ap (list_all p) (take-append-drop n xs) ∙ is)
+
+  pub all-take : (n : ℕ) (xs : List X) → IsTrue (list_all p xs) → IsTrue (list_all p (take n xs))
+  all-take n xs is = (parts n xs is).0
+
+  pub all-drop : (n : ℕ) (xs : List X) → IsTrue (list_all p xs) → IsTrue (list_all p (drop n xs))
+  all-drop n xs is = (parts n xs is).1
+
+  pub all-append : (xs ys : List X) → IsTrue (list_all p xs) → IsTrue (list_all p ys) → IsTrue (list_all p (xs ++ ys))
+  all-append xs ys is also = list_all-append p xs ys ∙ each _ _ is also
+
+abbrev pub not_nul : ℕ → Bool
+not_nul b = not (b == 0)
+
+skipped : (text : List ℕ) → IsTrue (has_no_nul text) → IsTrue (has_no_nul (blanks_skipped text))
+unfolding blanks_skipped
+skipped text is = all-drop not_nul (prefix_len is_blank text) text is
+
+cut : (text : List ℕ) → IsTrue (has_no_nul text) → IsTrue (has_no_nul (blanks_cut text))
+unfolding blanks_cut
+cut text is = all-take not_nul _ text is
+
+some : (word : List ℕ) → IsTrue (has_no_nul word) → IsTrue (list_all has_no_nul (option_to_list (some_word word)))
+some word is = by_test (length word == 0)
+  where
+    by_test : (empty : Bool) → IsTrue (list_all has_no_nul (option_to_list (if empty then None else Some word)))
+    by_test true = refl
+    by_test false = each _ true is refl
+
+named : (text : List ℕ) (s : Script) → IsTrue (has_no_nul text) → script_named text ≡ Some s → HasNoNul s
+unfolding script_named
+named text s clean is = by_test (length path == 0) is
+  where
+    path : List ℕ
+    path = take (position_or_len is_blank text) text
+
+    found : Script
+    found = record { interpreter = path; argument = some_word (blanks_skipped (drop (length path) text)) }
+
+    by_test : (empty : Bool) → (if empty then None else Some found) ≡ Some s → HasNoNul s
+    by_test true is = cc
+    by_test false is =
+        let same : found ≡ s = cc in
+        subst HasNoNul same (record {
+          interpreter = all-take not_nul (position_or_len is_blank text) text clean;
+          argument = some (blanks_skipped (drop (length path) text)) (skipped (drop (length path) text) (all-drop not_nul (length path) text clean));
+        })
+
+by_line : (line : List ℕ) (s : Script) → script_by line ≡ Some s → HasNoNul s
+unfolding script_by
+by_line line s is = by_tests (nat_lt SCRIPT_LINE_LIMIT (length line)) (has_no_nul line) refl is
+  where
+    by_tests : (long clean : Bool) → has_no_nul line ≡ clean → (if long || not clean then None else script_named (blanks_cut (blanks_skipped (drop 2 line)))) ≡ Some s → HasNoNul s
+    by_tests true clean same is = cc
+    by_tests false false same is = cc
+    by_tests false true same is = named (blanks_cut (blanks_skipped (drop 2 line))) s (cut (blanks_skipped (drop 2 line)) (skipped (drop 2 line) (all-drop not_nul 2 line same))) is
+
+-- what a script says has none
+pub script-no_nul : {E : Type 0} (found : Result (Option Script) E) (line : List ℕ) → IfOk found (λ script. script ≡ script_by line) → IfOk found (λ script. IfSome script HasNoNul)
+script-no_nul (Ok None) line is = tt
+script-no_nul (Ok (Some s)) line is = by_line line s (sym is)
+script-no_nul (Err e) line is = tt
+
+-- nor have the arguments of its interpreter
+pub args-no_nul : (s : Script) (path : List ℕ) (args : List (List ℕ)) → HasNoNul s → IsTrue (has_no_nul path) → IsTrue (list_all has_no_nul args) → IsTrue (list_all has_no_nul (script_args s path args))
+args-no_nul s path args own clean all =
+    each (has_no_nul s.interpreter) _ own.interpreter
+    (all-append has_no_nul (option_to_list s.argument) (path ∷ drop 1 args) own.argument
+    (each (has_no_nul path) _ clean (all-drop has_no_nul 1 args all)))
+
+from_short : (address max : ℕ) (byte : Option ℕ) (rest : Result (List ℕ) TextErr) → ((text : List ℕ) → rest ≡ Ok text → length text + 1 ≤ max) → (text : List ℕ) → text_from address byte rest ≡ Ok text → length text ≤ max
+from_short address max None rest more text is = cc
+from_short address max (Some zero) rest more text is = let same : [] ≡ text = cc in subst (λ t. length t ≤ max) same (omega arith)
+from_short address max (Some (suc byte)) (Ok rest) more text is =
+    let same : (suc byte ∷ rest) ≡ text = cc in let short : length rest + 1 ≤ max = more rest refl in
+    subst (λ t. length t ≤ max) same (omega arith)
+from_short address max (Some (suc byte)) (Err error) more text is = cc
+
+-- a text is shorter than the bytes among which its NUL was looked for
+text_short : (pages : List PageView) (address max : ℕ) (text : List ℕ) → text_at pages address max ≡ Ok text → length text + 1 ≤ max
+unfolding text_at
+text_short pages address zero text is = cc
+text_short pages address (suc max) text is =
+    let short = from_short address max (byte_at pages READ address) (text_at pages ((address + 1) % 2 ^ 64) max) (λ t. text_short pages ((address + 1) % 2 ^ 64) max t) text is in
+    omega arith
+
+path_read : (found : Result (List ℕ) TextErr) (text : List ℕ) → Ok text ≡ not_empty (text_or NameTooLong found) → found ≡ Ok text
+path_read (Ok []) text is = cc
+path_read (Ok (byte ∷ bytes)) text is = let same : text ≡ byte ∷ bytes = cc in ap Ok (sym same)
+path_read (Err (text_err.Miss miss)) text is = cc
+path_read (Err text_err.Long) text is = cc
+path_read (Err text_err.NoMemory) text is = cc
+
+-- a path that was read has none, and is within the limit
+pub path-no_nul : (pages : List PageView) (address : ℕ) (text : List ℕ) → Ok text ≡ path_argument pages address → IsTrue (has_no_nul text)
+path-no_nul pages address text is = text_no_nul pages address (suc PATH_LIMIT) text (path_read (text_at pages address (suc PATH_LIMIT)) text is)
+
+pub path-short : (pages : List PageView) (address : ℕ) (text : List ℕ) → Ok text ≡ path_argument pages address → length text ≤ PATH_LIMIT
+path-short pages address text is =
+    let short = text_short pages address (suc PATH_LIMIT) text (path_read (text_at pages address (suc PATH_LIMIT)) text is) in
+    omega arith

@@ -1,0 +1,12 @@
+use Rattle.std.proofs.Common.{Ok, sym, ap, ◌∙◌}
+use Rattle.dt_tree.specs.Table.{shape_of}
+use Rattle.dt_exec.proofs.Opened.{is_file, file-bytes}
+use Rattle.dt_exec.proofs.program.file_of.Goals as goal
+
+pub returns-clause-ok : goal.returns-clause-ok
+returns-clause-ok g c =
+    let v = (g.H.Host.view c.args.host.now).forest in
+    let no_dir = sym (c.is_dir.ensures v c.requires.stands) ∙ c.if-is_dir.false in
+    let no_link = sym (c.is_link.ensures v c.requires.stands) ∙ c.if-is_link.false in
+    ap Ok (c.new.ensures ∙ c.in_ok-read_file.ensures.ok)
+    ∙ file-bytes (shape_of c.args.tree.now v) c.args.inode (is_file (shape_of c.args.tree.now v) c.args.inode c.requires.live no_dir no_link)

@@ -1,0 +1,143 @@
+// What execve(2) is handed in memory: a path, and two lists of words.
+ghost use Rattle.std.specs.Prelude.{◌≡◌, Err, IfOk, IsTrue, MatchResult, MatchOption};
+ghost use Rattle.dt_base.specs.Path.{has_no_nul};
+ghost use Rattle.dt_space.specs.Text.{text_at};
+ghost use Rattle.dt_exec.specs.Arguments.{text_or, path_argument, word_at, words_at, list_argument, one_at_least, within_limit, command_argument};
+ghost use Rattle.dt_exec.specs.Listed.{AreListed, IsTooBig};
+
+use crate::limits::{LIST_ENTRY, LIST_LIMIT};
+use crate::word_list::WordList;
+use dt_base::{ADDRESS_LIMIT, Blob, Command, Errno, NoMemory, PATH_LIMIT};
+use dt_elf::are_too_many;
+use dt_space::{Space, TextErr};
+use std::alloc::Global;
+
+/// The path at an address: EFAULT where it can't be read, ENAMETOOLONG over 4,095 bytes, ENOENT where it is empty.
+pub fn path_argument(space: &Space, at: u64) -> Result<Result<Blob, Errno>, NoMemory>
+    ensures value { IfOk result (λ path. path ≡ path_argument space.now at) }
+{
+    match text_or(Errno::NameTooLong, space, at, PATH_LIMIT as usize + 1)? {
+        Ok(path) if path.is_empty() => Ok(Err(Errno::NoEnt)),
+        found => Ok(found),
+    }
+}
+
+/// The words of two lists: EFAULT where a byte of either can't be read, else E2BIG where they count more than 131,072.
+#[tactic(auto, unfolding(crate::specs::Arguments::command_argument))]
+pub fn command_argument(
+    alloc: Global,
+    space: &Space,
+    argv: u64,
+    envp: u64,
+) -> Result<Result<Command, Errno>, NoMemory>
+    ensures { IfOk result (λ command. command ≡ command_argument space.now argv envp) }
+{
+    let args = match list_argument(alloc, space, argv)? {
+        Ok(args) => args,
+        Err(errno) => return Ok(Err(errno)),
+    };
+    let env = match list_argument(alloc, space, envp)? {
+        Ok(env) => env,
+        Err(errno) => return Ok(Err(errno)),
+    };
+    let Some(args) = args else {
+        return Ok(Err(Errno::TooBig));
+    };
+    let Some(env) = env else {
+        return Ok(Err(Errno::TooBig));
+    };
+    Ok(within_limit(Command::new(one_at_least(args)?, env)))
+}
+
+// A text, or this refusal where no NUL ends it among `max` bytes.
+fn text_or(
+    too_long: Errno,
+    space: &Space,
+    at: u64,
+    max: usize,
+) -> Result<Result<Blob, Errno>, NoMemory>
+    ensures value { IfOk result (λ text. text ≡ text_or too_long (text_at space.now at max)) }
+    ensures no_nul { IfOk result (λ text. IfOk text (λ bytes. IsTrue (has_no_nul bytes))) }
+{
+    match space.read_text(at, max) {
+        Ok(text) => Ok(Ok(text)),
+        Err(TextErr::Miss(_)) => Ok(Err(Errno::Fault)),
+        Err(TextErr::Long) => Ok(Err(too_long)),
+        Err(TextErr::NoMemory) => Err(NoMemory),
+    }
+}
+
+// A word of a list, which has no limit of its own.
+fn word_at(space: &Space, at: u64) -> Result<Result<Blob, Errno>, NoMemory>
+    ensures value { IfOk result (λ word. word ≡ word_at space.now at) }
+    ensures no_nul { IfOk result (λ word. IfOk word (λ bytes. IsTrue (has_no_nul bytes))) }
+{
+    text_or(Errno::Fault, space, at, ADDRESS_LIMIT as usize)
+}
+
+// The words of a list; None where they count more than the limit.
+fn list_argument(
+    alloc: Global,
+    space: &Space,
+    at: u64,
+) -> Result<Result<Option<Vec<Blob>>, Errno>, NoMemory>
+    ensures { IfOk result (λ found. MatchResult found
+        (λ list. MatchOption list
+        (IsTooBig (list_argument space.now at)) (λ words. AreListed (list_argument space.now at) words.items))
+        (λ errno. list_argument space.now at ≡ Err errno)) }
+{
+    if at == 0 {
+        return Ok(Ok(Some(Vec::new(alloc))));
+    }
+    words_at(alloc, space, at)
+}
+
+// The words of a list that is not at address 0.
+fn words_at(
+    alloc: Global,
+    space: &Space,
+    at: u64,
+) -> Result<Result<Option<Vec<Blob>>, Errno>, NoMemory>
+    ensures { IfOk result (λ found. MatchResult found
+        (λ list. MatchOption list (IsTooBig (words_at space.now at LIST_LIMIT))
+        (λ words. AreListed (words_at space.now at LIST_LIMIT) words.items))
+        (λ errno. words_at space.now at LIST_LIMIT ≡ Err errno)) }
+{
+    let mut list = WordList::new(alloc);
+    let mut next = at;
+    for _index in 0..LIST_LIMIT {
+        let Ok(entry) = space.load8(next) else {
+            return Ok(Err(Errno::Fault));
+        };
+        if entry == 0 {
+            return Ok(Ok(list.within_limit()));
+        }
+        match word_at(space, entry)? {
+            Ok(word) => list.add(word)?,
+            Err(errno) => return Ok(Err(errno)),
+        }
+        next = next.wrapping_add(LIST_ENTRY);
+    }
+    Ok(Err(Errno::Fault))
+}
+
+// The words, or one empty word where there is none.
+fn one_at_least(words: Vec<Blob>) -> Result<Vec<Blob>, NoMemory>
+    ensures { IfOk result (λ some. some.items ≡ one_at_least words.items) }
+{
+    let mut some = words;
+    if some.is_empty() {
+        some.push(Blob::new(Vec::new(*some.allocator())))?;
+    }
+    Ok(some)
+}
+
+// A command, unless its words count more than the limit.
+fn within_limit(command: Command) -> Result<Command, Errno>
+    ensures { result ≡ within_limit command }
+{
+    if are_too_many(&command) {
+        return Err(Errno::TooBig);
+    }
+    Ok(command)
+}

@@ -1,0 +1,53 @@
+use Rattle.std.proofs.Common.{◌≡◌, ◌||◌, ℕ, List, Bool, true, false, map, length, sym, ap, subst, ◌∙◌}
+use Rattle.std.specs.Prelude.{MatchBool}
+use Rattle.std.specs.List.Sorted.{IsPermutation}
+use Rattle.std.specs.FinMap.{entries}
+use Rattle.std.proofs.lemmas.List.{length-map}
+use Rattle.std.proofs.lemmas.List.Sorted.{IsPermutation-trans}
+use Rattle.dt_host.specs.declared.entry.HostEntry.{HostEntry}
+use Rattle.dt_host.specs.World.{names_at}
+use Rattle.dt_host.specs.Legal.{named}
+use Rattle.dt_memhost.specs.Script.{Script, fails_next, counted, picked_all, words_of}
+use Rattle.dt_memhost.specs.Order.{order_at, picked_order}
+use Rattle.dt_memhost.specs.Host.{HostState, ListsBy}
+use Rattle.dt_memhost.proofs.Arranged.{map-picked_order, IsPermutation-picked_order}
+use Rattle.dt_memhost.proofs.host.calls.MemHostHost.names.Goals as goal
+
+-- the entries in the order of the words, where they were found in that of their binding
+lists : (old : HostState) (d : ℕ) (found arranged : List HostEntry) (before after : Script) → map named found ≡ order_at old.orders d → before ≡ counted old.script → arranged ≡ picked_order (words_of (length found) before) found → after ≡ picked_all (length found) before → ListsBy old d (record old { script = after }) arranged
+lists old d found arranged before after bound calls turned left =
+    let order = order_at old.orders d in
+    let many : length found ≡ length order = sym (length-map found named) ∙ ap length bound in
+    record {
+      chosen =
+          ap (map named) turned
+          ∙ map-picked_order named (words_of (length found) before) found
+          ∙ ap (picked_order (words_of (length found) before)) bound
+          ∙ ap (λ s. picked_order (words_of (length found) s) order) calls
+          ∙ ap (λ n. picked_order (words_of n old.script) order) many;
+      kept = ap (λ s. record old { script = s }) (left ∙ ap (picked_all (length found)) calls ∙ ap (λ n. picked_all n (counted old.script)) many);
+    }
+
+-- a call that isn't listed answers as said
+unlisted : (F L : Type 0) (listed : Bool) → (false || listed) ≡ false → L → MatchBool listed F L
+unlisted F L true h said = cc
+unlisted F L false h said = said
+
+pub returns-clause-exact : goal.returns-clause-exact
+returns-clause-exact c =
+    let inside = c.self.inside in
+    let old : HostState = record { view = record { forest = inside.forest.forest; pids = inside.pids }; orders = inside.forest.orders; script = inside.script } in
+    let new : HostState = record { view = record { forest = inside.forest.forest; pids = inside.pids }; orders = inside.forest.orders; script = c.arrange.new.script } in
+    let arranged = c.in_ok-arrange.ensures in
+    let said : ListsBy old c.args.dir new c.in_ok-arrange.field-0.items =
+    lists old c.args.dir c.in_ok-found.found.items c.in_ok-arrange.field-0.items c.begin.new.self c.arrange.new.script c.in_ok-found.ensures.order c.in_ok-begin.ensures.ok arranged.order arranged.after in
+    rw (← c.self.view_is) (unlisted _ _ (fails_next inside.script) c.in_ok-begin.ensures.unlisted said)
+
+pub returns-clause-ok : goal.returns-clause-ok
+returns-clause-ok c =
+    let found = c.in_ok-found.found in
+    let words = words_of (length found.items) c.begin.new.self in
+    let turned : map named c.in_ok-arrange.field-0.items ≡ picked_order words (map named found.items) =
+    ap (map named) c.in_ok-arrange.ensures.order ∙ map-picked_order named words found.items in
+    rw (← c.self.view_is) (subst (IsPermutation (entries (names_at c.self.inside.forest.forest c.args.dir))) (sym turned)
+    (IsPermutation-trans _ _ _ c.in_ok-found.ensures.each (IsPermutation-picked_order words (map named found.items))))

@@ -1,0 +1,131 @@
+// Values by number, which contracts see as a finite map.
+ghost use Rattle.std.specs.Prelude.{◌≡◌, ◌≢◌, ℕ, Some, IsSome, is_some, IfOk, OnOk, OnErr};
+ghost use Rattle.std.specs.Option.{option_copied};
+ghost use Rattle.std.specs.FinMap.{FinMap, get, insert, remove, empty, keys};
+ghost use Rattle.std.specs.Ordering.{nat_cmp};
+ghost use Rattle.std.specs.BTreeMap as tree;
+
+use std::alloc::{AllocError, Global};
+use std::collections::BTreeMap;
+use std::marker::Model;
+use std::mem;
+
+/// Values by number.
+#[derive(Drop)]
+pub struct Numbered<X: Drop> {
+    alloc: Global,
+    map: BTreeMap<u64, X>,
+}
+
+impl<X: Drop> Model for Numbered<X> {
+    ghost use Rattle.std.specs.Ordering.{nat_cmp};
+    ghost use Rattle.std.specs.FinMap.{FinMap, code};
+    ghost use Rattle.std.specs.Coded.{coded_ℕ};
+    ghost use Rattle.dt_host.specs.Entries.{map_of};
+
+    ghost Value = { FinMap nat_cmp X };
+
+    ghost coded = { code coded_ℕ X.code };
+
+    ghost view = { λ m. map_of (λ n. n) (λ x. x) m.map.entries };
+}
+
+impl<X: Drop> Numbered<X> {
+    /// No values.
+    pub fn new(alloc: Global) -> Self
+        ensures { result ≡ empty }
+    {
+        Numbered {
+            alloc,
+            map: BTreeMap::new(alloc),
+        }
+    }
+
+    /// The value of a number, if it has one.
+    pub fn get(&self, n: u64) -> Option<&X>
+        ensures { option_copied result ≡ get self.now n }
+    {
+        self.map.get(&n)
+    }
+
+    /// Whether a number has a value.
+    pub fn contains(&self, n: u64) -> bool
+        ensures { result ≡ is_some (get self.now n) }
+    {
+        self.get(n).is_some()
+    }
+
+    /// The numbers that have a value, rising; fails only for want of memory.
+    pub fn numbers(&self) -> Result<Vec<u64>, AllocError>
+        ensures { IfOk result (λ numbers. numbers.items ≡ keys self.now) }
+    {
+        listed(self.alloc, &self.map)
+    }
+
+    /// Gives a number a value, in the place of one that it may have.
+    pub fn put(&mut self, n: u64, x: X) -> Result<(), AllocError>
+        ensures ok { OnOk result (self.new ≡ insert self.old n x) }
+        ensures err { OnErr result (self.new ≡ self.old) }
+    {
+        self.map.insert(n, x)?;
+        Ok(())
+    }
+
+    /// Puts another value in the place of one.
+    pub fn set(&mut self, n: u64, x: X)
+        requires { IsSome (get self.old n) }
+        ensures { self.new ≡ insert self.old n x }
+    {
+        replace(&mut self.map, n, x);
+    }
+
+    /// Puts another value in the place of one, and gives that one.
+    pub fn swap(&mut self, n: u64, x: X) -> X
+        requires { IsSome (get self.old n) }
+        ensures found { get self.old n ≡ Some result }
+        ensures map { self.new ≡ insert self.old n x }
+    {
+        exchange(&mut self.map, n, x)
+    }
+
+    /// Takes the value of a number away, if it has one, and gives it.
+    pub fn take(&mut self, n: u64) -> Option<X>
+        ensures found { result ≡ get self.old n }
+        ensures map { self.new ≡ remove self.old n }
+    {
+        self.map.remove(&n)
+    }
+}
+
+// The numbers that have a value, rising.
+fn listed<X: Drop>(alloc: Global, map: &BTreeMap<u64, X>) -> Result<Vec<u64>, AllocError>
+    ensures numbers { IfOk result (λ numbers. numbers.items ≡ tree.keys map.now) }
+    ensures rising { tree.IsOrdered nat_cmp map.now }
+{
+    map.keys().copied().collect(alloc)
+}
+
+// Puts another value in the place of one.
+fn replace<X: Drop>(map: &mut BTreeMap<u64, X>, n: u64, x: X)
+    requires { IsSome (tree.get nat_cmp map.old n) }
+    ensures here { tree.get nat_cmp map.new n ≡ Some x }
+    ensures others { (q : ℕ) → q ≢ n → tree.get nat_cmp map.new q ≡ tree.get nat_cmp map.old q }
+{
+    match map.get_mut(&n) {
+        Some(place) => *place = x,
+        None => {}
+    }
+}
+
+// Puts another value in the place of one, and gives that one.
+fn exchange<X: Drop>(map: &mut BTreeMap<u64, X>, n: u64, x: X) -> X
+    requires { IsSome (tree.get nat_cmp map.old n) }
+    ensures found { tree.get nat_cmp map.old n ≡ Some result }
+    ensures here { tree.get nat_cmp map.new n ≡ Some x }
+    ensures others { (q : ℕ) → q ≢ n → tree.get nat_cmp map.new q ≡ tree.get nat_cmp map.old q }
+{
+    let Some(place) = map.get_mut(&n) else {
+        unreachable!()
+    };
+    mem::replace(place, x)
+}

@@ -1,0 +1,5 @@
+pub mod Pairs
+pub mod Listed
+pub mod Standing
+pub mod Ending
+pub mod Lowest

@@ -1,0 +1,10 @@
+pub mod Turns
+pub mod Aheads
+pub mod Aways
+pub mod Works
+pub mod Noted
+pub mod Queued
+pub mod Placed
+pub mod Came
+pub mod Arriving
+pub mod Ending

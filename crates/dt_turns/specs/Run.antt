@@ -1,0 +1,62 @@
+-- A whole run: a function of the image, the command, the seed and the budget.
+use Rattle.std.specs.Prelude.{ℕ, zero, suc, ◌+◌, List, [], ◌∷◌, ◌++◌, Option, Some, None}
+use Rattle.dt_base.specs.declared.image.Entry.{Entry}
+use Rattle.dt_base.specs.declared.event.Event.{Event}
+use Rattle.dt_base.specs.declared.event.Verdict.{Verdict}
+use Rattle.dt_base.specs.declared.event.Verdict.TheVariants as verdict
+use Rattle.dt_base.specs.Command.{Words}
+use Rattle.dt_host.specs.Values.{map_values}
+use Rattle.dt_procs.specs.declared.member.TheConstants.{FIRST_PID}
+use Rattle.dt_tree.specs.ImageTree.{image_tree}
+use Rattle.dt_container.specs.declared.container.Launch.{Launch}
+use Rattle.dt_container.specs.declared.container.Launch.TheVariants.{Started, NoStart}
+use Rattle.dt_container.specs.Container.{Shared, Container, first_container}
+use Rattle.dt_container.specs.Launch.{launch}
+use Rattle.dt_turns.specs.Work.{owing}
+use Rattle.dt_turns.specs.Turn.{State, Turn, turn}
+
+-- what a run gives: its events, its verdict, and what its processes shared at last
+pub record Run : Type 0 where
+  pub events : List Event
+  pub verdict : Verdict
+  pub last : Shared
+
+-- the same with earlier events before it
+abbrev pub after : List Event → Run → Run
+after events r = record { events = events ++ r.events; verdict = r.verdict; last = r.last }
+
+-- after a turn the run is over, or it goes on from the next state
+abbrev pub go_on : Turn → Option Verdict → (State → Run) → Run
+go_on t (Some verdict) rest = record { events = t.events; verdict = verdict; last = t.next.shared }
+go_on t None rest = after t.events (rest t.next)
+
+-- at most so many turns; after them the budget is spent
+unfoldable pub run_at_most : ℕ → State → Run
+run_at_most zero s = record { events = []; verdict = verdict.Budget; last = s.shared }
+run_at_most (suc most) s = let t = turn s in go_on t t.verdict (run_at_most most)
+
+-- turns until a verdict: each costs at least 1, and one more than the budget finds it spent
+unfoldable pub run_turns : State → Run
+run_turns s = run_at_most (s.queue.left + 1) s
+
+-- a run that begins: each process whose machine is at home owes a segment, and the first has the first turn
+abbrev pub first_state : Container → ℕ → State
+first_state c budget = record {
+  shared = c.shared;
+  works = map_values owing c.machines;
+  queue = record { order = FIRST_PID ∷ []; blocked = 0; left = budget };
+  next = c.next;
+}
+
+-- a program that was started runs until a verdict, and else the run is over at once
+abbrev pub run_from : ℕ → Container → Launch → Run
+run_from budget c Started = run_turns (first_state c budget)
+run_from budget c (NoStart errno) = record { events = []; verdict = verdict.NoStart errno; last = c.shared }
+
+-- the run of a command in a container
+abbrev pub run_in : ℕ → Container → Words → Run
+run_in budget c words = let l = launch c words in run_from budget l.container l.launch
+
+-- the run of a command on an image
+unfoldable pub run_of : List Entry → Words → ℕ → ℕ → Run
+run_of entries words seed budget = run_in budget (first_container (image_tree entries) seed) words

@@ -1,0 +1,102 @@
+// One turn of a run.
+ghost use Rattle.std.specs.Prelude.{◌≡◌, ◌<◌, Some, IsSome, IfOk, OnOk, IsErrOf};
+ghost use Rattle.std.specs.FinMap.{get};
+ghost use Rattle.dt_host.specs.Cause.{HasCause};
+ghost use Rattle.dt_sched.specs.Core.{head, IsCore};
+ghost use Rattle.dt_sched.specs.declared.settled.Head.TheVariants.{Ready};
+ghost use Rattle.dt_container.specs.declared.container.Served.TheVariants.{Blocked as blocked};
+ghost use Rattle.dt_container.specs.InCode.{container_of, home_of, turned_as};
+ghost use Rattle.dt_container.specs.Settle.{serve};
+ghost use Rattle.dt_container.specs.Sound.{IsSoundContainer};
+ghost use Rattle.dt_turns.specs.Queue.{told};
+ghost use Rattle.dt_turns.specs.Turn.{turn};
+ghost use Rattle.dt_turns.specs.Work.{stop_of};
+ghost use Rattle.dt_turns.specs.inner.InCode.{state_of, turn_as, phase_in, noted};
+ghost use Rattle.dt_turns.specs.inner.Good.{IsGood, steps_left};
+
+use crate::phase::Phase;
+use crate::state::State;
+use dt_base::Event;
+use dt_container::{Container, Served};
+use dt_host::{Host, HostErr};
+use dt_numbered::Numbered;
+use dt_rv64::Stop;
+use dt_sched::Settled;
+use std::alloc::Global;
+
+impl State {
+    /// Takes the turn of the head of the queue, which is ready, and answers what it shows.
+    pub fn turn<H: Host>(
+        &mut self,
+        alloc: Global,
+        host: &mut H,
+        vpid: u32,
+    ) -> Result<Vec<Event>, HostErr>
+        requires sound { IsSoundContainer self.old.container (H.view host.old) }
+        requires good { IsGood self.old }
+        requires core { IsCore self.old.core }
+        requires ready { head self.old.core ≡ Ready vpid }
+        ensures ok { IfOk result (λ events. turn (state_of self.old (H.view host.old))
+            ≡ turn_as (state_of self.new (H.view host.new)) events.items self.new.core.verdict) }
+        ensures sound { OnOk result (IsSoundContainer self.new.container (H.view host.new)) }
+        ensures good { OnOk result (IsGood self.new) }
+        ensures smaller { OnOk result (steps_left self.new.core < steps_left self.old.core) }
+        ensures cause { HasCause (H.count host.old) (H.count host.new) (IsErrOf result HostErr.Failed) }
+    {
+        let phase = self.phase(vpid);
+        let served = serve(alloc, host, &mut self.container, vpid, phase)?;
+        note(&mut self.phases, vpid, served);
+        self.core.settle(told(served));
+        Ok(self.container.take_events())
+    }
+}
+
+// Serves the stop of the segment that a process ran, or its waiting call again.
+fn serve<H: Host>(
+    alloc: Global,
+    host: &mut H,
+    container: &mut Container,
+    vpid: u32,
+    phase: Phase,
+) -> Result<Served, HostErr>
+    requires sound { IsSoundContainer container.old (H.view host.old) }
+    requires home { IsSome (get (home_of container.old.places) vpid) }
+    ensures ok { IfOk result (λ served. serve (container_of container.old (H.view host.old)) vpid (stop_of phase)
+        ≡ Some (turned_as (container_of container.new (H.view host.new)) served)) }
+    ensures sound { OnOk result (IsSoundContainer container.new (H.view host.new)) }
+    ensures cause { HasCause (H.count host.old) (H.count host.new) (IsErrOf result HostErr.Failed) }
+{
+    match phase {
+        Phase::Owes => container.serve(alloc, host, vpid, Stop::Slice),
+        Phase::Ran(seg) => container.serve(alloc, host, vpid, seg.stop),
+        Phase::Waits => container.retry(alloc, host, vpid),
+    }
+}
+
+// Notes where a process stands after its stop was served.
+fn note(phases: &mut Numbered<Phase>, vpid: u32, served: Served)
+    requires { served ≡ blocked → IsSome (get phases.old vpid) }
+    ensures { phases.new ≡ noted phases.old vpid served }
+{
+    match served {
+        Served::Done | Served::Child(_) | Served::LastChild(_) | Served::Ended => {
+            phases.take(u64::from(vpid));
+        }
+        Served::Blocked => phases.set(u64::from(vpid), Phase::Waits),
+        Served::Unsupported(_) => {}
+    }
+}
+
+// What the queue is told of a turn.
+fn told(served: Served) -> Settled
+    ensures { result ≡ told served }
+{
+    match served {
+        Served::Done => Settled::Again,
+        Served::Child(vpid) => Settled::Child(vpid),
+        Served::LastChild(vpid) => Settled::LastChild(vpid),
+        Served::Blocked => Settled::Waits,
+        Served::Ended => Settled::Gone,
+        Served::Unsupported(number) => Settled::Stopped(number),
+    }
+}
