@@ -1,5 +1,5 @@
-# The machine's speed beside that of a plain loop in Rust, how the times of a tree and of memory grow, and calls a second
-# beside qemu-riscv64. Nothing that is timed here is a test.
+# The machine's speed beside that of a plain loop in Rust, how the times of a tree and of memory grow, calls and children
+# a second beside qemu-riscv64, and the time of a turn among many processes. Nothing that is timed here is a test.
 
 .PHONY: bench
 
@@ -15,3 +15,4 @@ bench:
 	sh bench/best.sh crates/dt_bench_memory/out/dt_bench_memory 5
 	./dettrace run examples/hello -- /hello >bench/out/hello
 	python3 bench/calls/run.py crates/dettrace/out/dettrace
+	python3 bench/processes/run.py crates/dettrace/out/dettrace

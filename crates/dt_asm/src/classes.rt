@@ -4,7 +4,9 @@ ghost use Rattle.std.specs.Prelude.{◌≡◌, ◌&&◌, is_some, IfSome, Some};
 ghost use Rattle.dt_rv64.specs.declared.instruction.Instr.TheVariants.{Fence};
 ghost use Rattle.dt_rv64.specs.Instruction.{instr};
 ghost use Rattle.dt_asm.specs.Fits.{fits};
-ghost use Rattle.dt_asm.specs.inner.Classes.{is_lui_auipc_or_jump, is_branch, is_load, is_store, is_op_imm, is_op, is_op_multiply, is_op_imm_32, is_op_32, is_op_32_multiply, is_fence_or_system};
+ghost use Rattle.dt_asm.specs.inner.Classes.{is_lui_auipc_or_jump, is_branch, is_load, is_store, is_op_imm, is_op};
+ghost use Rattle.dt_asm.specs.inner.Classes.{is_op_multiply, is_op_imm_32, is_op_32, is_op_32_multiply};
+ghost use Rattle.dt_asm.specs.inner.Classes.{is_fence_or_system};
 
 use crate::shapes::{b_type, csr_type, i_type, j_type, r_type, s_type, shift_type, u_type};
 use dt_rv64::Instr;

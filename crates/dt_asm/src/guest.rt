@@ -1,5 +1,6 @@
 // A guest: items one after the other, and the file that they make.
-ghost use Rattle.std.specs.Prelude.{◌≡◌, ◌<◌, ◌+◌, ◌^◌, ◌∷◌, ◌++◌, [], map, IfOk, IfErr, IsOk, OnOk, OnErr, None, Some, pos};
+ghost use Rattle.std.specs.Prelude.{◌≡◌, ◌<◌, ◌+◌, ◌^◌, ◌∷◌, ◌++◌, [], map, IfOk, IfErr, IsOk, OnOk, OnErr, None, Some};
+ghost use Rattle.std.specs.Prelude.{pos};
 ghost use Rattle.dt_asm.specs.declared.item.Item.TheVariants.{Code, Branch, Jump, Bytes, Label};
 ghost use Rattle.dt_asm.specs.Item.{total, with_items};
 ghost use Rattle.dt_asm.specs.Refusal.{refusal_of};

@@ -1,7 +1,8 @@
 // The words of each format, from their fields (RISC-V unprivileged specification, "Base Instruction Formats" and
 // "Immediate Encoding Variants").
 ghost use Rattle.std.specs.Prelude.{◌≡◌, ◌<◌, ◌^◌, ◌/◌, ◌%◌, ◌*◌, ◌&&◌, is_some, IfSome};
-ghost use Rattle.dt_asm.specs.Fits.{is_b_immediate, is_u_immediate, is_j_immediate, is_i_immediate, is_counter, is_register, fits_r, fits_i, fits_s, fits_b, fits_u, fits_j, fits_shift};
+ghost use Rattle.dt_asm.specs.Fits.{is_b_immediate, is_u_immediate, is_j_immediate, is_i_immediate, is_counter};
+ghost use Rattle.dt_asm.specs.Fits.{is_register, fits_r, fits_i, fits_s, fits_b, fits_u, fits_j, fits_shift};
 ghost use Rattle.dt_asm.specs.inner.Shapes.{IsBits, IsR, IsI, IsShift, IsCsr, IsS, IsB, IsU, IsJ};
 
 const REGISTERS: u8 = 32;

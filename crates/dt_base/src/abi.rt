@@ -163,8 +163,8 @@ pub const MAP_NORESERVE: u64 = 0x4000;
 /// The mapping is fit for a stack.
 pub const MAP_STACK: u64 = 0x2_0000;
 
-/// To open for writing alone (open(2), asm-generic/fcntl.h, as all flags that begin with O). Without it and the next one
-/// it is for reading.
+/// To open for writing alone (open(2), asm-generic/fcntl.h, as all flags that begin with O). Without it and the next
+/// one it is for reading.
 pub const O_WRONLY: u32 = 0x1;
 
 /// To open for reading and writing.

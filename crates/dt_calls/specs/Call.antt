@@ -1,35 +1,71 @@
 -- What a stop of a process asks for, and the system calls by their numbers (syscall(2), riscv64).
-use Rattle.std.specs.Prelude.{ℕ, ◌||◌, ◌==◌, if◌then◌else◌}
+use Rattle.std.specs.Prelude.{ℕ, Bool, ◌||◌, ◌==◌, if◌then◌else◌}
 use Rattle.dt_base.specs.declared.abi.TheConstants.{A0, A7, EXIT, EXIT_GROUP, BRK, MUNMAP, MMAP, MPROTECT}
 use Rattle.dt_base.specs.Abi.{exit_code}
+use Rattle.dt_base.specs.declared.errno.Errno.TheVariants.{NoSys}
 use Rattle.dt_base.specs.declared.event.End.TheVariants.{Code, Signal}
 use Rattle.dt_rv64.specs.declared.machine.Machine.{Machine}
 use Rattle.dt_rv64.specs.declared.segments.Stop.{Stop}
 use Rattle.dt_rv64.specs.declared.segments.Stop.TheVariants.{Call, Counter, Slice, Fault}
 use Rattle.dt_rv64.specs.Effects.{register}
 use Rattle.dt_calls.specs.declared.call.effect.Outcome.TheVariants.{Done, Ends}
+use Rattle.dt_calls.specs.declared.numbers.TheConstants.{SET_TID_ADDRESS, SET_ROBUST_LIST, SCHED_YIELD, UNAME, GETPID, GETPPID, GETUID, GETEUID, GETGID, GETEGID, GETTID, MREMAP, CLONE, EXECVE, MADVISE, WAIT4, PRLIMIT64, STATX, RSEQ}
+use Rattle.dt_calls.specs.declared.shared.Process.{Process}
 use Rattle.dt_calls.specs.Container.{Shared}
-use Rattle.dt_calls.specs.Effect.{Effect, quiet, reads_counter}
+use Rattle.dt_calls.specs.Effect.{Effect, quiet, done, refused, reads_counter}
 use Rattle.dt_calls.specs.FileCalls.{file_call}
 use Rattle.dt_calls.specs.MemoryCalls.{brk_call, munmap_call, mmap_call, mprotect_call}
+use Rattle.dt_calls.specs.Identity.{getpid_call, getppid_call, set_robust_list_call, uname_call}
+use Rattle.dt_calls.specs.Clone.{clone_call}
+use Rattle.dt_calls.specs.Execve.{execve_call}
+use Rattle.dt_calls.specs.Wait.{wait4_call}
 
 -- exit(2) and exit_group(2): the process ends with a code
-unfoldable pub exit_call : Shared → Machine → Effect
-exit_call c m = quiet c m (Ends (Code (exit_code (register m A0))))
+unfoldable pub exit_call : Shared → Process → Machine → Effect
+exit_call c own m = quiet c own m (Ends (Code (exit_code (register m A0))))
 
--- what the call of a number does
-unfoldable pub call_of : ℕ → Shared → Machine → Effect
-call_of number c m =
-    if (number == EXIT) || (number == EXIT_GROUP) then exit_call c m
-    else if number == BRK then brk_call c m
-    else if number == MUNMAP then munmap_call c m
-    else if number == MMAP then mmap_call c m
-    else if number == MPROTECT then mprotect_call c m
-    else file_call number c m
+-- a call of one of these numbers is done and answers 0: sched_yield(2), and getuid(2) and its kin, since all is root's
+abbrev pub answers_zero : ℕ → Bool
+answers_zero number =
+    (number == SCHED_YIELD) || (number == GETUID) || (number == GETEUID) || (number == GETGID) || (number == GETEGID)
+
+-- a call of one of these numbers is refused with ENOSYS, so that a C library goes another way
+abbrev pub is_missing : ℕ → Bool
+is_missing number =
+    (number == MREMAP) || (number == MADVISE) || (number == PRLIMIT64) || (number == STATX) || (number == RSEQ)
+
+-- the calls that tell a process who it is, and those that do nothing; any other is one on files, time or random bytes
+unfoldable pub identity_call : ℕ → Shared → Process → Machine → Effect
+identity_call number c own m =
+    if (number == GETPID) || (number == GETTID) || (number == SET_TID_ADDRESS) then getpid_call c own m
+    else if number == GETPPID then getppid_call c own m
+    else if number == SET_ROBUST_LIST then set_robust_list_call c own m
+    else if number == UNAME then uname_call c own m
+    else if answers_zero number then done c own m 0
+    else if is_missing number then refused c own m NoSys
+    else file_call number c own m
+
+-- the calls on memory; any other is one of those above
+unfoldable pub memory_call : ℕ → Shared → Process → Machine → Effect
+memory_call number c own m =
+    if number == BRK then brk_call c own m
+    else if number == MUNMAP then munmap_call c own m
+    else if number == MMAP then mmap_call c own m
+    else if number == MPROTECT then mprotect_call c own m
+    else identity_call number c own m
+
+-- what the call of a number does; it is handed the pid that a child gets
+unfoldable pub call_of : ℕ → Shared → ℕ → Process → Machine → Effect
+call_of number c next own m =
+    if (number == EXIT) || (number == EXIT_GROUP) then exit_call c own m
+    else if number == CLONE then clone_call c next own m
+    else if number == EXECVE then execve_call c own m
+    else if number == WAIT4 then wait4_call c own m
+    else memory_call number c own m
 
 -- a call is served by its number, a counter is read, a fault's signal ends the process, and at the end of a slice it goes on
-unfoldable pub served : Shared → Machine → Stop → Effect
-served c m Call = call_of (register m A7) c m
-served c m (Counter rd) = reads_counter c m rd
-served c m (Fault signal) = quiet c m (Ends (Signal signal))
-served c m Slice = quiet c m Done
+unfoldable pub served : Shared → ℕ → Process → Machine → Stop → Effect
+served c next own m Call = call_of (register m A7) c next own m
+served c next own m (Counter rd) = reads_counter c own m rd
+served c next own m (Fault signal) = quiet c own m (Ends (Signal signal))
+served c next own m Slice = quiet c own m Done

@@ -6,6 +6,7 @@ use Rattle.dt_rv64.specs.Effects.{register}
 use Rattle.dt_scene.specs.Scene.{Scene, Row}
 use Rattle.dt_fcalls.specs.Calls.{file_row}
 use Rattle.dt_iocalls.specs.Calls.{is_io, io_row}
+use Rattle.dt_calls.specs.declared.shared.Process.{Process}
 use Rattle.dt_calls.specs.Container.{Shared}
 use Rattle.dt_calls.specs.Effect.{Effect, answers}
 
@@ -15,34 +16,29 @@ arguments m =
     register m A0 ∷ register m A1 ∷ register m A2 ∷ register m A3 ∷ register m A4 ∷ register m A5 ∷ []
 
 -- what such a call sees
-abbrev pub scene_of : Shared → Machine → Scene
-scene_of c m = record {
+abbrev pub scene_of : Shared → Process → Machine → Scene
+scene_of c own m = record {
   tree = c.tree;
   files = c.files;
   clock = c.clock;
   rand = c.rand;
-  caller = c.process.caller;
+  caller = own.caller;
   space = m.space;
 }
 
 -- what is shared, as such a call leaves it
 abbrev pub with_scene : Shared → Scene → Shared
-with_scene c s = record c {
-  tree = s.tree;
-  files = s.files;
-  clock = s.clock;
-  rand = s.rand;
-  process = record c.process { caller = s.caller };
-}
+with_scene c s = record c { tree = s.tree; files = s.files; clock = s.clock; rand = s.rand }
 
 -- the row of the call of a number: one on open files, or one on paths, names, time or random bytes
 unfoldable pub row_of : ℕ → List ℕ → Scene → Row
 row_of number args s = if is_io number then io_row number args s else file_row number args s
 
 -- the call of a number leaves this, and gives its answer
-abbrev pub left : Shared → Machine → ℕ → Row → Effect
-left c m number r = answers (with_scene c r.next) (record m { space = r.next.space }) number r.answer
+abbrev pub left : Shared → Process → Machine → ℕ → Row → Effect
+left c own m number r =
+    answers (with_scene c r.next) (record own { caller = r.next.caller }) (record m { space = r.next.space }) number r.answer
 
 -- the call of a number, served by its row
-unfoldable pub file_call : ℕ → Shared → Machine → Effect
-file_call number c m = left c m number (row_of number (arguments m) (scene_of c m))
+unfoldable pub file_call : ℕ → Shared → Process → Machine → Effect
+file_call number c own m = left c own m number (row_of number (arguments m) (scene_of c own m))

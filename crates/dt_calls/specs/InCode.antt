@@ -1,24 +1,27 @@
--- What the code has in hand, as the definitions see it with the nodes of its host.
-use Rattle.std.specs.Prelude.{◌≡◌, ℕ, List, Option, None, IsSome}
+-- What the code has in hand, as the definitions see it with what its host keeps.
+use Rattle.std.specs.Prelude.{ℕ, List, [], ◌∷◌, Option, None, Some, IsSome}
+use Rattle.std.specs.Ordering.{nat_cmp}
+use Rattle.std.specs.FinMap.{FinMap, empty, entries, get, insert, remove}
 use Rattle.dt_base.specs.declared.event.Event.{Event}
 use Rattle.dt_rv64.specs.declared.machine.Machine.{Machine}
 use Rattle.dt_host.specs.World.{World}
+use Rattle.dt_procs.specs.Table.{members_of}
 use Rattle.dt_tree.specs.Table.{tree_of}
 use Rattle.dt_calls.specs.declared.call.effect.Effect.{Effect as EffectInCode}
 use Rattle.dt_calls.specs.declared.container.Launch.{Launch}
 use Rattle.dt_calls.specs.declared.container.Served.{Served}
-use Rattle.dt_calls.specs.declared.numbers.TheConstants.{FIRST_PID}
 use Rattle.dt_calls.specs.declared.shared.Process.{Process}
 use Rattle.dt_calls.specs.declared.shared.Shared.{Shared as SharedInCode}
-use Rattle.dt_calls.specs.Container.{Shared, Container}
+use Rattle.dt_calls.specs.Container.{Shared, Container, Machines}
 use Rattle.dt_calls.specs.Effect.{Effect}
 use Rattle.dt_calls.specs.Launch.{Launched}
-use Rattle.dt_calls.specs.Settle.{Settled}
+use Rattle.dt_calls.specs.Settle.{Turned}
 
--- a container in code: its table of inodes stands for a tree where the host's nodes are known
+-- a container in code: its tables of inodes and pids stand for a tree and for processes where what the host keeps is known;
+-- each live process has a place for its machine, which is empty where the machine is away
 pub record ContainerView : Type 0 where
   pub shared : SharedInCode
-  pub machine : Option Machine
+  pub places : FinMap nat_cmp (Option Machine)
   pub events : List Event
 
 -- what is shared
@@ -26,33 +29,53 @@ abbrev pub shared_of : SharedInCode → World → Shared
 shared_of c w = record {
   tree = tree_of c.fs.tree w.forest;
   files = c.fs.files;
-  process = c.process;
   clock = c.fs.clock;
   rand = c.fs.rand;
+  members = members_of c.pids;
+  processes = c.processes;
 }
+
+-- the machine of a place, or none
+abbrev pub placed : Machines → ℕ → Option Machine → Machines
+placed machines p None = remove machines p
+placed machines p (Some m) = insert machines p m
+
+-- the machines in these places
+abbrev pub home_in : List (ℕ × Option Machine) → Machines
+home_in [] = empty
+home_in (e ∷ es) = placed (home_in es) e.0 e.1
+
+-- the machines at home
+unfoldable pub home_of : FinMap nat_cmp (Option Machine) → Machines
+home_of places = home_in (entries places)
+
+-- the places with that of a child, if there is one
+abbrev pub entered : FinMap nat_cmp (Option Machine) → ℕ → Option Machine → FinMap nat_cmp (Option Machine)
+entered places next None = places
+entered places next (Some m) = insert places next (Some m)
 
 -- a container
 abbrev pub container_of : ContainerView → World → Container
-container_of c w = record { shared = shared_of c.shared w; machine = c.machine; events = c.events }
+container_of c w = record {
+  shared = shared_of c.shared w;
+  machines = home_of c.places;
+  next = c.shared.pids.next;
+  events = c.events;
+}
 
--- a process lives: it is there, and has not ended
-pub record Lives (process : Process) (p : ℕ) : Type 0 where
-  pub there : p ≡ FIRST_PID
-  pub lives : process.end ≡ None
-
--- a process lives, and its machine is at home
-pub record IsHome (c : ContainerView) (p : ℕ) : Type 0 where
-  pub process : Lives c.shared.process p
-  pub machine : IsSome c.machine
+-- a process lives, and has a place for its machine
+pub record Lives (c : ContainerView) (p : ℕ) : Type 0 where
+  pub part : IsSome (get c.shared.processes p)
+  pub place : IsSome (get c.places p)
 
 -- what serving a stop did
-abbrev pub effect_as : Shared → Machine → EffectInCode → Effect
-effect_as c m r = record { shared = c; machine = m; events = r.events.items; outcome = r.outcome }
+abbrev pub effect_as : Shared → Process → Machine → EffectInCode → Effect
+effect_as c own m r = record { shared = c; own = own; machine = m; child = r.child; events = r.events.items; outcome = r.outcome }
 
 -- what launching came to
 abbrev pub launched_as : Container → Launch → Launched
 launched_as c l = record { container = c; launch = l }
 
--- what settling came to
-abbrev pub settled_as : Container → Served → Settled
-settled_as c s = record { container = c; served = s }
+-- what a turn came to
+abbrev pub turned_as : Container → Served → Turned
+turned_as c s = record { container = c; served = s }

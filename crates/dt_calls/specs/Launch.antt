@@ -1,13 +1,16 @@
 -- How a run starts its program (execve(2), from its path on).
-use Rattle.std.specs.Prelude.{Option, Some, Result, Ok, Err}
+use Rattle.std.specs.Prelude.{Result, Ok, Err}
+use Rattle.std.specs.FinMap.{insert}
 use Rattle.dt_base.specs.declared.errno.Errno.{Errno}
 use Rattle.dt_base.specs.Command.{Words}
 use Rattle.dt_exec.specs.declared.program.Program.{Program}
 use Rattle.dt_exec.specs.Program.{start_program}
+use Rattle.dt_procs.specs.declared.member.TheConstants.{FIRST_PID}
 use Rattle.dt_virt.specs.Words.{start_bytes}
 use Rattle.dt_calls.specs.declared.container.Launch.{Launch}
 use Rattle.dt_calls.specs.declared.container.Launch.TheVariants.{Started, NoStart}
-use Rattle.dt_calls.specs.Container.{Container, with_break}
+use Rattle.dt_calls.specs.Container.{Container, process_at, with_process}
+use Rattle.dt_calls.specs.Execve.{with_program}
 
 -- the container after a launch, and what it came to
 pub record Launched : Type 0 where
@@ -19,8 +22,8 @@ abbrev pub started : Container → Result Program Errno → Launched
 started c (Err errno) = record { container = c; launch = NoStart errno }
 started c (Ok program) = record {
   container = record c {
-    shared = with_break c.shared (record { start = program.break_start; end = program.break_start });
-    machine = Some program.machine;
+    shared = with_process c.shared (with_program (process_at c.shared FIRST_PID) program);
+    machines = insert c.machines FIRST_PID program.machine;
   };
   launch = Started;
 }

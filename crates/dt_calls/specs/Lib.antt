@@ -1,9 +1,13 @@
 pub mod Container
-pub mod Launch
 pub mod Effect
 pub mod FileCalls
 pub mod MemoryCalls
+pub mod Identity
+pub mod Clone
+pub mod Execve
+pub mod Wait
 pub mod Call
 pub mod Settle
-pub mod InCode
+pub mod Launch
 pub mod Sound
+pub mod InCode

@@ -8,29 +8,31 @@ use Rattle.dt_mcalls.specs.Brk.{Moved, brk_of}
 use Rattle.dt_mcalls.specs.Mmap.{mmap_of}
 use Rattle.dt_mcalls.specs.Munmap.{munmap_of}
 use Rattle.dt_mcalls.specs.Mprotect.{mprotect_of}
-use Rattle.dt_calls.specs.Container.{Shared, with_break}
+use Rattle.dt_calls.specs.declared.shared.Process.{Process}
+use Rattle.dt_calls.specs.Container.{Shared}
 use Rattle.dt_calls.specs.Effect.{Effect, done, answers}
 
 -- a call of this number leaves the process's pages so, and gives its answer
-abbrev pub called : Shared → Machine → ℕ → Called → Effect
-called c m number r = answers c (record m { space = r.pages }) number r.answer
+abbrev pub called : Shared → Process → Machine → ℕ → Called → Effect
+called c own m number r = answers c own (record m { space = r.pages }) number r.answer
 
 -- the break and the pages are these, and the break is the answer
-abbrev pub moved_break : Shared → Machine → Moved → Effect
-moved_break c m r = done (with_break c r.program_break) (record m { space = r.pages }) r.program_break.end
+abbrev pub moved_break : Shared → Process → Machine → Moved → Effect
+moved_break c own m r =
+    done c (record own { program_break = r.program_break }) (record m { space = r.pages }) r.program_break.end
 
 -- brk(2)
-unfoldable pub brk_call : Shared → Machine → Effect
-brk_call c m = moved_break c m (brk_of c.process.program_break m.space (register m A0))
+unfoldable pub brk_call : Shared → Process → Machine → Effect
+brk_call c own m = moved_break c own m (brk_of own.program_break m.space (register m A0))
 
 -- munmap(2)
-unfoldable pub munmap_call : Shared → Machine → Effect
-munmap_call c m = called c m MUNMAP (munmap_of m.space (register m A0) (register m A1))
+unfoldable pub munmap_call : Shared → Process → Machine → Effect
+munmap_call c own m = called c own m MUNMAP (munmap_of m.space (register m A0) (register m A1))
 
 -- mmap(2), of zeros: which file and which part of it is not looked at
-unfoldable pub mmap_call : Shared → Machine → Effect
-mmap_call c m = called c m MMAP (mmap_of m.space (register m A0) (register m A1) (register m A2) (register m A3))
+unfoldable pub mmap_call : Shared → Process → Machine → Effect
+mmap_call c own m = called c own m MMAP (mmap_of m.space (register m A0) (register m A1) (register m A2) (register m A3))
 
 -- mprotect(2)
-unfoldable pub mprotect_call : Shared → Machine → Effect
-mprotect_call c m = called c m MPROTECT (mprotect_of m.space (register m A0) (register m A1) (register m A2))
+unfoldable pub mprotect_call : Shared → Process → Machine → Effect
+mprotect_call c own m = called c own m MPROTECT (mprotect_of m.space (register m A0) (register m A1) (register m A2))

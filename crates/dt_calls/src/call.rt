@@ -1,20 +1,26 @@
 // The system calls, by their numbers.
-ghost use Rattle.std.specs.Prelude.{◌≡◌, None, IfOk, IsErrOf};
+ghost use Rattle.std.specs.Prelude.{◌≡◌};
 ghost use Rattle.dt_rv64.specs.Effects.{register};
-ghost use Rattle.dt_host.specs.Cause.{HasCause};
-ghost use Rattle.dt_host.specs.World.{World};
-ghost use Rattle.dt_calls.specs.Effect.{reads_counter};
-ghost use Rattle.dt_calls.specs.Call.{served, call_of, exit_call};
-ghost use Rattle.dt_calls.specs.InCode.{shared_of, effect_as};
-ghost use Rattle.dt_calls.specs.Sound.{IsSound};
+ghost use Rattle.dt_calls.specs.Call.{served, call_of, memory_call, identity_call};
+ghost use Rattle.dt_calls.specs.InCode.{shared_of};
+ghost use Rattle.dt_calls.specs.Sound.{IsSoundHand, Serves, hand};
 
+mod clone;
 mod effect;
+mod execve;
+mod exit;
 mod files;
+mod identity;
 mod memory;
+mod wait;
 
-use crate::shared::Shared;
-use dt_base::End;
-use dt_base::abi::{A0, A7, BRK, EXIT, EXIT_GROUP, MMAP, MPROTECT, MUNMAP, exit_code};
+use crate::numbers::{
+    CLONE, EXECVE, GETEGID, GETEUID, GETGID, GETPID, GETPPID, GETTID, GETUID, MADVISE, MREMAP,
+    PRLIMIT64, RSEQ, SCHED_YIELD, SET_ROBUST_LIST, SET_TID_ADDRESS, STATX, UNAME, WAIT4,
+};
+use crate::shared::{Process, Shared};
+use dt_base::abi::{A7, BRK, EXIT, EXIT_GROUP, MMAP, MPROTECT, MUNMAP};
+use dt_base::{End, Errno};
 use dt_host::{Host, HostErr};
 use dt_rv64::{Machine, Stop};
 pub use effect::{Effect, Outcome};
@@ -27,67 +33,101 @@ pub fn serve<H: Host>(
     alloc: Global,
     host: &mut H,
     shared: &mut Shared,
+    own: &mut Process,
     machine: &mut Machine,
     stop: Stop,
 ) -> Result<Effect, HostErr>
-    requires sound { IsSound shared.old (H.view host.old) }
-    requires lives { shared.old.process.end ≡ None }
-    ensures served { IfOk result (λ s. served (shared_of shared.old (H.view host.old)) machine.old stop
-        ≡ effect_as (shared_of shared.new (H.view host.new)) machine.new s) }
-    ensures sound { IfOk result (λ _. IsSound shared.new (H.view host.new)) }
-    ensures cause { HasCause (H.count host.old) (H.count host.new) (IsErrOf result HostErr.Failed) }
+    requires { IsSoundHand (hand shared.old own.old (H.view host.old)) }
+    ensures { Serves (served (shared_of shared.old (H.view host.old)) shared.old.pids.next own.old machine.old stop)
+        (hand shared.old own.old (H.view host.old)) (hand shared.new own.new (H.view host.new)) machine.new result
+        (H.count host.old) (H.count host.new) }
 {
     let _before = host.faults();
     match stop {
-        Stop::Call => call(alloc, host, shared, machine),
-        Stop::Counter(rd) => Ok(read_counter(alloc, shared, machine, rd)),
+        Stop::Call => call(alloc, host, shared, own, machine),
+        Stop::Counter(rd) => Ok(exit::read_counter(alloc, shared, machine, rd)),
         Stop::Fault(signal) => Ok(Effect::quiet(alloc, Outcome::Ends(End::Signal(signal)))),
         Stop::Slice => Ok(Effect::quiet(alloc, Outcome::Done)),
     }
 }
 
+// Serves a call.
 #[tactic(auto, unfolding(crate::specs::Call::call_of))]
 fn call<H: Host>(
     alloc: Global,
     host: &mut H,
     shared: &mut Shared,
+    own: &mut Process,
     machine: &mut Machine,
 ) -> Result<Effect, HostErr>
-    requires sound { IsSound shared.old (H.view host.old) }
-    requires lives { shared.old.process.end ≡ None }
-    ensures served { IfOk result (λ s. call_of (register machine.old A7)
-        (shared_of shared.old (H.view host.old)) machine.old
-        ≡ effect_as (shared_of shared.new (H.view host.new)) machine.new s) }
-    ensures sound { IfOk result (λ _. IsSound shared.new (H.view host.new)) }
-    ensures cause { HasCause (H.count host.old) (H.count host.new) (IsErrOf result HostErr.Failed) }
+    requires { IsSoundHand (hand shared.old own.old (H.view host.old)) }
+    ensures { Serves (call_of (register machine.old A7) (shared_of shared.old (H.view host.old))
+        shared.old.pids.next own.old machine.old)
+        (hand shared.old own.old (H.view host.old)) (hand shared.new own.new (H.view host.new)) machine.new result
+        (H.count host.old) (H.count host.new) }
 {
     let _before = host.faults();
     match machine.reg(A7) {
-        EXIT | EXIT_GROUP => Ok(exit(alloc, machine)),
-        BRK => Ok(memory::brk(alloc, shared, machine)?),
-        MUNMAP => Ok(memory::munmap(alloc, machine)?),
-        MMAP => Ok(memory::mmap(alloc, machine)?),
-        MPROTECT => Ok(memory::mprotect(alloc, machine)?),
-        number => files::call(alloc, host, shared, machine, number),
+        EXIT | EXIT_GROUP => Ok(exit::exit(alloc, machine)),
+        CLONE => clone::clone(alloc, host, shared, own, machine),
+        EXECVE => execve::execve(alloc, host, shared, own, machine),
+        WAIT4 => wait::wait4(alloc, host, shared, own, machine),
+        number => memory_call(alloc, host, shared, own, machine, number),
     }
 }
 
-// A counter gives the logical time, and its reading takes some.
-fn read_counter(alloc: Global, shared: &mut Shared, machine: &mut Machine, rd: u8) -> Effect
-    ensures served { (w : World) → reads_counter (shared_of shared.old w) machine.old rd
-        ≡ effect_as (shared_of shared.new w) machine.new result }
-    ensures sound { (w : World) → IsSound shared.old w → IsSound shared.new w }
+// Serves a call on memory, or another one.
+#[tactic(auto, unfolding(crate::specs::Call::memory_call))]
+fn memory_call<H: Host>(
+    alloc: Global,
+    host: &mut H,
+    shared: &mut Shared,
+    own: &mut Process,
+    machine: &mut Machine,
+    number: u64,
+) -> Result<Effect, HostErr>
+    requires { IsSoundHand (hand shared.old own.old (H.view host.old)) }
+    ensures { Serves (memory_call number (shared_of shared.old (H.view host.old)) own.old machine.old)
+        (hand shared.old own.old (H.view host.old)) (hand shared.new own.new (H.view host.new)) machine.new result
+        (H.count host.old) (H.count host.new) }
 {
-    let ticks = shared.fs.clock.read();
-    machine.read_counter(rd, ticks);
-    Effect::quiet(alloc, Outcome::Done)
+    let _before = host.faults();
+    match number {
+        BRK => Ok(memory::brk(alloc, own, machine)?),
+        MUNMAP => Ok(memory::munmap(alloc, machine)?),
+        MMAP => Ok(memory::mmap(alloc, machine)?),
+        MPROTECT => Ok(memory::mprotect(alloc, machine)?),
+        _ => identity_call(alloc, host, shared, own, machine, number),
+    }
 }
 
-// exit(2), exit_group(2)
-#[tactic(auto, unfolding(crate::specs::Call::exit_call))]
-fn exit(alloc: Global, machine: &Machine) -> Effect
-    ensures { (c : _) → exit_call c machine.now ≡ effect_as c machine.now result }
+// Serves a call that tells a process who it is or does nothing, or one on files, time or random bytes.
+#[tactic(auto, unfolding(crate::specs::Call::identity_call))]
+fn identity_call<H: Host>(
+    alloc: Global,
+    host: &mut H,
+    shared: &mut Shared,
+    own: &mut Process,
+    machine: &mut Machine,
+    number: u64,
+) -> Result<Effect, HostErr>
+    requires { IsSoundHand (hand shared.old own.old (H.view host.old)) }
+    ensures { Serves (identity_call number (shared_of shared.old (H.view host.old)) own.old machine.old)
+        (hand shared.old own.old (H.view host.old)) (hand shared.new own.new (H.view host.new)) machine.new result
+        (H.count host.old) (H.count host.new) }
 {
-    let code = exit_code(machine.reg(A0));
-    Effect::quiet(alloc, Outcome::Ends(End::Code(code)))
+    let _before = host.faults();
+    match number {
+        GETPID | GETTID | SET_TID_ADDRESS => Ok(identity::getpid(alloc, own, machine)),
+        GETPPID => Ok(identity::getppid(alloc, shared, own, machine)),
+        SET_ROBUST_LIST => Ok(identity::set_robust_list(alloc, machine)),
+        UNAME => Ok(identity::uname(alloc, machine)?),
+        SCHED_YIELD | GETUID | GETEUID | GETGID | GETEGID => Ok(Effect::done(alloc, machine, 0)),
+        MREMAP | MADVISE | PRLIMIT64 | STATX | RSEQ => Ok(Effect::refused(
+            alloc,
+            machine,
+            Errno::NoSys,
+        )),
+        _ => files::call(alloc, host, shared, own, machine, number),
+    }
 }

@@ -1,24 +1,27 @@
-// A container, with one process.
-ghost use Rattle.std.specs.Prelude.{◌≡◌, ◌≢◌, None, Some, [], IfOk, IsErrOf};
+// A container.
+ghost use Rattle.std.specs.Prelude.{◌≡◌, [], None, Some, IsSome, IfOk, IsErrOf};
+ghost use Rattle.std.specs.FinMap.{get, insert, remove};
 ghost use Rattle.dt_host.specs.Cause.{HasCause};
 ghost use Rattle.dt_host.specs.World.{IsEmptyStart};
+ghost use Rattle.dt_procs.specs.Table.{members_of};
+ghost use Rattle.dt_procs.specs.Members.{end_of};
+ghost use Rattle.dt_rv64.specs.declared.segments.Stop.TheVariants.{Call as a_call};
 ghost use Rattle.dt_tree.specs.ImageTree.{image_tree};
-ghost use Rattle.dt_calls.specs.declared.numbers.TheConstants.{FIRST_PID};
 ghost use Rattle.dt_calls.specs.Container.{first_container};
 ghost use Rattle.dt_calls.specs.Launch.{launch};
-ghost use Rattle.dt_calls.specs.Settle.{settle, serve};
-ghost use Rattle.dt_calls.specs.InCode.{Lives, IsHome, shared_of, container_of, launched_as, settled_as, effect_as};
-ghost use Rattle.dt_calls.specs.Sound.{IsSound};
+ghost use Rattle.dt_calls.specs.Settle.{serve};
+ghost use Rattle.dt_calls.specs.InCode.{Lives, home_of, container_of, launched_as, turned_as};
+ghost use Rattle.dt_calls.specs.Sound.{IsSoundContainer};
 
-use crate::call::{Effect, Outcome, serve};
-use crate::numbers::FIRST_PID;
+use crate::call::serve;
 use crate::shared::Shared;
 use dt_base::{Command, End, Errno, Event, Image};
 use dt_exec::start_program;
 use dt_host::{Host, HostErr};
-use dt_mcalls::Break;
+use dt_numbered::Numbered;
+use dt_procs::FIRST_PID;
 use dt_rv64::{Machine, Stop};
-use dt_tree::{ROOT, Tree};
+use dt_tree::Tree;
 use std::alloc::Global;
 use std::marker::Model;
 use std::mem;
@@ -32,38 +35,46 @@ pub enum Launch {
     NoStart(Errno),
 }
 
-/// What becomes of a process whose stop was served.
+/// What became of a process whose stop was served.
 #[derive(Clone, Copy, Debug, PartialEq, Eq)]
 pub enum Served {
     /// It goes on.
     Done,
+    /// It goes on, and has made a child of this virtual pid.
+    Child(u32),
+    /// It has ended, and has made a child of this virtual pid before.
+    LastChild(u32),
+    /// Its call waits, and is tried again in its next turn.
+    Blocked,
     /// It has ended.
     Ended,
     /// It stays at its stop: its call, by its number, isn't supported.
     Unsupported(u64),
 }
 
-/// A container: what its process shares, the process's machine while it is at home, and the events of the last turn.
+/// A container: what its processes share, the machines that are at home, and the events of the last turn.
 ///
 /// A process that lives may have its machine away, to run a segment. After an error a container may only be dropped.
 #[derive(Drop)]
 pub struct Container {
-    shared: Shared,
-    machine: Option<Machine>,
-    events: Vec<Event>,
+    pub(crate) alloc: Global,
+    pub(crate) shared: Shared,
+    pub(crate) places: Numbered<Option<Machine>>,
+    pub(crate) events: Vec<Event>,
 }
 
 impl Model for Container {
-    ghost use Rattle.std.specs.Coded.{codes};
+    ghost use Rattle.std.specs.Coded.{codes, coded_ℕ};
+    ghost use Rattle.std.specs.FinMap.{code};
     ghost use Rattle.dt_fds.specs.inner.Codes.{descriptions_code};
     ghost use Rattle.dt_tree.specs.inner.Codes.{table_code};
     ghost use Rattle.dt_calls.specs.InCode.{ContainerView};
 
     ghost Value = { ContainerView };
 
-    ghost coded = { Prim.hlevel (codes, table_code, descriptions_code) };
+    ghost coded = { Prim.hlevel (codes, table_code, descriptions_code, code, coded_ℕ) };
 
-    ghost view = { λ c. record { shared = c.shared; machine = c.machine; events = c.events.items } };
+    ghost view = { λ c. record { shared = c.shared; places = c.places; events = c.events.items } };
 }
 
 impl Container {
@@ -77,17 +88,23 @@ impl Container {
         requires { IsEmptyStart (H.view host.old) }
         ensures ok { IfOk result
             (λ c. container_of c (H.view host.new) ≡ first_container (image_tree image.now) seed) }
-        ensures sound { IfOk result (λ c. IsSound c.shared (H.view host.new)) }
+        ensures sound { IfOk result (λ c. IsSoundContainer c (H.view host.new)) }
+        ensures lives { IfOk result (λ c. Lives c FIRST_PID) }
         ensures cause { HasCause (H.count host.old) (H.count host.new) (IsErrOf result HostErr.Failed) }
     {
         let mut tree = Tree::new(alloc, host)?;
         tree.install(host, image)?;
-        tree.hold(host, ROOT)?;
-        Ok(Container {
-            shared: Shared::new(alloc, tree, seed)?,
-            machine: None,
+        let shared = Shared::new(alloc, host, tree, seed)?;
+        let mut places = Numbered::new(alloc);
+        places.put(u64::from(FIRST_PID), None)?;
+        let container = Container {
+            alloc,
+            shared,
+            places,
             events: Vec::new(alloc),
-        })
+        };
+        container.counted();
+        Ok(container)
     }
 
     /// Starts the program of a command (execve(2)), or says why it can't be started.
@@ -98,51 +115,53 @@ impl Container {
         host: &mut H,
         command: &Command,
     ) -> Result<Launch, HostErr>
-        requires sound { IsSound self.old.shared (H.view host.old) }
-        requires lives { Lives self.old.shared.process FIRST_PID }
+        requires sound { IsSoundContainer self.old (H.view host.old) }
+        requires lives { Lives self.old FIRST_PID }
         ensures ok { IfOk result (λ l. launch (container_of self.old (H.view host.old)) command.now
             ≡ launched_as (container_of self.new (H.view host.new)) l) }
-        ensures sound { IfOk result (λ _. IsSound self.new.shared (H.view host.new)) }
-        ensures home { IfOk result (λ l. l ≡ Launch.Started → IsHome self.new FIRST_PID) }
+        ensures sound { IfOk result (λ _. IsSoundContainer self.new (H.view host.new)) }
         ensures cause { HasCause (H.count host.old) (H.count host.new) (IsErrOf result HostErr.Failed) }
     {
         let random = self.shared.fs.rand.start16();
         match start_program(alloc, host, &self.shared.fs.tree, command, &random)? {
             Ok(program) => {
-                self.shared.process.program_break = Break {
-                    start: program.break_start,
-                    end: program.break_start,
-                };
-                self.machine = Some(program.machine);
+                let mut own = self.shared.process(FIRST_PID);
+                own.start(program.break_start);
+                self.shared.put(own);
+                self.give_machine(FIRST_PID, program.machine);
+                self.counted();
                 Ok(Launch::Started)
             }
             Err(errno) => Ok(Launch::NoStart(errno)),
         }
     }
 
-    /// Takes a process's machine away, which is at home.
+    /// Takes the machine of a process away, which is at home.
+    #[tactic(auto, using(crate::proofs::Homes::homes))]
     pub fn take_machine(&mut self, vpid: u32) -> Machine
-        requires { IsHome self.old vpid }
-        ensures machine { self.old.machine ≡ Some result }
-        ensures away { self.new ≡ record self.old { machine = None } }
+        requires { IsSome (get (home_of self.old.places) vpid) }
+        ensures machine { get (home_of self.old.places) vpid ≡ Some result }
+        ensures rest { self.new ≡ record self.old { places = insert self.old.places vpid None } }
+        ensures home { home_of self.new.places ≡ remove (home_of self.old.places) vpid }
     {
-        match self.machine.take() {
-            Some(machine) => machine,
-            None => unreachable!(),
-        }
+        let Some(machine) = self.places.swap(u64::from(vpid), None) else {
+            unreachable!()
+        };
+        machine
     }
 
-    /// Brings a process's machine home, which is away.
+    /// Brings the machine of a process that lives home.
+    #[tactic(auto, using(crate::proofs::Homes::homes))]
     pub fn give_machine(&mut self, vpid: u32, machine: Machine)
-        requires lives { Lives self.old.shared.process vpid }
-        requires away { self.old.machine ≡ None }
-        ensures home { self.new ≡ record self.old { machine = Some machine } }
+        requires { IsSome (get self.old.places vpid) }
+        ensures rest { self.new ≡ record self.old { places = insert self.old.places vpid (Some machine) } }
+        ensures home { home_of self.new.places ≡ insert (home_of self.old.places) vpid machine }
     {
-        self.machine = Some(machine);
+        self.places.set(u64::from(vpid), Some(machine));
     }
 
     /// Serves the stop of a process that lives and has its machine at home, and settles what becomes of it.
-    #[tactic(auto, unfolding(crate::specs::Settle::serve))]
+    #[tactic(auto, unfolding(crate::specs::Settle::serve, crate::specs::Settle::serve_machine))]
     pub fn serve<H: Host>(
         &mut self,
         alloc: Global,
@@ -150,55 +169,35 @@ impl Container {
         vpid: u32,
         stop: Stop,
     ) -> Result<Served, HostErr>
-        requires sound { IsSound self.old.shared (H.view host.old) }
-        requires home { IsHome self.old vpid }
+        requires sound { IsSoundContainer self.old (H.view host.old) }
+        requires home { IsSome (get (home_of self.old.places) vpid) }
         ensures ok { IfOk result (λ s. serve (container_of self.old (H.view host.old)) vpid stop
-            ≡ Some (settled_as (container_of self.new (H.view host.new)) s)) }
-        ensures sound { IfOk result (λ _. IsSound self.new.shared (H.view host.new)) }
-        ensures home { IfOk result (λ s. s ≢ Served.Ended → IsHome self.new vpid) }
+            ≡ Some (turned_as (container_of self.new (H.view host.new)) s)) }
+        ensures sound { IfOk result (λ _. IsSoundContainer self.new (H.view host.new)) }
         ensures cause { HasCause (H.count host.old) (H.count host.new) (IsErrOf result HostErr.Failed) }
     {
+        let mut own = self.shared.process(vpid);
         let mut machine = self.take_machine(vpid);
-        let effect = serve(alloc, host, &mut self.shared, &mut machine, stop)?;
-        self.settle(host, vpid, machine, effect)
+        let next = self.shared.pids.next();
+        let effect = serve(alloc, host, &mut self.shared, &mut own, &mut machine, stop)?;
+        self.settle(host, next, own, machine, effect)
     }
 
-    // Settles what becomes of a process whose stop was served.
-    fn settle<H: Host>(
+    /// Tries the waiting call of a process again.
+    pub fn retry<H: Host>(
         &mut self,
+        alloc: Global,
         host: &mut H,
         vpid: u32,
-        machine: Machine,
-        effect: Effect,
     ) -> Result<Served, HostErr>
-        requires away { self.old.machine ≡ None }
-        requires sound { IsSound self.old.shared (H.view host.old) }
-        requires lives { self.old.shared.process.end ≡ None }
-        ensures ok { IfOk result (λ s.
-            settle vpid (effect_as (shared_of self.old.shared (H.view host.old)) machine effect) effect.outcome
-            ≡ settled_as (container_of self.new (H.view host.new)) s) }
-        ensures sound { IfOk result (λ _. IsSound self.new.shared (H.view host.new)) }
-        ensures home { Lives self.old.shared.process vpid
-            → IfOk result (λ s. s ≢ Served.Ended → IsHome self.new vpid) }
+        requires sound { IsSoundContainer self.old (H.view host.old) }
+        requires home { IsSome (get (home_of self.old.places) vpid) }
+        ensures ok { IfOk result (λ s. serve (container_of self.old (H.view host.old)) vpid a_call
+            ≡ Some (turned_as (container_of self.new (H.view host.new)) s)) }
+        ensures sound { IfOk result (λ _. IsSoundContainer self.new (H.view host.new)) }
         ensures cause { HasCause (H.count host.old) (H.count host.new) (IsErrOf result HostErr.Failed) }
     {
-        let _before = host.faults();
-        self.events = effect.events;
-        match effect.outcome {
-            Outcome::Done => {
-                self.machine = Some(machine);
-                Ok(Served::Done)
-            }
-            Outcome::Ends(end) => {
-                self.events.push(Event::Exit(vpid, end))?;
-                self.shared.end(host, end)?;
-                Ok(Served::Ended)
-            }
-            Outcome::Unsupported(number) => {
-                self.machine = Some(machine);
-                Ok(Served::Unsupported(number))
-            }
-        }
+        self.serve(alloc, host, vpid, Stop::Call)
     }
 
     /// What the last turn showed.
@@ -213,7 +212,7 @@ impl Container {
         ensures events { result.items ≡ self.old.events }
         ensures rest { self.new ≡ record self.old { events = [] } }
     {
-        let none = Vec::new(*self.events.allocator());
+        let none = Vec::new(self.alloc);
         mem::replace(&mut self.events, none)
     }
 
@@ -224,11 +223,10 @@ impl Container {
         &self.shared.fs.tree
     }
 
-    /// How a process ended, if it has.
+    /// How a process ended, if it is there and has.
     pub fn end(&self, vpid: u32) -> Option<End>
-        requires { vpid ≡ FIRST_PID }
-        ensures { result ≡ self.now.shared.process.end }
+        ensures { result ≡ end_of (members_of self.now.shared.pids) vpid }
     {
-        self.shared.process.end
+        self.shared.pids.end(vpid)
     }
 }

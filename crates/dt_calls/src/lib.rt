@@ -1,9 +1,12 @@
-//! A container: what a process meets beside its machine, the start of its program, and the system calls.
+//! A container: what processes share and each has of its own beside its machine, the start of a program, and the
+//! system calls.
 #![tactic(auto)]
 
 mod call;
 mod container;
+mod ending;
 pub mod numbers;
+mod settling;
 mod shared;
 
 pub use container::{Container, Launch, Served};

@@ -1,52 +1,84 @@
-// What the processes of a container share.
-ghost use Rattle.std.specs.Prelude.{◌≡◌, ℕ, IfOk};
-ghost use Rattle.dt_fds.specs.Backs.{AllIn, descriptions_of};
-ghost use Rattle.dt_fds.specs.Descriptions.{first_files};
-ghost use Rattle.dt_host.specs.World.{Forest};
-ghost use Rattle.dt_virt.specs.Words.{seeded_by};
-ghost use Rattle.dt_calls.specs.Container.{first_process};
-ghost use Rattle.dt_calls.specs.declared.numbers.TheConstants.{FIRST_PID as FIRST};
+// What the processes of a container share, and the part of each.
+ghost use Rattle.std.specs.Prelude.{◌≡◌, ◌+◌, List, Some, IsSome, IfOk, IsErrOf};
+ghost use Rattle.std.specs.FinMap.{get};
+ghost use Rattle.std.specs.FinSet as pid_set;
+ghost use Rattle.dt_host.specs.Cause.{HasCause};
+ghost use Rattle.dt_base.specs.declared.image.Entry.{Entry};
+ghost use Rattle.dt_tree.specs.ImageTree.{image_tree};
+ghost use Rattle.dt_tree.specs.Table.{Stands, tree_of};
+ghost use Rattle.dt_calls.specs.Container.{blank_process, first_shared};
+ghost use Rattle.dt_calls.specs.InCode.{shared_of};
+ghost use Rattle.dt_calls.specs.Sound.{IsSound, with_own};
 
-use crate::numbers::{FIRST_PID, FIRST_UMASK};
-use dt_base::{Caller, End, NoMemory};
+use crate::numbers::FIRST_UMASK;
+use dt_base::Caller;
 use dt_fds::Files;
 use dt_host::{Host, HostErr};
 use dt_mcalls::Break;
+use dt_numbered::Numbered;
+use dt_procs::{FIRST_PID, Pids};
 use dt_scene::Fs;
 use dt_tree::{ROOT, Tree};
 use dt_virt::{Clock, Rand};
 use std::alloc::Global;
 
-/// What others may see of a process.
+/// The part of a live process that its own calls see and change, beside its machine.
 #[derive(Clone, Copy, Debug)]
 pub struct Process {
     /// Its pid, its working directory and its file mode mask.
     pub caller: Caller,
     /// The address behind its data, and the least that this may be.
     pub program_break: Break,
-    /// How it ended. A process that has ended stays as a zombie.
-    pub end: Option<End>,
 }
 
 /// All of a container but the machines of its processes: the file tree, the open files, the logical time and the seed's
-/// words, and the process as others see it.
+/// words, the processes as their kin see them, and the part of each that lives.
 #[derive(Drop)]
 pub struct Shared {
     pub fs: Fs,
-    pub process: Process,
+    pub pids: Pids,
+    pub processes: Numbered<Process>,
+}
+
+impl Process {
+    /// The first process before it has a program: its working directory is the root, and it has no data.
+    pub fn first() -> Self
+        ensures { result ≡ blank_process FIRST_PID }
+    {
+        Process {
+            caller: Caller {
+                vpid: FIRST_PID,
+                cwd: ROOT,
+                umask: FIRST_UMASK,
+            },
+            program_break: Break { start: 0, end: 0 },
+        }
+    }
 }
 
 impl Shared {
-    /// What the first process finds on this tree, whose root is its working directory: the input and the output streams
-    /// are open, the time is 0, and the words are those of a seed.
-    pub fn new(alloc: Global, tree: Tree, seed: u64) -> Result<Self, NoMemory>
-        ensures value { IfOk result (λ s. s ≡ record {
-          fs = record { tree = tree; files = first_files FIRST; clock = 0; rand = seeded_by seed };
-          process = first_process;
-        }) }
-        ensures nodes { IfOk result (λ s. (n : ℕ) → descriptions_of s.fs.files n ≡ 0) }
-        ensures all_in { IfOk result (λ s. (v : Forest) → AllIn v s.fs.files) }
+    /// What the first process finds on an image's tree, whose root is its working directory: the input and the output
+    /// streams are open, the time is 0, and the words are those of a seed.
+    pub fn new<H: Host>(
+        alloc: Global,
+        host: &mut H,
+        mut tree: Tree,
+        seed: u64,
+    ) -> Result<Self, HostErr>
+        requires stands { Stands tree (H.view host.old).forest }
+        requires image { (entries : List Entry) × (tree_of tree (H.view host.old).forest ≡ image_tree entries) }
+        requires no_pids { (H.view host.old).pids ≡ pid_set.empty }
+        ensures ok { IfOk result (λ c. shared_of c (H.view host.new)
+            ≡ first_shared (tree_of tree (H.view host.old).forest) seed) }
+        ensures next { IfOk result (λ c. c.pids.next ≡ FIRST_PID + 1) }
+        ensures sound { IfOk result (λ c. IsSound c (H.view host.new)) }
+        ensures part { IfOk result (λ c. IsSome (get c.processes FIRST_PID)) }
+        ensures cause { HasCause (H.count host.old) (H.count host.new) (IsErrOf result HostErr.Failed) }
     {
+        tree.hold(host, ROOT)?;
+        let pids = Pids::first(alloc, host)?;
+        let mut processes = Numbered::new(alloc);
+        processes.put(u64::from(FIRST_PID), Process::first())?;
         Ok(Shared {
             fs: Fs {
                 tree,
@@ -54,42 +86,27 @@ impl Shared {
                 clock: Clock::new(),
                 rand: Rand::new(seed),
             },
-            process: Process {
-                caller: Caller {
-                    vpid: FIRST_PID,
-                    cwd: ROOT,
-                    umask: FIRST_UMASK,
-                },
-                program_break: Break { start: 0, end: 0 },
-                end: None,
-            },
+            pids,
+            processes,
         })
     }
-}
 
-impl Shared {
-    ghost use Rattle.std.specs.Prelude.{None, OnOk, IsErrOf};
-    ghost use Rattle.dt_host.specs.Cause.{HasCause};
-    ghost use Rattle.dt_calls.specs.Settle.{ended};
-    ghost use Rattle.dt_calls.specs.InCode.{shared_of};
-    ghost use Rattle.dt_calls.specs.Sound.{IsSound};
-
-    /// Ends the process: its descriptors are closed, it leaves its working directory, and its end is kept.
-    pub fn end<H: Host>(&mut self, host: &mut H, end: End) -> Result<(), HostErr>
-        requires sound { IsSound self.old (H.view host.old) }
-        requires lives { self.old.process.end ≡ None }
-        ensures ended { OnOk result
-            (shared_of self.new (H.view host.new) ≡ ended (shared_of self.old (H.view host.old)) end) }
-        ensures sound { OnOk result (IsSound self.new (H.view host.new)) }
-        ensures cause { HasCause (H.count host.old) (H.count host.new) (IsErrOf result HostErr.Failed) }
+    /// The part of a live process.
+    pub fn process(&self, vpid: u32) -> Process
+        requires { IsSome (get self.now.processes vpid) }
+        ensures { get self.now.processes vpid ≡ Some result }
     {
-        let _before = host.faults();
-        let caller = self.process.caller;
-        self.fs
-            .files
-            .drop_all(host, &mut self.fs.tree, caller.vpid)?;
-        self.fs.tree.release(host, caller.cwd)?;
-        self.process.end = Some(end);
-        Ok(())
+        let Some(process) = self.processes.get(u64::from(vpid)) else {
+            unreachable!()
+        };
+        *process
+    }
+
+    /// Puts the part of a live process back, which a call has changed.
+    pub fn put(&mut self, own: Process)
+        requires { IsSome (get self.old.processes own.caller.vpid) }
+        ensures { self.new ≡ with_own self.old own }
+    {
+        self.processes.set(u64::from(own.caller.vpid), own);
     }
 }

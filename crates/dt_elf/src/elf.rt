@@ -1,8 +1,10 @@
 // Reading an ELF-64 file as an executable.
-ghost use Rattle.std.specs.Prelude.{◌≡◌, ◌+◌, ◌*◌, ◌≤◌, ◌<◌, length, take, not, nat_lt, nat_le, filter, IfOk, MatchResult, Ok, None, true};
+ghost use Rattle.std.specs.Prelude.{◌≡◌, ◌+◌, ◌*◌, ◌≤◌, ◌<◌, length, take, not, nat_lt, nat_le, filter, IfOk};
+ghost use Rattle.std.specs.Prelude.{MatchResult, Ok, None, true};
 ghost use Rattle.std.specs.List.{list_any, list_all};
 ghost use Rattle.dt_elf.specs.Header.{e_phnum, table_end, program_headers, is_interp, loads};
-ghost use Rattle.dt_elf.specs.Executable.{is_placed, share_byte, overlap, all_placed, refusal, holds_table, table_address_or, table_address, exe, executable, IsElfErr};
+ghost use Rattle.dt_elf.specs.Executable.{is_placed, share_byte, overlap, all_placed, refusal, holds_table};
+ghost use Rattle.dt_elf.specs.Executable.{table_address_or, table_address, exe, executable, IsElfErr};
 ghost use Rattle.dt_elf.specs.Placed.{IsPlaced, ArePlaced, EndLow};
 ghost use Rattle.dt_elf.specs.ProgramBreak.{program_break, segments_end};
 ghost use Rattle.dt_elf.specs.inner.Refused.{is_short, is_bad_header, segments_refusal};

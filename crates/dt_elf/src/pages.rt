@@ -2,7 +2,8 @@
 ghost use Rattle.std.specs.Prelude.{◌≡◌, ◌+◌, ◌*◌, ◌≤◌, ◌<◌, ℕ, length, nat_lt, slice_index, IfOk};
 ghost use Rattle.dt_base.specs.Bytes.{overwritten};
 ghost use Rattle.dt_elf.specs.Placed.{IsPlaced, ArePlaced, EndLow};
-ghost use Rattle.dt_elf.specs.SegmentPages.{touches, touched, page_numbers, rights_with, page_rights, segment_byte, loaded_bytes, segment_pages};
+ghost use Rattle.dt_elf.specs.SegmentPages.{touches, touched, page_numbers, rights_with, page_rights, segment_byte};
+ghost use Rattle.dt_elf.specs.SegmentPages.{loaded_bytes, segment_pages};
 ghost use Rattle.dt_elf.specs.inner.Next.{IsNext};
 
 use crate::elf::Segment;

@@ -1,7 +1,8 @@
 // The stack of a program that starts.
 ghost use Rattle.std.specs.Prelude.{◌≡◌, ◌+◌, ◌*◌, ◌^◌, ◌≤◌, ◌<◌, ◌++◌, length, nat_lt, IfOk, OnOk, MatchOption};
 ghost use Rattle.dt_elf.specs.Executable.{executable};
-ghost use Rattle.dt_elf.specs.Stack.{invocation, aligned, pointer_below, args_start, terminated, addresses, strings, auxiliary, words_at, stack_pointer, word_bytes, laid_out, stack_contents, size};
+ghost use Rattle.dt_elf.specs.Stack.{invocation, aligned, pointer_below, args_start, terminated, addresses, strings};
+ghost use Rattle.dt_elf.specs.Stack.{auxiliary, words_at, stack_pointer, word_bytes, laid_out, stack_contents, size};
 
 use crate::elf::Elf;
 use crate::layout::{

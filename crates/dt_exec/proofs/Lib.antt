@@ -1,6 +1,5 @@
 pub mod Walked
 pub mod Opened
-pub mod Parts
 pub mod NoNul
 pub mod Collected
 pub mod Positions

@@ -2,7 +2,8 @@
 ghost use Rattle.std.specs.Prelude.{◌≡◌, Err, IfOk, IsTrue, MatchResult, MatchOption};
 ghost use Rattle.dt_base.specs.Path.{has_no_nul};
 ghost use Rattle.dt_space.specs.Text.{text_at};
-ghost use Rattle.dt_exec.specs.Arguments.{text_or, path_argument, word_at, words_at, list_argument, one_at_least, within_limit, command_argument};
+ghost use Rattle.dt_exec.specs.Arguments.{text_or, path_argument, word_at, words_at, list_argument, one_at_least};
+ghost use Rattle.dt_exec.specs.Arguments.{within_limit, command_argument};
 ghost use Rattle.dt_exec.specs.Listed.{AreListed, IsTooBig};
 
 use crate::limits::{LIST_ENTRY, LIST_LIMIT};

@@ -5,7 +5,6 @@ mod arguments;
 pub mod limits;
 mod lookup;
 mod program;
-mod reading;
 mod script;
 mod word_list;
 

@@ -6,11 +6,11 @@ ghost use Rattle.dt_host.specs.World.{IsDir, IsLive, file_at};
 ghost use Rattle.dt_tree.specs.Table.{Stands, shape_of};
 ghost use Rattle.dt_elf.specs.Stack.{invocation};
 ghost use Rattle.dt_exec.specs.Script.{HasNoNul};
-ghost use Rattle.dt_exec.specs.Program.{argv0, file_or_refused, file_by_path, program_of_interpreter, program_of_script, program_at, program_of, start_program, execve_program};
+ghost use Rattle.dt_exec.specs.Program.{argv0, file_or_refused, file_by_path, program_of_interpreter};
+ghost use Rattle.dt_exec.specs.Program.{program_of_script, program_at, program_of, start_program, execve_program};
 
 use crate::arguments::{command_argument, path_argument};
 use crate::lookup::lookup;
-use crate::reading::read_file;
 use crate::script::{Script, is_script, script_command, script_of};
 use dt_base::{Blob, Command, Errno, NoMemory, PATH_LIMIT};
 use dt_elf::{ElfErr, StartErr, are_too_many, read_elf, start};
@@ -214,7 +214,7 @@ fn file_of<H: Host>(
     if tree.is_dir(inode) || tree.is_link(inode) {
         return Ok(Err(Errno::Acces));
     }
-    Ok(Ok(Blob::new(read_file(alloc, host, tree, inode)?)))
+    Ok(Ok(Blob::new(tree.read_file(alloc, host, inode)?)))
 }
 
 // The program of an executable's bytes.

@@ -2,7 +2,8 @@
 ghost use Rattle.std.specs.Prelude.{◌≡◌, ◌<◌, ◌++◌, length, IfOk, IfSome, OnOk, IsTrue};
 ghost use Rattle.std.specs.List.{position, position_or_len};
 ghost use Rattle.dt_base.specs.Path.{has_no_nul};
-ghost use Rattle.dt_exec.specs.Script.{HasNoNul, is_script, is_lf, is_blank, first_line, blanks_skipped, blanks_cut, some_word, script_named, script_by, script_of, script_args};
+ghost use Rattle.dt_exec.specs.Script.{HasNoNul, is_script, is_lf, is_blank, first_line, blanks_skipped, blanks_cut};
+ghost use Rattle.dt_exec.specs.Script.{some_word, script_named, script_by, script_of, script_args};
 
 use crate::limits::{SCRIPT_LINE_LIMIT, SCRIPT_MARK};
 use dt_base::{Blob, Command, NoMemory, has_no_nul};

@@ -1,5 +1,6 @@
 // Words that are counted as they come, and stored as long as they are within the limit.
-ghost use Rattle.std.specs.Prelude.{◌≡◌, ◌+◌, ◌-◌, ◌^◌, ◌++◌, ◌∷◌, [], min, length, nat_le, Some, None, OnOk, if◌then◌else◌};
+ghost use Rattle.std.specs.Prelude.{◌≡◌, ◌+◌, ◌-◌, ◌^◌, ◌++◌, ◌∷◌, [], min, length, nat_le, Some, None, OnOk};
+ghost use Rattle.std.specs.Prelude.{if◌then◌else◌};
 
 use dt_base::{ARGUMENT_LIMIT, Blob, NoMemory};
 use std::alloc::Global;

@@ -9,7 +9,9 @@ ghost use Rattle.dt_fcalls.specs.inner.Steps.{Steps};
 ghost use Rattle.dt_host.specs.World.{Forest, IsFile, IsDir, IsLive};
 ghost use Rattle.dt_tree.specs.Calls.{IsNewName};
 ghost use Rattle.dt_tree.specs.Table.{Stands, shape_of, tree_of};
-ghost use Rattle.dt_fcalls.specs.Open.{access_of, is_exclusive, open_rule, desc_of, file_desc, dir_desc, opens, makes_file, creates, opens_missing, open_refusal, cuts_file, cuts, opens_found, opens_at, is_full, place_of_path, opens_path, openat_row};
+ghost use Rattle.dt_fcalls.specs.Open.{access_of, is_exclusive, open_rule, desc_of, file_desc, dir_desc, opens};
+ghost use Rattle.dt_fcalls.specs.Open.{makes_file, creates, opens_missing, open_refusal, cuts_file, cuts, opens_found};
+ghost use Rattle.dt_fcalls.specs.Open.{opens_at, is_full, place_of_path, opens_path, openat_row};
 ghost use Rattle.dt_fcalls.specs.Places.{IsFound};
 ghost use Rattle.dt_scene.specs.Sound.{Sound, Serves, Ends, stage, scene};
 

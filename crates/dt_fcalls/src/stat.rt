@@ -1,7 +1,8 @@
 //! The layout of `struct stat` on 64-bit RISC-V, and what its fields hold (asm-generic/stat.h).
 ghost use Rattle.std.specs.Prelude.{◌≡◌, ◌+◌, ◌≤◌, length, replicate};
 ghost use Rattle.dt_fcalls.specs.declared.stat.TheConstants.{STAT_LEN as LEN, NANOSECONDS as HALF};
-ghost use Rattle.dt_fcalls.specs.Stat.{type_bits, st_blocks, status_of, stream_status, with_identity, with_size, with_time, with_times, status_bytes, stat_of, stream_stat};
+ghost use Rattle.dt_fcalls.specs.Stat.{type_bits, st_blocks, status_of, stream_status, with_identity, with_size};
+ghost use Rattle.dt_fcalls.specs.Stat.{with_time, with_times, status_bytes, stat_of, stream_stat};
 
 use crate::time::{FIRST_SECOND, SECOND_TICKS};
 use dt_base::abi::{AT_EMPTY_PATH, AT_NO_AUTOMOUNT, AT_SYMLINK_NOFOLLOW};
@@ -56,8 +57,8 @@ pub const S_IFDIR: u32 = 0o040_000;
 /// A symbolic link.
 pub const S_IFLNK: u32 = 0o120_000;
 
-/// The type and the mode of the input and of the output streams: a character device that its owner reads and writes, and its
-/// group writes.
+/// The type and the mode of the input and of the output streams: a character device that its owner reads and writes,
+/// and its group writes.
 pub const STREAM_MODE: u32 = 0o020_620;
 
 /// The inode of the input and of the output streams, past all inodes of a tree.

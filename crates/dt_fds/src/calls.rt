@@ -7,7 +7,9 @@ ghost use Rattle.dt_tree.specs.FileTree.{holds_of};
 ghost use Rattle.dt_tree.specs.Table.{Stands, shape_of, tree_of};
 ghost use Rattle.dt_fds.specs.declared.desc.TheConstants.{DESCRIPTOR_LIMIT};
 ghost use Rattle.dt_fds.specs.Descriptions.{IsDesc, inode_of, slot_at, opened};
-ghost use Rattle.dt_fds.specs.Holding.{over, with_hold, without_hold, let_go, without, add_call, close_call, dup_within, dup_at_call, closed_below, dropped, without_marked, marked_closed_below, closed_on_exec};
+ghost use Rattle.dt_fds.specs.Holding.{over, with_hold, without_hold, let_go, without, add_call, close_call};
+ghost use Rattle.dt_fds.specs.Holding.{dup_within, dup_at_call, closed_below, dropped, without_marked};
+ghost use Rattle.dt_fds.specs.Holding.{marked_closed_below, closed_on_exec};
 ghost use Rattle.dt_fds.specs.Backs.{IsIn, IsBacked, at, holding, Leaves, Makes};
 
 use crate::desc::{DESCRIPTOR_LIMIT, Desc, Slot};

@@ -4,7 +4,9 @@ ghost use Rattle.std.specs.FinMap.{get};
 ghost use Rattle.dt_tree.specs.FileTree.{FileTree};
 ghost use Rattle.dt_tree.specs.Calls.{UnlessFailed};
 ghost use Rattle.dt_fds.specs.declared.desc.TheConstants.{DESCRIPTOR_LIMIT};
-ghost use Rattle.dt_fds.specs.Descriptions.{slot_at, description_at, is_after, is_of_dir, changed, at_place, with_flags, marked, duplicated, with_copy, table_of, with_table, shared_all};
+ghost use Rattle.dt_fds.specs.Descriptions.{slot_at, description_at, is_after, is_of_dir, changed, at_place};
+ghost use Rattle.dt_fds.specs.Descriptions.{with_flags, marked, duplicated, with_copy, table_of, with_table};
+ghost use Rattle.dt_fds.specs.Descriptions.{shared_all};
 ghost use Rattle.dt_fds.specs.Holding.{over, dup_call};
 ghost use Rattle.dt_fds.specs.Backs.{KeepsNodes, Does, HasFailed};
 
@@ -14,8 +16,8 @@ use dt_base::{Errno, NoMemory};
 use dt_host::{CallErr, HostErr};
 
 impl Files {
-    /// Lets the lowest free descriptor from a given one on refer to the description of an open one (dup(2); fcntl(2), F_DUPFD).
-    /// EBADF where that is not open, then EMFILE where none is free.
+    /// Lets the lowest free descriptor from a given one on refer to the description of an open one (dup(2); fcntl(2),
+    /// F_DUPFD). EBADF where that is not open, then EMFILE where none is free.
     #[tactic(auto, unfolding(crate::specs::Holding::dup_call))]
     pub fn dup(&mut self, pid: u32, fd: u32, from: u32, cloexec: bool) -> Result<u32, CallErr>
         requires { from ≤ DESCRIPTOR_LIMIT }

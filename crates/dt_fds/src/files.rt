@@ -1,11 +1,15 @@
 // The open files of processes.
-ghost use Rattle.std.specs.Prelude.{◌≡◌, ℕ, ◌+◌, ◌-◌, ◌<◌, ◌≤◌, ◌==◌, cond, false, None, Some, IsSome, IfSome, IfOk, OnOk, OnErr, is_some, unwrap_or, slice_set, length, replicate, []};
+ghost use Rattle.std.specs.Prelude.{◌≡◌, ℕ, ◌+◌, ◌-◌, ◌<◌, ◌≤◌, ◌==◌, cond, false, None, Some, IsSome, IfSome, IfOk};
+ghost use Rattle.std.specs.Prelude.{OnOk, OnErr, is_some, unwrap_or, slice_set, length, replicate, []};
 ghost use Rattle.std.specs.Option.{option_copied, is_none};
 ghost use Rattle.std.specs.List.{position};
 ghost use Rattle.std.specs.FinMap.{get, insert, remove};
 ghost use Rattle.dt_fds.specs.Backs.{KeepsNodes};
 ghost use Rattle.dt_fds.specs.declared.desc.TheConstants.{DESCRIPTOR_LIMIT};
-ghost use Rattle.dt_fds.specs.Descriptions.{IsDesc, none_open, table_of, slot_at, description_at, cloexec_at, lowest_free, with_slot, with_table, with_new, opened, duplicated, freed, swept, gone, with_description, at_place, with_flags, is_after, is_of_dir, forgotten};
+ghost use Rattle.dt_fds.specs.Descriptions.{IsDesc, none_open, table_of, slot_at, description_at, cloexec_at};
+ghost use Rattle.dt_fds.specs.Descriptions.{lowest_free, with_slot, with_table, with_new, opened, duplicated, freed};
+ghost use Rattle.dt_fds.specs.Descriptions.{swept, gone, with_description, at_place, with_flags, is_after, is_of_dir};
+ghost use Rattle.dt_fds.specs.Descriptions.{forgotten};
 
 use crate::desc::{DESCRIPTOR_LIMIT, Desc, DescKind, Slot, Spot};
 use dt_base::NoMemory;

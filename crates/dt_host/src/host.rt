@@ -1,10 +1,12 @@
 // What keeps the nodes and the pids of a container, and what each of its calls may answer.
-ghost use Rattle.std.specs.Prelude.{◌≡◌, ◌≢◌, ℕ, ◌+◌, ◌<◌, ◌≤◌, ◌^◌, None, Some, true, length, map, IfOk, IfSome, IsErrOf, IsSome};
+ghost use Rattle.std.specs.Prelude.{◌≡◌, ◌≢◌, ℕ, ◌+◌, ◌<◌, ◌≤◌, ◌^◌, None, Some, true, length, map, IfOk, IfSome};
+ghost use Rattle.std.specs.Prelude.{IsErrOf, IsSome};
 ghost use Rattle.std.specs.List.Sorted.{IsPermutation};
 ghost use Rattle.std.specs.FinMap.{entries};
 ghost use Rattle.std.specs.FinSet.{contains};
 ghost use Rattle.dt_host.specs.Cause.{HasCause};
-ghost use Rattle.dt_host.specs.World.{World, IsLive, IsFile, IsDir, IsLink, IsSized, IsNameless, IsBare, file_at, target_at, names_at, entry, content};
+ghost use Rattle.dt_host.specs.World.{World, IsLive, IsFile, IsDir, IsLink, IsSized, IsNameless, IsBare, file_at};
+ghost use Rattle.dt_host.specs.World.{target_at, names_at, entry, content};
 ghost use Rattle.dt_host.specs.Legal.{Makes, Binds, Unbinds, Forgets, named, Reads, Writes, Cuts, MakesPid, DropsPid};
 
 use crate::entry::HostEntry;

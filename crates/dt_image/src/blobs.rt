@@ -1,5 +1,6 @@
 // The entries of an image, with the bytes of their blobs.
-ghost use Rattle.std.specs.Prelude.{◌≡◌, ◌≤◌, ℕ, Ok, Err, Some, IfOk, IfSome, IsErrOf, IsTrue, map, length, is_some, true, false, nat_le};
+ghost use Rattle.std.specs.Prelude.{◌≡◌, ◌≤◌, ℕ, Ok, Err, Some, IfOk, IfSome, IsErrOf, IsTrue, map, length, is_some};
+ghost use Rattle.std.specs.Prelude.{true, false, nat_le};
 ghost use Rattle.std.specs.List.{list_all, All};
 ghost use Rattle.std.specs.List.Sorted.{IsStrictlySortedBy};
 ghost use Rattle.std.specs.FinMap.{get};
@@ -7,8 +8,10 @@ ghost use Rattle.dt_base.specs.Image.{is_dir, is_good_what, is_good_entry};
 ghost use Rattle.dt_base.specs.declared.refusal.Refusal.{Refusal};
 ghost use Rattle.dt_host.specs.Cause.{HasCause};
 ghost use Rattle.dt_host.specs.Store.{Files, size_of};
-ghost use Rattle.dt_image.specs.ImageOf.{name_in, lists_parent, has_blob, makes_dir, made, mode_made, entry_with, with_blobs};
-ghost use Rattle.dt_image.specs.inner.IndexView.{source_in, entry_in, path_cmp, blob_size, HasSize, is_good_made, is_sound, spot, spot_of};
+ghost use Rattle.dt_image.specs.ImageOf.{name_in, lists_parent, has_blob, makes_dir, made, mode_made, entry_with};
+ghost use Rattle.dt_image.specs.ImageOf.{with_blobs};
+ghost use Rattle.dt_image.specs.inner.IndexView.{source_in, entry_in, path_cmp, blob_size, HasSize, is_good_made};
+ghost use Rattle.dt_image.specs.inner.IndexView.{is_sound, spot, spot_of};
 
 use crate::folder::{bytes_in, name_in, size_in};
 use crate::index::{EntryRef, SourceRef};

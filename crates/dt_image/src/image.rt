@@ -1,5 +1,6 @@
 // An image, read from a folder of a store.
-ghost use Rattle.std.specs.Prelude.{◌≡◌, ℕ, List, ◌≤◌, length, map, codes, vec_len, Some, None, Err, Ok, IfOk, IfSome, IsErrOf, IsTrue};
+ghost use Rattle.std.specs.Prelude.{◌≡◌, ℕ, List, ◌≤◌, length, map, codes, vec_len, Some, None, Err, Ok, IfOk, IfSome};
+ghost use Rattle.std.specs.Prelude.{IsErrOf, IsTrue};
 ghost use Rattle.std.specs.List.{list_all};
 ghost use Rattle.std.specs.List.Sorted.{IsStrictlySortedBy};
 ghost use Rattle.std.specs.FinMap.{get};

@@ -3,7 +3,9 @@ ghost use Rattle.std.specs.Prelude.{◌≡◌, ◌&&◌, ℕ, Some, IfOk, IfSome
 ghost use Rattle.std.specs.List.{list_all};
 ghost use Rattle.serde_json.specs.View.{view, items_view};
 ghost use Rattle.dt_base.specs.Image.{is_target};
-ghost use Rattle.dt_image.specs.Index.{text_at, number_at, mode_of, items_at, is_blob_byte, is_blob_name, is_good_source, is_good, file_of, dir_of, link_of, source_of, entry_of, entries_of, index_of, versioned_items};
+ghost use Rattle.dt_image.specs.Index.{text_at, number_at, mode_of, items_at, is_blob_byte, is_blob_name};
+ghost use Rattle.dt_image.specs.Index.{is_good_source, is_good, file_of, dir_of, link_of, source_of, entry_of};
+ghost use Rattle.dt_image.specs.Index.{entries_of, index_of, versioned_items};
 ghost use Rattle.dt_image.specs.inner.IndexView.{source_in, entry_in, has_mode, is_listed};
 
 use dt_base::{MODE_LIMIT, NAME_LIMIT, NoMemory, PATH_LIMIT, has_no_nul, is_path};

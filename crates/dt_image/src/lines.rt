@@ -7,7 +7,8 @@ ghost use Rattle.sha2.specs.Sha256.{sha256};
 ghost use Rattle.dt_host.specs.Cause.{HasCause};
 ghost use Rattle.dt_host.specs.World.{IsFile, IsLive, content};
 ghost use Rattle.dt_tree.specs.Table.{Stands, shape_of, tree_of};
-ghost use Rattle.dt_image.specs.Report.{escaped_set, is_escaped, file_line, dir_line, link_line, mode_text, path_line, tree_header, tree_text};
+ghost use Rattle.dt_image.specs.Report.{escaped_set, is_escaped, file_line, dir_line, link_line, mode_text, path_line};
+ghost use Rattle.dt_image.specs.Report.{tree_header, tree_text};
 ghost use Rattle.dt_image.specs.inner.PathView.{shown};
 
 use crate::paths::{TreePath, paths_of};

@@ -3,7 +3,8 @@ ghost use Rattle.std.specs.Prelude.{◌≡◌, ◌≢◌, ◌≤◌, false, unwr
 ghost use Rattle.dt_fds.specs.declared.desc.TheConstants.{DESCRIPTOR_LIMIT as MOST};
 ghost use Rattle.dt_fds.specs.Descriptions.{cloexec_at};
 ghost use Rattle.dt_fds.specs.Holding.{dup_call};
-ghost use Rattle.dt_iocalls.specs.Descriptors.{close_row, dup_row, dups_at, dup3_row, is_command, dups_from, sets_cloexec, sets_flags, flags_of, commanded, fcntl_row, ioctl_row};
+ghost use Rattle.dt_iocalls.specs.Descriptors.{close_row, dup_row, dups_at, dup3_row, is_command, dups_from};
+ghost use Rattle.dt_iocalls.specs.Descriptors.{sets_cloexec, sets_flags, flags_of, commanded, fcntl_row, ioctl_row};
 ghost use Rattle.dt_scene.specs.Arguments.{has};
 ghost use Rattle.dt_scene.specs.Scene.{by_outcome, holding};
 ghost use Rattle.dt_scene.specs.Sound.{Sound, Serves, Ends, stage, scene};

@@ -1,12 +1,14 @@
 //! The call that lists a directory (getdents64(2)).
-ghost use Rattle.std.specs.Prelude.{◌≡◌, ◌≢◌, ◌+◌, ◌*◌, ◌<◌, ◌≤◌, ◌++◌, length, take, true, false, Some, IfOk, IfSome, OnOk, not, is_some, option_map};
+ghost use Rattle.std.specs.Prelude.{◌≡◌, ◌≢◌, ◌+◌, ◌*◌, ◌<◌, ◌≤◌, ◌++◌, length, take, true, false, Some, IfOk, IfSome};
+ghost use Rattle.std.specs.Prelude.{OnOk, not, is_some, option_map};
 ghost use Rattle.dt_base.specs.Abi.{low_word, byte_count};
 ghost use Rattle.dt_fds.specs.Descriptions.{description_at, is_of_dir};
 ghost use Rattle.dt_host.specs.World.{Forest, IsDir};
 ghost use Rattle.dt_space.specs.Write.{stored};
 ghost use Rattle.dt_tree.specs.Shape.{is_removed};
 ghost use Rattle.dt_tree.specs.Table.{Stands, shape_of};
-ghost use Rattle.dt_iocalls.specs.Entries.{record_len, dirent, dirents, fitting, told, tells, tells_left, left_of, lists, getdents64_row};
+ghost use Rattle.dt_iocalls.specs.Entries.{record_len, dirent, dirents, fitting, told, tells, tells_left, left_of};
+ghost use Rattle.dt_iocalls.specs.Entries.{lists, getdents64_row};
 ghost use Rattle.dt_iocalls.specs.Places.{name_of};
 ghost use Rattle.dt_scene.specs.Arguments.{argument};
 ghost use Rattle.dt_scene.specs.Sound.{Sound, Serves, Ends, Reaches, stage, scene};

@@ -1,6 +1,8 @@
 //! Buffers of a process in several ranges, which a call takes one after the other as one (readv(2), writev(2)).
-ghost use Rattle.std.specs.Prelude.{◌≡◌, ◌-◌, ◌^◌, Ok, Err, IsOk, IfOk, IfErr, OnErr, MatchResult, length, take, drop, min};
-ghost use Rattle.dt_iocalls.specs.Ranges.{total_len, cut_to, iovec_at, iovecs_at, ranges_at, gathered, scattered, IsGatherErr};
+ghost use Rattle.std.specs.Prelude.{◌≡◌, ◌-◌, ◌^◌, Ok, Err, IsOk, IfOk, IfErr, OnErr, MatchResult, length, take, drop};
+ghost use Rattle.std.specs.Prelude.{min};
+ghost use Rattle.dt_iocalls.specs.Ranges.{total_len, cut_to, iovec_at, iovecs_at, ranges_at, gathered, scattered};
+ghost use Rattle.dt_iocalls.specs.Ranges.{IsGatherErr};
 
 use dt_base::abi::IOV_MAX;
 use dt_base::{Errno, NoMemory, TRANSFER_LIMIT};

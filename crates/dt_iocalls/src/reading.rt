@@ -7,7 +7,8 @@ ghost use Rattle.dt_tree.specs.Table.{Stands, shape_of};
 ghost use Rattle.dt_fds.specs.Backs.{IsIn};
 ghost use Rattle.dt_fds.specs.Descriptions.{is_after, is_of_dir};
 ghost use Rattle.dt_iocalls.specs.Ranges.{total_len, scattered};
-ghost use Rattle.dt_iocalls.specs.Reading.{reads_at, received, reads_on, reads_kind, reads, reads_kind_at, read_row, readv_row, pread64_row};
+ghost use Rattle.dt_iocalls.specs.Reading.{reads_at, received, reads_on, reads_kind, reads, reads_kind_at, read_row};
+ghost use Rattle.dt_iocalls.specs.Reading.{readv_row, pread64_row};
 ghost use Rattle.dt_scene.specs.Filling.{filled};
 ghost use Rattle.dt_scene.specs.Scene.{described, on_description};
 ghost use Rattle.dt_scene.specs.Sound.{Sound, Serves, Ends, stage, scene};
@@ -305,10 +306,5 @@ fn read_part<H: Host>(
     ensures fits { IfOk result (λ bytes. offset + length bytes.items < 2 ^ 64) }
     ensures asks { Asks H.view H.count host.old host.new result }
 {
-    // No more than is left, since the ranges may take near 2 GiB.
-    let left = tree.meta(host, n)?.size.saturating_sub(offset);
-    let count = left.min(total_len(ranges));
-    let mut bytes = vec![in alloc; 0; count as usize]?;
-    tree.read_at(host, n, offset, &mut bytes)?;
-    Ok(bytes)
+    tree.read_part(alloc, host, n, offset, total_len(ranges))
 }

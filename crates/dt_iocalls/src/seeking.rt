@@ -75,7 +75,7 @@ fn seek<H: Host>(
 }
 
 // The offset that a seek in a file leads to.
-#[tactic(auto, unfolding(crate::specs::Seeking::sought), using(crate::proofs::Parts::sized))]
+#[tactic(auto, unfolding(crate::specs::Seeking::sought), using(crate::proofs::Parts::told))]
 fn sought<H: Host>(
     tree: &Tree,
     host: &mut H,

@@ -9,7 +9,9 @@ ghost use Rattle.dt_host.specs.World.{IsFile};
 ghost use Rattle.dt_tree.specs.Table.{Stands, shape_of, tree_of};
 ghost use Rattle.dt_iocalls.specs.Places.{goes_on};
 ghost use Rattle.dt_iocalls.specs.Ranges.{gathered};
-ghost use Rattle.dt_iocalls.specs.Writing.{write_offset, writes_at, writes_on, writes_file, writes_kind, writes_to, write_row, writev_row, writes_bytes_at, writes_file_at, pwrite64_row, cuts_kind, ftruncate_row};
+ghost use Rattle.dt_iocalls.specs.Writing.{write_offset, writes_at, writes_on, writes_file, writes_kind, writes_to};
+ghost use Rattle.dt_iocalls.specs.Writing.{write_row, writev_row, writes_bytes_at, writes_file_at, pwrite64_row};
+ghost use Rattle.dt_iocalls.specs.Writing.{cuts_kind, ftruncate_row};
 ghost use Rattle.dt_scene.specs.Arguments.{argument};
 ghost use Rattle.dt_scene.specs.Scene.{answers};
 ghost use Rattle.dt_scene.specs.Sound.{Sound, Serves, Ends, Reaches, stage, scene};
@@ -162,7 +164,7 @@ fn write_file<H: Host>(
 }
 
 // Where a write goes: to an offset, or to the end of the file with O_APPEND.
-#[tactic(auto, using(crate::proofs::Parts::sized))]
+#[tactic(auto, using(crate::proofs::Parts::told))]
 fn write_offset<H: Host>(
     tree: &Tree,
     host: &mut H,

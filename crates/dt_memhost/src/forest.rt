@@ -1,5 +1,6 @@
 // The nodes of a host in memory, and the order of binding in each directory.
-ghost use Rattle.std.specs.Prelude.{◌≡◌, ◌+◌, ◌<◌, ◌≤◌, ◌^◌, None, length, map, option_map, option_copied, vec_items, IfOk, IfSome, OnOk, OnErr};
+ghost use Rattle.std.specs.Prelude.{◌≡◌, ◌+◌, ◌<◌, ◌≤◌, ◌^◌, None, length, map, option_map, option_copied, vec_items};
+ghost use Rattle.std.specs.Prelude.{IfOk, IfSome, OnOk, OnErr};
 ghost use Rattle.std.specs.List.Sorted.{IsPermutation};
 ghost use Rattle.std.specs.FinMap.{entries, get, contains_key};
 ghost use Rattle.dt_host.specs.World.{IsFile, IsDir, IsSized, file_at, target_at, names_at, content, entry};

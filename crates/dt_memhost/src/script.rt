@@ -4,7 +4,8 @@ ghost use Rattle.dt_host.specs.declared.error.HostErr.TheVariants.{Failed as hos
 ghost use Rattle.dt_host.specs.declared.error.StoreErr.TheVariants.{Failed as store_failed};
 ghost use Rattle.dt_host.specs.declared.error.SinkErr.TheVariants.{Failed as sink_failed};
 ghost use Rattle.dt_memhost.specs.Picks.{length_by};
-ghost use Rattle.dt_memhost.specs.Script.{script_of, fails_next, counted, failed, picked, picked_all, restarted, word_of, words_of};
+ghost use Rattle.dt_memhost.specs.Script.{script_of, fails_next, counted, failed, picked, picked_all, restarted};
+ghost use Rattle.dt_memhost.specs.Script.{word_of, words_of};
 
 use crate::picker::Picker;
 use dt_host::{HostErr, SinkErr, StoreErr};

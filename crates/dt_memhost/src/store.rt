@@ -1,5 +1,6 @@
 // A store in memory.
-ghost use Rattle.std.specs.Prelude.{◌≡◌, ◌+◌, ◌<◌, ◌++◌, length, take, drop, Ok, OnOk, OnErr, IfOk, IsErrOf, option_map, option_copied, vec_items};
+ghost use Rattle.std.specs.Prelude.{◌≡◌, ◌+◌, ◌<◌, ◌++◌, length, take, drop, Ok, OnOk, OnErr, IfOk, IsErrOf};
+ghost use Rattle.std.specs.Prelude.{option_map, option_copied, vec_items};
 ghost use Rattle.std.specs.FinMap.{get, insert};
 ghost use Rattle.dt_host.specs.Cause.{HasCause};
 ghost use Rattle.dt_host.specs.Sink.{MovesSome};

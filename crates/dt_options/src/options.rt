@@ -1,9 +1,11 @@
 // The command line.
-ghost use Rattle.std.specs.Prelude.{◌≡◌, ◌≤◌, ◌+◌, drop, length, map, string_bytes, codes, not, Some, None, IfSome, IfOk, Err, ◌<◌, ◌==◌};
+ghost use Rattle.std.specs.Prelude.{◌≡◌, ◌≤◌, ◌+◌, drop, length, map, string_bytes, codes, not, Some, None, IfSome};
+ghost use Rattle.std.specs.Prelude.{IfOk, Err, ◌<◌, ◌==◌};
 ghost use Rattle.std.specs.List.{list_all, position};
 ghost use Rattle.std.specs.Str.{bytes_eq};
 ghost use Rattle.dt_base.specs.Path.{has_no_nul};
-ghost use Rattle.dt_options.specs.Options.{request_of, request_in, as_request, command_in, is_assignment, is_variable, is_variable_start, is_variable_byte};
+ghost use Rattle.dt_options.specs.Options.{request_of, request_in, as_request, command_in, is_assignment, is_variable};
+ghost use Rattle.dt_options.specs.Options.{is_variable_start, is_variable_byte};
 ghost use Rattle.dt_options.specs.declared.options.UsageErr.TheVariants.{NoMemory as OutOfMemory};
 
 mod arguments;

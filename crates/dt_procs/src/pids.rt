@@ -4,7 +4,8 @@ ghost use Rattle.std.specs.FinSet.{empty};
 ghost use Rattle.dt_host.specs.Cause.{HasCause};
 ghost use Rattle.dt_host.specs.World.{OnlyPids, Pids as HostPids};
 ghost use Rattle.dt_procs.specs.declared.error.ProcErr.TheVariants.{Full, Host as host_failed};
-ghost use Rattle.dt_procs.specs.Members.{first_members, with_child, is_full, ended, look_for, reaped, without, is_got, member_at, parent_of, end_of, lives};
+ghost use Rattle.dt_procs.specs.Members.{first_members, with_child, is_full, ended, look_for, reaped, without, is_got};
+ghost use Rattle.dt_procs.specs.Members.{member_at, parent_of, end_of, lives};
 ghost use Rattle.dt_procs.specs.Table.{members_of, Stands, IsTable};
 
 use crate::error::ProcErr;
@@ -57,9 +58,9 @@ impl Pids {
         })
     }
 
-    /// A new child of a process, and its pid (fork(2)). Full exactly where there are 64 processes, zombies included; then
-    /// nothing changes. Want of memory is the answer where the pids are used up. After a Host error the value may only
-    /// be dropped.
+    /// A new child of a process, and its pid (fork(2)). Full exactly where there are 64 processes, zombies included;
+    /// then nothing changes. Want of memory is the answer where the pids are used up. After a Host error the value may
+    /// only be dropped.
     pub fn child<H: Host>(&mut self, host: &mut H, parent: u32) -> Result<u32, ProcErr>
         requires stands { Stands self.old (H.view host.old).pids }
         ensures full { (IsErrOf result Full) ↔ IsTrue (is_full (members_of self.old)) }

@@ -178,14 +178,14 @@ fn a_number_for_the_host_is_one_call_more(rt: HostRuntime) -> Result<(), Fail> {
         b"{\"version\":1,\"entries\":[]}".as_slice(),
     )];
     let want = b"dettrace 1\nverdict nostart 2\ntree 0\n";
-    // Without it the host is asked for its root twice, and for a name.
+    // Without it the host is asked for its root twice, for a process id, and for a name.
     let mut call = Call::new("run\nimg\n--\n/x", &files);
-    call.host_fails = Some(4);
+    call.host_fails = Some(5);
     let came = call.make(alloc)?;
-    expect(&rt, &came, "three calls", 10, want, b"");
+    expect(&rt, &came, "four calls", 10, want, b"");
     let mut call = Call::new("run\nimg\n--host\n7\n--\n/x", &files);
-    call.host_fails = Some(4);
+    call.host_fails = Some(5);
     let came = call.make(alloc)?;
-    expect(&rt, &came, "four calls", 5, b"", b"dettrace: host fault\n");
+    expect(&rt, &came, "five calls", 5, b"", b"dettrace: host fault\n");
     Ok(())
 }

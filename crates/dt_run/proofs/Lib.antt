@@ -1,5 +1,13 @@
 pub mod Turns
-pub mod Stops
+pub mod Aheads
+pub mod Aways
+pub mod Works
+pub mod Noted
+pub mod Queued
+pub mod Placed
+pub mod Came
+pub mod Arriving
+pub mod Ending
 pub mod Holding
 pub mod Completed
 pub mod Wanting

@@ -11,6 +11,8 @@ use Rattle.dt_base.specs.Image.{IsImage}
 use Rattle.dt_host.specs.Store.{Files}
 use Rattle.dt_host.specs.World.{World}
 use Rattle.dt_options.specs.Options.{Request, request_of}
+use Rattle.dt_procs.specs.declared.member.TheConstants.{FIRST_PID}
+use Rattle.dt_procs.specs.Members.{end_of}
 use Rattle.dt_options.specs.declared.options.UsageErr.{UsageErr}
 use Rattle.dt_options.specs.declared.options.UsageErr.TheVariants.{Refused as WordsRefused, NoMemory as NoWordsMemory}
 use Rattle.dt_image.specs.ImageOf.{image_of}
@@ -36,7 +38,7 @@ status_by-end (Some (Signal signal)) = refl
 
 -- the status of a run is 0, 1 or 10
 pub completes-status : (run : Run) (status : ℕ) (old new : Option (List ℕ)) (w : World) → Completes run status old new w → IsTrue (is_run_status status)
-completes-status run status old new w c = subst (λ s. IsTrue (is_run_status s)) (sym c.status) (status_by-end run.last.process.end)
+completes-status run status old new w c = subst (λ s. IsTrue (is_run_status s)) (sym c.status) (status_by-end (end_of run.last.members FIRST_PID))
 
 -- what a request wants, for words that make it
 wanted-request : (told : Option Files) (words : List (List ℕ)) (request : Option Request) → request_of words ≡ request → wanted told words ≡ wanted_by request told

@@ -1,8 +1,10 @@
 pub mod Failure
 pub mod HoldsTree
 pub mod Work
+pub mod Queue
 pub mod Turn
 pub mod Run
+pub mod Ahead
 pub mod Wanted
 pub mod SomeRun
 pub mod Statuses

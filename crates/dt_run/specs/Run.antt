@@ -1,5 +1,5 @@
 -- A whole run: a function of the image, the command, the seed and the budget.
-use Rattle.std.specs.Prelude.{ℕ, zero, suc, ◌+◌, ◌==◌, List, [], ◌++◌, Option, Some, None, if◌then◌else◌}
+use Rattle.std.specs.Prelude.{ℕ, zero, suc, ◌+◌, ◌==◌, List, [], ◌∷◌, ◌++◌, Option, Some, None, if◌then◌else◌}
 use Rattle.dt_base.specs.declared.image.Entry.{Entry}
 use Rattle.dt_base.specs.declared.event.End.{End}
 use Rattle.dt_base.specs.declared.event.End.TheVariants.{Code, Signal}
@@ -7,6 +7,9 @@ use Rattle.dt_base.specs.declared.event.Event.{Event}
 use Rattle.dt_base.specs.declared.event.Verdict.{Verdict}
 use Rattle.dt_base.specs.declared.event.Verdict.TheVariants as verdict
 use Rattle.dt_base.specs.Command.{Words}
+use Rattle.dt_host.specs.Values.{map_values}
+use Rattle.dt_procs.specs.declared.member.TheConstants.{FIRST_PID}
+use Rattle.dt_procs.specs.Members.{end_of}
 use Rattle.dt_tree.specs.ImageTree.{image_tree}
 use Rattle.dt_calls.specs.declared.container.Launch.{Launch}
 use Rattle.dt_calls.specs.declared.container.Launch.TheVariants.{Started, NoStart}
@@ -14,7 +17,8 @@ use Rattle.dt_calls.specs.Container.{Shared, Container, first_container}
 use Rattle.dt_calls.specs.Launch.{launch}
 use Rattle.dt_image.specs.Report.{report}
 use Rattle.dt_run.specs.declared.status.TheConstants.{ENDED_ZERO, ENDED_OTHERWISE, NOT_ENDED}
-use Rattle.dt_run.specs.Turn.{State, Turn, first_state, turn}
+use Rattle.dt_run.specs.Work.{owing}
+use Rattle.dt_run.specs.Turn.{State, Turn, turn}
 
 -- what a run gives: its events, its verdict, and what its processes shared at last
 pub record Run : Type 0 where
@@ -38,7 +42,16 @@ run_at_most (suc most) s = let t = turn s in go_on t t.verdict (run_at_most most
 
 -- turns until a verdict: each costs at least 1, and one more than the budget finds it spent
 unfoldable pub run_turns : State → Run
-run_turns s = run_at_most (s.left + 1) s
+run_turns s = run_at_most (s.queue.left + 1) s
+
+-- a run that begins: each process whose machine is at home owes a segment, and the first has the first turn
+abbrev pub first_state : Container → ℕ → State
+first_state c budget = record {
+  shared = c.shared;
+  works = map_values owing c.machines;
+  queue = record { order = FIRST_PID ∷ []; blocked = 0; left = budget };
+  next = c.next;
+}
 
 -- a program that was started runs until a verdict, and else the run is over at once
 abbrev pub run_from : ℕ → Container → Launch → Run
@@ -65,7 +78,7 @@ status_by (Some end) = ended_status end
 
 -- the status of a run
 abbrev pub status_of : Run → ℕ
-status_of run = status_by run.last.process.end
+status_of run = status_by (end_of run.last.members FIRST_PID)
 
 -- the report of a run
 abbrev pub report_of : Run → List ℕ

@@ -1,24 +1,25 @@
--- One turn of a run with one process.
-use Rattle.std.specs.Prelude.{ℕ, ◌-◌, List, [], Option, Some, None, option_map, nat_le, if◌then◌else◌}
+-- One turn of a run: the head of the queue.
+use Rattle.std.specs.Prelude.{ℕ, ◌-◌, List, [], ◌∷◌, Bool, true, false, Option, Some, None, option_map, nat_le, if◌then◌else◌}
+use Rattle.std.specs.FinMap.{empty, get, insert, remove}
 use Rattle.dt_base.specs.declared.event.Event.{Event}
 use Rattle.dt_base.specs.declared.event.Verdict.{Verdict}
 use Rattle.dt_base.specs.declared.event.Verdict.TheVariants as verdict
 use Rattle.dt_rv64.specs.declared.machine.Machine.{Machine}
-use Rattle.dt_calls.specs.declared.numbers.TheConstants.{FIRST_PID}
 use Rattle.dt_calls.specs.declared.container.Served.{Served}
-use Rattle.dt_calls.specs.declared.container.Served.TheVariants.{Done, Ended, Unsupported}
-use Rattle.dt_calls.specs.Container.{Shared, Container}
-use Rattle.dt_calls.specs.Settle.{Settled, serve_machine}
+use Rattle.dt_calls.specs.declared.container.Served.TheVariants.{Done, Child, LastChild, Blocked, Ended, Unsupported}
+use Rattle.dt_calls.specs.Container.{Shared}
+use Rattle.dt_calls.specs.Settle.{Settled, serve_machine, next_after}
 use Rattle.dt_run.specs.declared.phase.Phase.{Phase}
-use Rattle.dt_run.specs.declared.phase.Phase.TheVariants.{Owes, Ran}
-use Rattle.dt_run.specs.Work.{Work, with_segment, cost_of}
+use Rattle.dt_run.specs.declared.phase.Phase.TheVariants.{Owes, Waits}
+use Rattle.dt_run.specs.Work.{Work, Works, owing, with_segment, cost_of, stop_of}
+use Rattle.dt_run.specs.Queue.{Queue, told, queue_after, verdict_by}
 
--- a run between two turns: what processes share, the one process's own part, or none where it has ended or wasn't started,
--- and the budget that is left, in steps
+-- a run between two turns: what processes share, each one's own part, the queue, and the pid that the next child gets
 pub record State : Type 0 where
   pub shared : Shared
-  pub own : Option Work
-  pub left : ℕ
+  pub works : Works
+  pub queue : Queue
+  pub next : ℕ
 
 -- the state after a turn, what showed in it, and the verdict, where it is the last
 pub record Turn : Type 0 where
@@ -26,59 +27,113 @@ pub record Turn : Type 0 where
   pub events : List Event
   pub verdict : Option Verdict
 
--- the part of a process in a phase, which it has as long as it has a machine
-abbrev pub own_of : Phase → Option Machine → Option Work
-own_of phase machine = option_map (λ m. record { machine = m; phase = phase }) machine
-
--- a run that begins: the process owes a segment
-abbrev pub first_state : Container → ℕ → State
-first_state c budget = record { shared = c.shared; own = own_of Owes c.machine; left = budget }
-
--- the run is over in this state, and nothing showed
-abbrev pub over : State → Verdict → Turn
-over s found = record { next = s; events = []; verdict = Some found }
+-- what a turn of one process comes to: what is shared and the queue then, its own part, or none where it has ended, a
+-- child's machine, what shows, and the verdict, where there is one. The others' own parts have no part in it
+pub record Act : Type 0 where
+  pub shared : Shared
+  pub queue : Queue
+  pub own : Option Work
+  pub child : Option Machine
+  pub events : List Event
+  pub verdict : Option Verdict
 
 -- where a process stands after its stop was served: where its call isn't supported it stays
 abbrev pub phase_after : Phase → Served → Phase
 phase_after phase Done = Owes
+phase_after phase (Child vpid) = Owes
+phase_after phase (LastChild vpid) = phase
+phase_after phase Blocked = Waits
 phase_after phase Ended = phase
 phase_after phase (Unsupported number) = phase
 
--- whether the run is over then
-abbrev pub verdict_after : Served → Option Verdict
-verdict_after Done = None
-verdict_after Ended = Some verdict.Ended
-verdict_after (Unsupported number) = Some (verdict.Unsupported FIRST_PID number)
+-- its own part then, or none where it has ended
+abbrev pub own_after : Phase → Served → Option Machine → Option Work
+own_after phase served machine = option_map (λ m. record { machine = m; phase = phase_after phase served }) machine
 
--- the turn of a process in a phase whose stop was served, with so much of the budget left
-abbrev pub turned : ℕ → Phase → Settled → Turn
-turned left phase r = record {
-  next = record { shared = r.container.shared; own = own_of (phase_after phase r.served) r.container.machine; left = left };
-  events = r.container.events;
-  verdict = verdict_after r.served;
+-- what becomes of the process and of the queue
+unfoldable pub settled : Queue → ℕ → Phase → Settled → Act
+settled q p phase r =
+    let t = told r.served in
+    let to = queue_after q p t in
+    record {
+      shared = r.shared;
+      queue = to;
+      own = own_after phase r.served r.own;
+      child = r.child;
+      events = r.events;
+      verdict = verdict_by to p t;
+    }
+
+-- a turn that was paid for: the stop is served, or a waiting call again
+unfoldable pub paid : Shared → Queue → ℕ → ℕ → Work → Act
+paid c q next p w = settled q p w.phase (serve_machine c next p (stop_of w.phase) w.machine)
+
+-- the budget doesn't pay for the turn, and nothing of it happens
+abbrev pub unpaid : Shared → Queue → Work → Act
+unpaid c q w = record { shared = c; queue = q; own = Some w; child = None; events = []; verdict = Some verdict.Budget }
+
+-- what a process does in its turn once its segment was run
+unfoldable pub act : Shared → Queue → ℕ → ℕ → Work → Act
+act c q next p w =
+    if nat_le (cost_of w.phase) q.left then paid c (record q { left = q.left - cost_of w.phase }) next p w
+    else unpaid c q w
+
+-- whether all processes have ended
+abbrev pub all_ended : Option Verdict → Bool
+all_ended None = false
+all_ended (Some verdict.Ended) = true
+all_ended (Some verdict.Deadlock) = false
+all_ended (Some verdict.Budget) = false
+all_ended (Some (verdict.Unsupported vpid number)) = false
+all_ended (Some (verdict.NoStart errno)) = false
+
+-- with a process's own part, or without where it has ended
+abbrev pub with_own : Works → ℕ → Option Work → Works
+with_own works p None = remove works p
+with_own works p (Some w) = insert works p w
+
+-- with a child, which owes a segment
+abbrev pub with_child : Works → ℕ → Option Machine → Works
+with_child works next None = works
+with_child works next (Some m) = insert works next (owing m)
+
+-- the works after a turn: the process's own, that of a child, and the others' as they were; at the end of all none
+unfoldable pub changed : Works → ℕ → ℕ → Act → Works
+changed works p next a = if all_ended a.verdict then empty else with_child (with_own works p a.own) next a.child
+
+-- the state after what a process did
+abbrev pub acted : State → ℕ → Act → Turn
+acted s p a = record {
+  next = record {
+    shared = a.shared;
+    works = changed s.works p s.next a;
+    queue = a.queue;
+    next = next_after s.next a.child;
+  };
+  events = a.events;
+  verdict = a.verdict;
 }
 
--- the rest of a turn that was paid for: the stop of the segment is served. No turn of a run comes here without one
-abbrev pub paid : Shared → ℕ → Work → Phase → Turn
-paid c left w (Ran seg) = turned left w.phase (serve_machine c FIRST_PID seg.stop w.machine)
-paid c left w Owes = over (record { shared = c; own = Some w; left = left }) verdict.Deadlock
+-- nobody stands in the queue, or the first of it has no part at home; no run comes here
+abbrev pub stuck : State → Turn
+stuck s = record { next = s; events = []; verdict = Some verdict.Deadlock }
 
--- what a process does in its turn once its segment was run: the budget pays for it, or the run is over with nothing done
-unfoldable pub act : Shared → ℕ → Work → Turn
-act c left w =
-    if nat_le (cost_of w.phase) left
-    then paid c (left - cost_of w.phase) w w.phase
-    else over (record { shared = c; own = Some w; left = left }) verdict.Budget
+-- the turn of a process whose own part is at home: the segment that it owes is run, its cost is paid, and its stop is
+-- served
+abbrev pub taken : State → ℕ → Option Work → Turn
+taken s p None = stuck s
+taken s p (Some w) = acted s p (act s.shared s.queue s.next p (with_segment w))
 
--- a state in which the segment that the process owes was run
-unfoldable pub ran : State → State
-ran s = record s { own = option_map with_segment s.own }
+-- the turn of the process that stands first, if one does
+abbrev pub headed : State → Option ℕ → Turn
+headed s None = stuck s
+headed s (Some p) = taken s p (get s.works p)
 
--- the turn of the process; no turn of a run comes here without one
-abbrev pub acted : State → Option Work → Turn
-acted s None = over s verdict.Deadlock
-acted s (Some w) = act s.shared s.left w
+-- the first of a list
+abbrev pub first_of : List ℕ → Option ℕ
+first_of [] = None
+first_of (p ∷ rest) = Some p
 
--- a turn: the segment that the process owes is run, its cost is paid, and its stop is served
+-- a turn: that of the head of the queue
 unfoldable pub turn : State → Turn
-turn s = let next = ran s in acted next next.own
+turn s = headed s (first_of s.queue.order)

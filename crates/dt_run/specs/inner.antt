@@ -3,3 +3,4 @@ pub mod Errors
 pub mod Failures
 pub mod Fails
 pub mod InCode
+pub mod Good

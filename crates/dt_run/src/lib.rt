@@ -6,13 +6,19 @@
 
 mod error;
 mod failure;
+mod laws;
 mod phase;
 mod run;
+mod state;
 pub mod status;
 mod top;
 mod turn;
 
 pub use error::RunErr;
 pub use failure::Failure;
+pub use laws::{
+    running_ahead_again_changes_nothing, runs_do_not_see_what_ran_ahead,
+    turn_does_not_see_machines_that_are_away, turn_does_not_see_what_ran_ahead,
+};
 pub use run::run_container;
 pub use top::{dettrace, write_failure};

@@ -1,32 +1,35 @@
 // A whole run of a command on an image.
-ghost use Rattle.std.specs.Prelude.{◌≡◌, ◌≤◌, IfOk, IsErrOf};
+ghost use Rattle.std.specs.Prelude.{◌≡◌, ◌≤◌, IsSome, IfOk, IsErrOf};
+ghost use Rattle.std.specs.FinMap.{get};
 ghost use Rattle.dt_host.specs.Asks.{Asks};
 ghost use Rattle.dt_host.specs.Cause.{HasCause};
 ghost use Rattle.dt_host.specs.Sink.{AddsPart};
 ghost use Rattle.dt_host.specs.World.{IsEmptyStart};
+ghost use Rattle.dt_procs.specs.declared.member.TheConstants.{FIRST_PID};
 ghost use Rattle.dt_tree.specs.Table.{Stands, tree_of};
-ghost use Rattle.dt_calls.specs.declared.numbers.TheConstants.{FIRST_PID};
-ghost use Rattle.dt_calls.specs.InCode.{IsHome, container_of};
-ghost use Rattle.dt_calls.specs.Sound.{IsSound};
+ghost use Rattle.dt_calls.specs.InCode.{container_of, home_of};
+ghost use Rattle.dt_calls.specs.Sound.{IsSoundContainer};
 ghost use Rattle.dt_image.specs.Report.{report};
-ghost use Rattle.dt_run.specs.Run.{run_turns, run_from, run_of, status_by, report_of};
+ghost use Rattle.dt_run.specs.Run.{run_from, run_of, status_by, report_of};
 ghost use Rattle.dt_run.specs.Statuses.{Completes};
-ghost use Rattle.dt_run.specs.inner.InCode.{state_of, run_as};
+ghost use Rattle.dt_run.specs.inner.Good.{IsGood};
+ghost use Rattle.dt_run.specs.inner.InCode.{state_of, run_as, rest_of};
 
 use crate::error::RunErr;
+use crate::state::State;
 use crate::status::{ENDED_OTHERWISE, ENDED_ZERO, NOT_ENDED};
-use crate::turn::State;
 use dt_base::{Command, End, Event, Image, Verdict};
-use dt_calls::numbers::FIRST_PID;
 use dt_calls::{Container, Launch};
 use dt_host::{Gate, Host, HostErr, Sink, sink_all};
 use dt_image::{events_text, header, tree_lines, verdict_text};
+use dt_procs::FIRST_PID;
+use dt_sched::Head;
 use std::alloc::Global;
 
 /// Runs a command on an image at a host that holds nothing, and writes the run's report to `out`. The answer is the
 /// status.
 ///
-/// `budget` is counted in steps. One process takes no second worker, so that `workers` and `gate` have no effect.
+/// `budget` is counted in steps. All segments are run on this one thread, so that `workers` and `gate` have no effect.
 pub fn run_container<H: Host + Send, O: Sink + Send, G: Gate + Sync>(
     alloc: Global,
     image: &Image,
@@ -72,16 +75,16 @@ fn run_from<H: Host>(
     budget: u64,
     launch: Launch,
 ) -> Result<Run, HostErr>
-    requires sound { IsSound container.shared (H.view host.old) }
-    requires home { launch ≡ Launch.Started → IsHome container FIRST_PID }
+    requires sound { IsSoundContainer container (H.view host.old) }
+    requires home { launch ≡ Launch.Started → IsSome (get (home_of container.places) FIRST_PID) }
     ensures ok { IfOk result (λ run. run_from budget (container_of container (H.view host.old)) launch
         ≡ run_as run (H.view host.new)) }
-    ensures sound { IfOk result (λ run. IsSound run.last.shared (H.view host.new)) }
+    ensures sound { IfOk result (λ run. IsSoundContainer run.last (H.view host.new)) }
     ensures cause { HasCause (H.count host.old) (H.count host.new) (IsErrOf result HostErr.Failed) }
 {
     let _before = host.faults();
     match launch {
-        Launch::Started => run_turns(alloc, host, State::new(container, budget)),
+        Launch::Started => run_turns(alloc, host, State::new(alloc, container, budget)?),
         Launch::NoStart(errno) => Ok(Run {
             events: Vec::new(alloc),
             verdict: Verdict::NoStart(errno),
@@ -90,23 +93,22 @@ fn run_from<H: Host>(
     }
 }
 
-// Takes turns until a verdict.
+// Lets segments arrive and takes turns until the run is over.
 fn run_turns<H: Host>(alloc: Global, host: &mut H, mut state: State) -> Result<Run, HostErr>
-    requires sound { IsSound state.container.shared (H.view host.old) }
-    requires home { IsHome state.container FIRST_PID }
+    requires sound { IsSoundContainer state.container (H.view host.old) }
+    requires good { IsGood state }
     ensures ok { IfOk result
-        (λ run. run_turns (state_of state (H.view host.old)) ≡ run_as run (H.view host.new)) }
-    ensures sound { IfOk result (λ run. IsSound run.last.shared (H.view host.new)) }
+        (λ run. rest_of (state_of state (H.view host.old)) state.core.verdict ≡ run_as run (H.view host.new)) }
+    ensures sound { IfOk result (λ run. IsSoundContainer run.last (H.view host.new)) }
     ensures cause { HasCause (H.count host.old) (H.count host.new) (IsErrOf result HostErr.Failed) }
 {
     let _before = host.faults();
     let mut events = Vec::new(alloc);
     loop {
-        let mut turn = state.turn(alloc, host)?;
-        events.append(&mut turn.events)?;
-        match turn.verdict {
-            None => {}
-            Some(verdict) => {
+        match state.core.head() {
+            Head::NotArrived(_) => state.arrive_next(host)?,
+            Head::Ready(vpid) => events.append(&mut state.turn(alloc, host, vpid)?)?,
+            Head::Over(verdict) => {
                 return Ok(Run {
                     events,
                     verdict,

@@ -1,15 +1,18 @@
 // The call that the program makes.
-ghost use Rattle.std.specs.Prelude.{◌≡◌, ◌≢◌, ◌≤◌, ◌⊎◌, Some, Err, map, string_bytes, IsTrue, IsOk, IfSome, IfOk, IfErr, IsErrOf};
+ghost use Rattle.std.specs.Prelude.{◌≡◌, ◌≢◌, ◌≤◌, ◌⊎◌, Some, Err, map, string_bytes, IsTrue, IsOk, IfSome, IfOk};
+ghost use Rattle.std.specs.Prelude.{IfErr, IsErrOf};
 ghost use Rattle.dt_host.specs.Asks.{Asks};
 ghost use Rattle.dt_host.specs.Cause.{HasCause};
 ghost use Rattle.dt_host.specs.Sink.{AddsPart};
 ghost use Rattle.dt_host.specs.World.{IsEmptyStart};
-ghost use Rattle.dt_run.specs.declared.status.TheConstants.{WORDS_REFUSED, IMAGE_REFUSED, STORE_FAULT, HOST_FAULT, OUTPUT_FAULT, OUT_OF_MEMORY};
+ghost use Rattle.dt_run.specs.declared.status.TheConstants.{WORDS_REFUSED, IMAGE_REFUSED, STORE_FAULT, HOST_FAULT};
+ghost use Rattle.dt_run.specs.declared.status.TheConstants.{OUTPUT_FAULT, OUT_OF_MEMORY};
 ghost use Rattle.dt_run.specs.Run.{run_of, report_of};
 ghost use Rattle.dt_run.specs.Failure.{failure_status, failure_line};
 ghost use Rattle.dt_run.specs.Wanted.{wanted};
 ghost use Rattle.dt_run.specs.SomeRun.{SomeRun, AddsReportPart};
-ghost use Rattle.dt_run.specs.Statuses.{is_status, is_run_status, precedes_run, fails_run, Stayed, Completes, RefusesImage, status_line, AddsLine, AddsSomeLine, AddsRefusal};
+ghost use Rattle.dt_run.specs.Statuses.{is_status, is_run_status, precedes_run, fails_run, Stayed, Completes};
+ghost use Rattle.dt_run.specs.Statuses.{RefusesImage, status_line, AddsLine, AddsSomeLine, AddsRefusal};
 ghost use Rattle.dt_run.specs.inner.Fails.{Fails};
 
 use crate::error::RunErr;

@@ -1,7 +1,10 @@
 // The instruction that a word is.
 ghost use Rattle.std.specs.Prelude.{◌≡◌};
-ghost use Rattle.dt_rv64.specs.Instruction.{instr, jalr_of, branch_of, load_of, store_of, misc_mem_of, read_counter_of, system_of};
-ghost use Rattle.dt_rv64.specs.Operations.{shift_left_of, shift_right_of, op_imm_of, shift_left_32_of, shift_right_32_of, op_imm_32_of, op_base_of, op_multiply_of, op_other_of, op_of, op_32_base_of, op_32_multiply_of, op_32_other_of, op_32_of};
+ghost use Rattle.dt_rv64.specs.Instruction.{instr, jalr_of, branch_of, load_of, store_of, misc_mem_of, read_counter_of};
+ghost use Rattle.dt_rv64.specs.Instruction.{system_of};
+ghost use Rattle.dt_rv64.specs.Operations.{shift_left_of, shift_right_of, op_imm_of, shift_left_32_of};
+ghost use Rattle.dt_rv64.specs.Operations.{shift_right_32_of, op_imm_32_of, op_base_of, op_multiply_of, op_other_of};
+ghost use Rattle.dt_rv64.specs.Operations.{op_of, op_32_base_of, op_32_multiply_of, op_32_other_of, op_32_of};
 
 use crate::fields::{
     b_immediate, csr, funct3, funct6, funct7, i_immediate, j_immediate, opcode, rd, rs1, rs2,

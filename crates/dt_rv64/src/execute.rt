@@ -1,6 +1,7 @@
 // One instruction carried out, by class.
 ghost use Rattle.std.specs.Prelude.{◌≡◌};
-ghost use Rattle.dt_rv64.specs.inner.Classes.{IsFrom, Branch, Load, Store, Immediate, Register, Word, Multiply, MultiplyWord};
+ghost use Rattle.dt_rv64.specs.inner.Classes.{IsFrom, Branch, Load, Store, Immediate, Register, Word, Multiply};
+ghost use Rattle.dt_rv64.specs.inner.Classes.{MultiplyWord};
 ghost use Rattle.dt_rv64.specs.Machine.{executed};
 
 use crate::instruction::Instr;

@@ -1,6 +1,7 @@
 // The machine: registers, a program counter and a space, and one step of it.
 ghost use Rattle.std.specs.Prelude.{◌≡◌, ◌≢◌};
-ghost use Rattle.dt_rv64.specs.Effects.{register, with_register, wrote, jumped, branched, passed, relative, even, address, answered, counter_read};
+ghost use Rattle.dt_rv64.specs.Effects.{register, with_register, wrote, jumped, branched, passed, relative, even};
+ghost use Rattle.dt_rv64.specs.Effects.{address, answered, counter_read};
 ghost use Rattle.dt_rv64.specs.Machine.{exec};
 ghost use Rattle.dt_rv64.specs.Valid.{IsMachine};
 

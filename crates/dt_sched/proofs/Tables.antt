@@ -4,6 +4,7 @@ use Rattle.std.proofs.lemmas.List.{length-map}
 use Rattle.std.proofs.lemmas.Bool.Decides.{nat_tests}
 use Rattle.std.proofs.lemmas.Grind.{common_steps}
 use Rattle.std.specs.List.{filter}
+use Rattle.dt_sched.specs.declared.queue.TheConstants.{QUEUE_LIMIT}
 use Rattle.dt_sched.specs.declared.settled.Head.TheVariants.{Ready, Over}
 use Rattle.dt_base.specs.declared.event.Verdict.{Verdict}
 use Rattle.dt_sched.specs.Queue.{IsTable, first_of, queue_at}
@@ -75,20 +76,20 @@ table-arrived vpid cost xs ys owed left room owed_room left_room table new less 
   each_once = subst (λ l. IsTrue (each_once l)) (sym new) (subst IsTrue (sym (each_once-arrived vpid cost xs)) table.each_once);
   few = rw (new, length-map) table.few;
   exact = rw (less, table.exact, new) (sym (owing-arrived vpid cost xs));
-  room_64 = table.room_64;
-  owed_64 = rw same table.owed_64;
+  has_room = table.has_room;
+  has_owed_room = rw same table.has_owed_room;
 }
 
 -- the table with a new process
 pub table-push : (xs ys : List Process) (x : Process) (owed more : List ℕ) (room ys_room owed_room more_room : ℕ)
-    → IsTable xs owed room owed_room → holds x.vpid xs ≡ false → length xs + 1 ≤ 64 → ys ≡ xs ++ x ∷ []
+    → IsTable xs owed room owed_room → holds x.vpid xs ≡ false → length xs + 1 ≤ QUEUE_LIMIT → ys ≡ xs ++ x ∷ []
     → more ≡ owed ++ owing (x ∷ []) → room ≤ ys_room → owed_room ≤ more_room → IsTable ys more ys_room more_room
 table-push xs ys x owed more room ys_room owed_room more_room table new fits joined longer above above_owed = record {
   each_once = subst (λ l. IsTrue (each_once l)) (sym joined) (each_once-push xs x table.each_once new);
   few = rw (joined, length-append) fits;
   exact = rw (longer, table.exact, joined) (sym (owing-append xs (x ∷ [])));
-  room_64 = omega (arith, table.room_64);
-  owed_64 = omega (arith, table.owed_64);
+  has_room = omega (arith, table.has_room);
+  has_owed_room = omega (arith, table.has_owed_room);
 }
 
 -- process 1 lives on where there is no verdict

@@ -3,6 +3,7 @@ use Rattle.std.specs.Prelude.{ℕ, ◌≡◌, ◌+◌, ◌-◌, ◌<◌, ◌≤�
 use Rattle.dt_base.specs.declared.event.Verdict.{Verdict}
 use Rattle.dt_base.specs.declared.event.Verdict.TheVariants.{Ended, Deadlock, Budget, Unsupported}
 use Rattle.dt_base.specs.declared.limits.TheConstants.{SEGMENT_LIMIT}
+use Rattle.dt_sched.specs.declared.queue.TheConstants.{QUEUE_LIMIT}
 use Rattle.dt_sched.specs.declared.process.Process.{Process}
 use Rattle.dt_sched.specs.declared.process.Phase.{Phase}
 use Rattle.dt_sched.specs.declared.process.Phase.TheVariants.{Owes, Arrived, Waits}
@@ -170,10 +171,10 @@ settled_at core (p ∷ rest) turn =
 abbrev pub settled : CoreView → Settled → CoreView
 settled core turn = settled_at core core.queue turn
 
--- a child's virtual pid is new to the queue, and where its parent lives fewer than 64 processes stand there
+-- a child's virtual pid is new to the queue, and where its parent lives there is room in the queue
 abbrev pub has_room : List Process → Settled → Bool
 has_room queue Again = true
-has_room queue (Child child) = not (holds child queue) && nat_lt (length queue) 64
+has_room queue (Child child) = not (holds child queue) && nat_lt (length queue) QUEUE_LIMIT
 has_room queue (LastChild child) = not (holds child queue)
 has_room queue Blocked = true
 has_room queue Moved = true
@@ -185,10 +186,10 @@ pub record GoesOn (core : CoreView) : Type 0 where
   pub first : IsTrue (holds 1 core.queue)
   pub blocked : core.blocked < length core.queue
 
--- the queue holds each live process once, at most 64 of them, with counts that segments have; without a verdict no
+-- the queue holds each live process once, as many as it has room for, with counts that segments have; without a verdict no
 -- turn has ended the run
 pub record IsCore (core : CoreView) : Type 0 where
   pub each_once : IsTrue (each_once core.queue)
-  pub few : length core.queue ≤ 64
+  pub few : length core.queue ≤ QUEUE_LIMIT
   pub counted : IsTrue (all_counted core.queue)
   pub going : core.verdict ≡ None → GoesOn core

@@ -1,16 +1,17 @@
 -- The table of the processes.
 use Rattle.std.specs.Prelude.{ℕ, ◌≡◌, ◌≤◌, Bool, false, not, List, [], ◌∷◌, length, Option, Some, None, IsTrue}
+use Rattle.dt_sched.specs.declared.queue.TheConstants.{QUEUE_LIMIT}
 use Rattle.dt_sched.specs.declared.process.Process.{Process}
 use Rattle.dt_sched.specs.declared.settled.Settled.{Settled}
 use Rattle.dt_sched.specs.Core.{each_once, owing, is_owing, queue_after}
 
--- processes, those of them that owe a segment, and room for 64 of each
+-- processes, those of them that owe a segment, and room for a whole queue of each
 pub record IsTable (processes : List Process) (owed : List ℕ) (room owed_room : ℕ) : Type 0 where
   pub each_once : IsTrue (each_once processes)
-  pub few : length processes ≤ 64
+  pub few : length processes ≤ QUEUE_LIMIT
   pub exact : owed ≡ owing processes
-  pub room_64 : 64 ≤ room
-  pub owed_64 : 64 ≤ owed_room
+  pub has_room : QUEUE_LIMIT ≤ room
+  pub has_owed_room : QUEUE_LIMIT ≤ owed_room
 
 -- the process at the head
 abbrev pub first_of : List Process → Option Process

@@ -6,5 +6,8 @@ mod queue;
 mod schedule;
 mod settled;
 
-pub use schedule::Core;
+pub use queue::QUEUE_LIMIT;
+pub use schedule::{
+    Core, arrival_goes_beside_a_turn, arrivals_commute, head_stays_at_another_arrival,
+};
 pub use settled::{Head, Settled};

@@ -1,6 +1,8 @@
 // The live processes in the order of their turns, in a table that is made once.
-ghost use Rattle.std.specs.Prelude.{◌≡◌, ◌<◌, ◌≤◌, ◌++◌, ◌∷◌, [], IfOk, IsTrue, false, length, vec_len, vec_capacity, map, if◌then◌else◌, ◌==◌};
+ghost use Rattle.std.specs.Prelude.{◌≡◌, ◌<◌, ◌≤◌, ◌++◌, ◌∷◌, [], IfOk, IsTrue, false, length, vec_len, vec_capacity};
+ghost use Rattle.std.specs.Prelude.{map, if◌then◌else◌, ◌==◌};
 ghost use Rattle.dt_sched.specs.Core.{owes, holds, each_once, owing, waits, arrived_at, is_owing, is_waiting, has_room};
+ghost use Rattle.dt_sched.specs.declared.queue.TheConstants.{QUEUE_LIMIT};
 ghost use Rattle.dt_sched.specs.Queue.{first_of, is_ready, queue_at};
 
 use crate::process::{Phase, Process};
@@ -9,8 +11,8 @@ use dt_base::NoMemory;
 use std::alloc::Global;
 use std::marker::Model;
 
-// How many processes have room.
-const ROOM: usize = 64;
+/// How many processes a queue has room for.
+pub const QUEUE_LIMIT: usize = 64;
 
 impl Phase {
     /// Whether its process owes a segment that has not arrived.
@@ -86,8 +88,8 @@ impl Queue {
     pub fn new(alloc: Global) -> Result<Self, NoMemory>
         ensures { IfOk result (λ queue. queue ≡ owes 1 ∷ []) }
     {
-        let mut processes = Vec::with_capacity(alloc, ROOM)?;
-        let mut owed = Vec::with_capacity(alloc, ROOM)?;
+        let mut processes = Vec::with_capacity(alloc, QUEUE_LIMIT)?;
+        let mut owed = Vec::with_capacity(alloc, QUEUE_LIMIT)?;
         processes.push(Process {
             vpid: 1,
             phase: Phase::Owes,
@@ -103,11 +105,11 @@ impl Queue {
         &self.owed
     }
 
-    /// How many processes there are: at most 64.
+    /// How many processes there are.
     pub fn len(&self) -> usize
         ensures count { result ≡ length self.now }
         ensures each_once { IsTrue (each_once self.now) }
-        ensures few { length self.now ≤ 64 }
+        ensures few { length self.now ≤ QUEUE_LIMIT }
     {
         self.processes.len()
     }
@@ -147,7 +149,7 @@ impl Queue {
         requires { IsTrue (is_ready self.old) }
         ensures first { self.old ≡ result ∷ self.new }
         ensures apart { holds result.vpid self.new ≡ false }
-        ensures room { length self.new < 64 }
+        ensures room { length self.new < QUEUE_LIMIT }
     {
         self.processes.remove(0)
     }
@@ -156,7 +158,7 @@ impl Queue {
     #[tactic(auto, using(crate::proofs::Tables::at_the_tail))]
     fn add(&mut self, vpid: u32, phase: Phase)
         requires apart { holds vpid self.old ≡ false }
-        requires room { length self.old < 64 }
+        requires room { length self.old < QUEUE_LIMIT }
         ensures { self.new ≡ self.old ++ record { vpid = vpid; phase = phase } ∷ [] }
     {
         owe(&mut self.owed, vpid, phase);

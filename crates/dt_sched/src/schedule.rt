@@ -1,7 +1,9 @@
 // The queue with the budget, the blocked turns in a row and the verdict.
 ghost use Rattle.std.specs.Prelude.{◌≡◌, ◌<◌, ◌≤◌, IfOk, IsTrue, true, Contains};
-ghost use Rattle.dt_sched.specs.Core.{started, owing, waits, arrived, cost_of, head, IsReady, settled, has_room, is_count, blocked_after, verdict_after, IsCore};
-ghost use Rattle.dt_sched.specs.Laws.{ArrivalsCommute, HeadStays};
+ghost use Rattle.dt_sched.specs.declared.queue.TheConstants.{QUEUE_LIMIT};
+ghost use Rattle.dt_sched.specs.Core.{started, owing, waits, arrived, cost_of, head, IsReady, settled, has_room};
+ghost use Rattle.dt_sched.specs.Core.{is_count, blocked_after, verdict_after, IsCore};
+ghost use Rattle.dt_sched.specs.Laws.{ArrivalsCommute, ArrivalBesideTurn, HeadStays};
 
 use crate::process::{Phase, Process};
 use crate::queue::Queue;
@@ -44,7 +46,7 @@ impl Phase {
 
 // The blocked turns in a row after a turn.
 fn blocked_after(blocked: usize, turn: Settled) -> usize
-    requires { blocked < 64 }
+    requires { blocked < QUEUE_LIMIT }
     ensures { result ≡ blocked_after blocked turn }
 {
     match turn {
@@ -154,4 +156,9 @@ pub fn arrivals_commute()
 /// The head does not change by an arrival of another process.
 pub fn head_stays_at_another_arrival()
     ensures { HeadStays }
+{}
+
+/// An arrival of another process before the head's turn, or after it, gives the same core.
+pub fn arrival_goes_beside_a_turn()
+    ensures { ArrivalBesideTurn }
 {}

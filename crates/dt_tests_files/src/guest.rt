@@ -29,8 +29,8 @@ const EXIT: u32 = 93;
 // The counter that time(1) reads.
 const TIME: u16 = 0xc01;
 
-/// The calls of all tables, in order. After each one its answer and the time are kept, and what it shows of the buffer is
-/// written to stream 1; at the end what was kept is written to stream 2, and the guest ends with code 0.
+/// The calls of all tables, in order. After each one its answer and the time are kept, and what it shows of the buffer
+/// is written to stream 1; at the end what was kept is written to stream 2, and the guest ends with code 0.
 pub fn calling(alloc: Global, tables: &[&[Row]]) -> Result<Vec<u8>, AsmErr> {
     let mut guest = Guest::new(alloc);
     guest.memsz(MEMORY_SIZE)?;

@@ -1,5 +1,5 @@
-//! Tests of the calls on files: tables of calls that a guest makes one after the other, with the answer of each, the time
-//! that it takes, and the tree that they leave.
+//! Tests of the calls on files: tables of calls that a guest makes one after the other, with the answer of each, the
+//! time that it takes, and the tree that they leave.
 #![tactic(auto)]
 
 #[cfg(test)]

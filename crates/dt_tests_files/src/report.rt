@@ -6,8 +6,8 @@ use std::alloc::{AllocError, Global};
 // The second at which logical time begins: the year 2000.
 const FIRST_SECOND: u64 = 946_684_800;
 
-/// What a report says before the tree: what the calls show, in order, and then for each its answer and the time, of which
-/// reading it takes 1,000 nanoseconds.
+/// What a report says before the tree: what the calls show, in order, and then for each its answer and the time, of
+/// which reading it takes 1,000 nanoseconds.
 pub fn shown(alloc: Global, tables: &[&[Row]]) -> Result<Vec<u8>, AllocError> {
     let mut text = Vec::from_slice(alloc, b"dettrace 1\n".as_slice())?;
     let mut answers = Vec::new(alloc);
@@ -70,7 +70,8 @@ fn add_event(
 fn dirents(alloc: Global, entries: &[Entry]) -> Result<Vec<u8>, AllocError> {
     let mut bytes = Vec::new(alloc);
     for (inode, kind, name) in entries {
-        // As many zeros as end the record at a multiple of 8, and one at least. The fields before the name have 19 bytes.
+        // As many zeros as end the record at a multiple of 8, and one at least. The fields before the name have 19
+        // bytes.
         let zeros = 8 - (name.len().wrapping_add(3) & 7);
         let length = (name.len() & 0xff) + 19 + zeros;
         bytes.extend_from_slice(&inode.to_le_bytes())?;

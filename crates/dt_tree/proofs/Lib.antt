@@ -25,3 +25,4 @@ pub mod Paths
 pub mod Entries
 pub mod Images
 pub mod Installing
+pub mod Parts

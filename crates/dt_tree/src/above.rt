@@ -1,5 +1,6 @@
 // What lies above a directory.
-ghost use Rattle.std.specs.Prelude.{◌≡◌, ◌++◌, [], OnOk, is_some, not, Some, List, map, reverse, unwrap_or, IfOk, IsErrOf, option_map};
+ghost use Rattle.std.specs.Prelude.{◌≡◌, ◌++◌, [], OnOk, is_some, not, Some, List, map, reverse, unwrap_or, IfOk};
+ghost use Rattle.std.specs.Prelude.{IsErrOf, option_map};
 ghost use Rattle.dt_host.specs.Cause.{HasCause};
 ghost use Rattle.dt_host.specs.Legal.{named};
 ghost use Rattle.dt_host.specs.World.{IsDir};

@@ -11,6 +11,7 @@ mod list;
 mod look;
 mod make;
 mod meta;
+mod read;
 mod rename;
 mod start;
 mod steps;

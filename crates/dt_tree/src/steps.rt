@@ -1,5 +1,6 @@
 // The steps of which changes are made: each changes the host and what is kept together, and the tree in one way.
-ghost use Rattle.std.specs.Prelude.{◌≡◌, ◌<◌, ◌≤◌, ◌==◌, ◌&&◌, not, None, Some, IsSome, IsTrue, IfSome, IfOk, OnOk, IsErrOf};
+ghost use Rattle.std.specs.Prelude.{◌≡◌, ◌<◌, ◌≤◌, ◌==◌, ◌&&◌, not, None, Some, IsSome, IsTrue, IfSome, IfOk, OnOk};
+ghost use Rattle.std.specs.Prelude.{IsErrOf};
 ghost use Rattle.std.specs.FinMap.{get};
 ghost use Rattle.dt_base.specs.Image.{is_good_what};
 ghost use Rattle.dt_host.specs.Cause.{HasCause};

@@ -1,5 +1,5 @@
-//! Tests of instructions and of the assembler against what other programs made of them, and of the numbers that code and
-//! definitions share.
+//! Tests of instructions and of the assembler against what other programs made of them, and of the numbers that code
+//! and definitions share.
 #![tactic(auto)]
 
 #[cfg(test)]

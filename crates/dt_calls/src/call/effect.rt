@@ -1,5 +1,5 @@
 // What a stop that is served does.
-ghost use Rattle.std.specs.Prelude.{◌≡◌, ◌-◌, ◌^◌, [], ◌∷◌, length, IfOk, OnOk};
+ghost use Rattle.std.specs.Prelude.{◌≡◌, ◌-◌, ◌^◌, [], ◌∷◌, None, length, IfOk, OnOk};
 ghost use Rattle.dt_base.specs.declared.event.Event.TheVariants.{Out};
 ghost use Rattle.dt_base.specs.Errno.{errno_number};
 ghost use Rattle.dt_rv64.specs.Effects.{answered};
@@ -13,15 +13,19 @@ use std::alloc::Global;
 pub enum Outcome {
     /// It goes on.
     Done,
+    /// Its call waits, and is tried again in its next turn.
+    Blocked,
     /// It ends.
     Ends(End),
     /// Its call, by its number, isn't supported.
     Unsupported(u64),
 }
 
-/// What serving a stop showed outside, and what becomes of the process.
+/// What serving a stop made and showed outside, and what becomes of the process.
 #[derive(Drop)]
 pub struct Effect {
+    /// The machine of a child.
+    pub child: Option<Machine>,
     pub events: Vec<Event>,
     pub outcome: Outcome,
 }
@@ -29,10 +33,12 @@ pub struct Effect {
 impl Effect {
     /// Nothing shows.
     pub fn quiet(alloc: Global, outcome: Outcome) -> Self
+        ensures child { result.child ≡ None }
         ensures events { result.events.items ≡ [] }
         ensures outcome { result.outcome ≡ outcome }
     {
         Effect {
+            child: None,
             events: Vec::new(alloc),
             outcome,
         }
@@ -41,6 +47,7 @@ impl Effect {
     /// The call is done, and answers a number.
     pub fn done(alloc: Global, machine: &mut Machine, value: u64) -> Self
         ensures machine { machine.new ≡ answered machine.old value }
+        ensures child { result.child ≡ None }
         ensures events { result.events.items ≡ [] }
         ensures outcome { result.outcome ≡ Outcome.Done }
     {
@@ -51,6 +58,7 @@ impl Effect {
     /// The call is refused: its answer is minus the errno.
     pub fn refused(alloc: Global, machine: &mut Machine, errno: Errno) -> Self
         ensures machine { machine.new ≡ answered machine.old (2 ^ 64 - errno_number errno) }
+        ensures child { result.child ≡ None }
         ensures events { result.events.items ≡ [] }
         ensures outcome { result.outcome ≡ Outcome.Done }
     {
@@ -65,6 +73,7 @@ impl Effect {
         bytes: Blob,
     ) -> Result<Self, NoMemory>
         ensures machine { OnOk result (machine.new ≡ answered machine.old (length bytes)) }
+        ensures child { IfOk result (λ e. e.child ≡ None) }
         ensures events { IfOk result (λ e. e.events.items ≡ Out stream bytes ∷ []) }
         ensures outcome { IfOk result (λ e. e.outcome ≡ Outcome.Done) }
     {

@@ -1,14 +1,13 @@
 // Calls on files, on time and on random bytes.
-ghost use Rattle.std.specs.Prelude.{◌≡◌, None, IfOk, IsErrOf};
-ghost use Rattle.dt_host.specs.Cause.{HasCause};
+ghost use Rattle.std.specs.Prelude.{◌≡◌};
 ghost use Rattle.dt_scene.specs.Sound.{Sound, Serves, stage};
 ghost use Rattle.dt_calls.specs.FileCalls.{arguments, row_of, file_call};
-ghost use Rattle.dt_calls.specs.InCode.{shared_of, effect_as};
-ghost use Rattle.dt_calls.specs.Sound.{IsSound};
+ghost use Rattle.dt_calls.specs.InCode.{shared_of};
+ghost use Rattle.dt_calls.specs.Sound.{IsSoundHand, Serves as Served, hand};
 
 use super::Effect;
 use super::memory::answered;
-use crate::shared::Shared;
+use crate::shared::{Process, Shared};
 use dt_base::abi::{A0, A1, A2, A3, A4, A5};
 use dt_base::{Answer, Caller};
 use dt_fcalls::file_call;
@@ -25,23 +24,21 @@ pub fn call<H: Host>(
     alloc: Global,
     host: &mut H,
     shared: &mut Shared,
+    own: &mut Process,
     machine: &mut Machine,
     number: u64,
 ) -> Result<Effect, HostErr>
-    requires sound { IsSound shared.old (H.view host.old) }
-    requires lives { shared.old.process.end ≡ None }
-    ensures served { IfOk result (λ s. file_call number (shared_of shared.old (H.view host.old)) machine.old
-        ≡ effect_as (shared_of shared.new (H.view host.new)) machine.new s) }
-    ensures sound { IfOk result (λ _. IsSound shared.new (H.view host.new)) }
-    ensures cause { HasCause (H.count host.old) (H.count host.new) (IsErrOf result HostErr.Failed) }
+    requires { IsSoundHand (hand shared.old own.old (H.view host.old)) }
+    ensures { Served (file_call number (shared_of shared.old (H.view host.old)) own.old machine.old)
+        (hand shared.old own.old (H.view host.old)) (hand shared.new own.new (H.view host.new)) machine.new result
+        (H.count host.old) (H.count host.new) }
 {
     let args = arguments(machine);
-    let caller = &mut shared.process.caller;
     let answer = serve_row(
         alloc,
         &mut shared.fs,
         host,
-        caller,
+        &mut own.caller,
         &mut machine.space,
         number,
         args,

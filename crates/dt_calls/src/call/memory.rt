@@ -1,13 +1,11 @@
 // Calls on a process's memory.
-ghost use Rattle.std.specs.Prelude.{◌≡◌, IfOk};
-ghost use Rattle.dt_host.specs.World.{World};
+ghost use Rattle.std.specs.Prelude.{◌≡◌, None, IfOk};
 ghost use Rattle.dt_calls.specs.Effect.{answers};
 ghost use Rattle.dt_calls.specs.MemoryCalls.{brk_call, munmap_call, mmap_call, mprotect_call};
-ghost use Rattle.dt_calls.specs.InCode.{shared_of, effect_as};
-ghost use Rattle.dt_calls.specs.Sound.{IsSound};
+ghost use Rattle.dt_calls.specs.InCode.{effect_as};
 
 use super::{Effect, Outcome};
-use crate::shared::Shared;
+use crate::shared::Process;
 use dt_base::abi::{A0, A1, A2, A3, MMAP, MPROTECT, MUNMAP};
 use dt_base::{Answer, NoMemory};
 use dt_rv64::Machine;
@@ -15,13 +13,13 @@ use std::alloc::Global;
 
 /// brk(2)
 #[tactic(auto, unfolding(crate::specs::MemoryCalls::brk_call))]
-pub fn brk(alloc: Global, shared: &mut Shared, machine: &mut Machine) -> Result<Effect, NoMemory>
-    ensures served { (w : World) → IfOk result (λ e. brk_call (shared_of shared.old w) machine.old
-        ≡ effect_as (shared_of shared.new w) machine.new e) }
-    ensures sound { (w : World) → IsSound shared.old w → IfOk result (λ _. IsSound shared.new w) }
+pub fn brk(alloc: Global, own: &mut Process, machine: &mut Machine) -> Result<Effect, NoMemory>
+    ensures served { (c : _) → IfOk result (λ e. brk_call c own.old machine.old ≡ effect_as c own.new machine.new e) }
+    ensures caller { own.new.caller ≡ own.old.caller }
+    ensures child { IfOk result (λ e. e.child ≡ None) }
 {
     let address = machine.reg(A0);
-    let program_break = &mut shared.process.program_break;
+    let program_break = &mut own.program_break;
     let end = dt_mcalls::brk(program_break, &mut machine.space, address)?;
     Ok(Effect::done(alloc, machine, end))
 }
@@ -29,7 +27,9 @@ pub fn brk(alloc: Global, shared: &mut Shared, machine: &mut Machine) -> Result<
 /// munmap(2)
 #[tactic(auto, unfolding(crate::specs::MemoryCalls::munmap_call))]
 pub fn munmap(alloc: Global, machine: &mut Machine) -> Result<Effect, NoMemory>
-    ensures { (c : _) → IfOk result (λ e. munmap_call c machine.old ≡ effect_as c machine.new e) }
+    ensures served { (c : _) → (own : _) → IfOk result
+        (λ e. munmap_call c own machine.old ≡ effect_as c own machine.new e) }
+    ensures child { IfOk result (λ e. e.child ≡ None) }
 {
     let (address, len) = (machine.reg(A0), machine.reg(A1));
     let answer = dt_mcalls::munmap(&mut machine.space, address, len);
@@ -39,7 +39,9 @@ pub fn munmap(alloc: Global, machine: &mut Machine) -> Result<Effect, NoMemory>
 /// mmap(2)
 #[tactic(auto, unfolding(crate::specs::MemoryCalls::mmap_call))]
 pub fn mmap(alloc: Global, machine: &mut Machine) -> Result<Effect, NoMemory>
-    ensures { (c : _) → IfOk result (λ e. mmap_call c machine.old ≡ effect_as c machine.new e) }
+    ensures served { (c : _) → (own : _) → IfOk result
+        (λ e. mmap_call c own machine.old ≡ effect_as c own machine.new e) }
+    ensures child { IfOk result (λ e. e.child ≡ None) }
 {
     let (address, len) = (machine.reg(A0), machine.reg(A1));
     let (prot, flags) = (machine.reg(A2), machine.reg(A3));
@@ -50,7 +52,9 @@ pub fn mmap(alloc: Global, machine: &mut Machine) -> Result<Effect, NoMemory>
 /// mprotect(2)
 #[tactic(auto, unfolding(crate::specs::MemoryCalls::mprotect_call))]
 pub fn mprotect(alloc: Global, machine: &mut Machine) -> Result<Effect, NoMemory>
-    ensures { (c : _) → IfOk result (λ e. mprotect_call c machine.old ≡ effect_as c machine.new e) }
+    ensures served { (c : _) → (own : _) → IfOk result
+        (λ e. mprotect_call c own machine.old ≡ effect_as c own machine.new e) }
+    ensures child { IfOk result (λ e. e.child ≡ None) }
 {
     let (address, len, prot) = (machine.reg(A0), machine.reg(A1), machine.reg(A2));
     let answer = dt_mcalls::mprotect(&mut machine.space, address, len, prot);
@@ -64,7 +68,9 @@ pub fn answered(
     number: u64,
     answer: Answer,
 ) -> Result<Effect, NoMemory>
-    ensures { (c : _) → IfOk result (λ e. answers c machine.old number answer ≡ effect_as c machine.new e) }
+    ensures served { (c : _) → (own : _) → IfOk result
+        (λ e. answers c own machine.old number answer ≡ effect_as c own machine.new e) }
+    ensures child { IfOk result (λ e. e.child ≡ None) }
 {
     match answer {
         Answer::Value(value) => Ok(Effect::done(alloc, machine, value)),

@@ -7,7 +7,8 @@ ghost use Rattle.dt_tree.specs.Calls.{MayMove};
 ghost use Rattle.dt_tree.specs.Table.{Stands, shape_of};
 ghost use Rattle.dt_scene.specs.Arguments.{argument, has_only};
 ghost use Rattle.dt_fcalls.specs.Places.{IsFound, IsNameIn, place_at};
-ghost use Rattle.dt_fcalls.specs.Rename.{replace_refusal, arrive_refusal, target_refusal, moves_name, moves_node, moves_to, renameat2_row};
+ghost use Rattle.dt_fcalls.specs.Rename.{replace_refusal, arrive_refusal, target_refusal, moves_name, moves_node};
+ghost use Rattle.dt_fcalls.specs.Rename.{moves_to, renameat2_row};
 ghost use Rattle.dt_scene.specs.Sound.{Sound, Serves, Ends, stage, scene};
 
 use crate::places::{LastLink, place_at};

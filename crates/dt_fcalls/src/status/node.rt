@@ -8,7 +8,8 @@ ghost use Rattle.dt_walk.specs.Placed.{IsPlaceIn};
 ghost use Rattle.dt_scene.specs.Arguments.{argument, has, has_only};
 ghost use Rattle.dt_fcalls.specs.Places.{place_at};
 ghost use Rattle.dt_scene.specs.Sound.{Sound, Serves, Ends, stage, scene};
-ghost use Rattle.dt_fcalls.specs.Status.{tells_status, tells_descriptor, is_of_dirfd, status_rule, fstat_row, newfstatat_row};
+ghost use Rattle.dt_fcalls.specs.Status.{tells_status, tells_descriptor, is_of_dirfd, status_rule, fstat_row};
+ghost use Rattle.dt_fcalls.specs.Status.{newfstatat_row};
 
 use crate::arguments::text_argument;
 use crate::places::{LastLink, place_at};
@@ -100,8 +101,8 @@ fn tell_dirfd<H: Host>(
     tell_status(fs, host, caller, space, args[2], caller.cwd)
 }
 
-/// fstat(2): puts the 128 bytes of `struct stat` of what a descriptor refers to into a buffer, and answers 0. The errors
-/// are EBADF and EFAULT.
+/// fstat(2): puts the 128 bytes of `struct stat` of what a descriptor refers to into a buffer, and answers 0. The
+/// errors are EBADF and EFAULT.
 #[tactic(auto, unfolding(crate::specs::Status::fstat_row), using(crate::proofs::Kept::in_other_words))]
 pub fn fstat<H: Host>(
     fs: &Fs,

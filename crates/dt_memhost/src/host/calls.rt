@@ -1,12 +1,16 @@
 // The calls of a host in memory.
-ghost use Rattle.std.specs.Prelude.{◌≡◌, ◌≢◌, ◌+◌, ◌<◌, ◌≤◌, None, Some, true, length, map, IfOk, IfSome, IsErrOf, IsSome};
+ghost use Rattle.std.specs.Prelude.{◌≡◌, ◌≢◌, ◌+◌, ◌<◌, ◌≤◌, None, Some, true, length, map, IfOk, IfSome, IsErrOf};
+ghost use Rattle.std.specs.Prelude.{IsSome};
 ghost use Rattle.std.specs.List.Sorted.{IsPermutation};
 ghost use Rattle.std.specs.FinMap.{entries};
 ghost use Rattle.std.specs.FinSet.{contains};
 ghost use Rattle.dt_host.specs.Cause.{HasCause};
-ghost use Rattle.dt_host.specs.World.{IsLive, IsFile, IsDir, IsLink, file_at, target_at, names_at, IsNameless, IsBare, entry, content};
+ghost use Rattle.dt_host.specs.World.{IsLive, IsFile, IsDir, IsLink, file_at, target_at, names_at, IsNameless, IsBare};
+ghost use Rattle.dt_host.specs.World.{entry, content};
 ghost use Rattle.dt_host.specs.Legal.{Makes, Binds, Unbinds, Forgets, named, Reads, Writes, Cuts, MakesPid, DropsPid};
-ghost use Rattle.dt_memhost.specs.Host.{RootsBy, FindsBy, MakesBy, BindsBy, UnbindsBy, ForgetsBy, NamesBy, RawBy, TargetBy, ReadsBy, WritesBy, CutsBy, MakesPidBy, DropsPidBy, StopsBy, WordBy, FillsBy, DisturbsBy};
+ghost use Rattle.dt_memhost.specs.Host.{RootsBy, FindsBy, MakesBy, BindsBy, UnbindsBy, ForgetsBy, NamesBy, RawBy};
+ghost use Rattle.dt_memhost.specs.Host.{TargetBy, ReadsBy, WritesBy, CutsBy, MakesPidBy, DropsPidBy, StopsBy, WordBy};
+ghost use Rattle.dt_memhost.specs.Host.{FillsBy, DisturbsBy};
 
 use super::MemHost;
 use crate::order::arrange;

@@ -1,8 +1,10 @@
 // The words before `--`, which clap reads: the arguments of `run`.
 ghost use Rattle.std.specs.Prelude.{◌≡◌, Option, false, map, string_bytes, codes, IfOk, option_and_then, unwrap_or};
-ghost use Rattle.clap.specs.Words.{FailsBy, app_of, fault_of, found_of, one_of, rows_of, rule_of, shape_of, subcommand_of, subcommand_rows_of};
+ghost use Rattle.clap.specs.Words.{FailsBy, app_of, fault_of, found_of, one_of, rows_of, rule_of, shape_of};
+ghost use Rattle.clap.specs.Words.{subcommand_of, subcommand_rows_of};
 ghost use Rattle.clap.specs.declared.builder.command.Command.TheViews.{out-Command as fields_of};
-ghost use Rattle.dt_options.specs.Options.{image_rule, number_rule, budget_rule, run_shape, program_app, image_in, number_in, default_seed, default_budget};
+ghost use Rattle.dt_options.specs.Options.{image_rule, number_rule, budget_rule, run_shape, program_app, image_in};
+ghost use Rattle.dt_options.specs.Options.{number_in, default_seed, default_budget};
 
 use clap::{Arg, ArgMatches, Command, Error};
 use std::alloc::{AllocError, Global};

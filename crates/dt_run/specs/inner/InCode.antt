@@ -1,28 +1,82 @@
--- Inner words: what the code has in hand, as the definitions see it with the nodes of its host.
-use Rattle.std.specs.Prelude.{Option, option_map}
+-- Inner words: what the code has in hand, as the definitions see it with what its host keeps.
+use Rattle.std.specs.Prelude.{ℕ, List, [], map, Option, None, Some}
+use Rattle.std.specs.Ordering.{nat_cmp}
+use Rattle.std.specs.FinMap.{FinMap, entries, from_entries, get, insert, remove}
+use Rattle.dt_base.specs.declared.event.Event.{Event}
+use Rattle.dt_base.specs.declared.event.Verdict.{Verdict}
 use Rattle.dt_host.specs.World.{World}
-use Rattle.dt_rv64.specs.declared.segments.Stop.{Stop}
-use Rattle.dt_calls.specs.declared.numbers.TheConstants.{FIRST_PID}
+use Rattle.dt_rv64.specs.declared.machine.Machine.{Machine}
+use Rattle.dt_sched.specs.Core.{CoreView}
+use Rattle.dt_sched.specs.declared.process.Process.{Process}
+use Rattle.dt_sched.specs.declared.process.Phase as queue
+use Rattle.dt_sched.specs.declared.process.Phase.TheVariants as as_queued
+use Rattle.dt_calls.specs.Container.{Machines}
+use Rattle.dt_calls.specs.InCode.{shared_of, home_of}
+use Rattle.dt_calls.specs.declared.container.Served.{Served}
+use Rattle.dt_calls.specs.declared.container.Served.TheVariants.{Done, Child, LastChild, Blocked, Ended, Unsupported}
+use Rattle.dt_run.specs.declared.phase.Phase.{Phase}
+use Rattle.dt_run.specs.declared.phase.Phase.TheVariants.{Owes, Ran, Waits}
 use Rattle.dt_run.specs.declared.run.Run.{Run as RunInCode}
-use Rattle.dt_run.specs.declared.turn.State.{State as StateInCode}
-use Rattle.dt_run.specs.declared.turn.Turn.{Turn as TurnInCode}
-use Rattle.dt_calls.specs.InCode.{shared_of}
-use Rattle.dt_calls.specs.Settle.{serve_machine}
-use Rattle.dt_run.specs.Turn.{State, Turn, own_of, turned}
-use Rattle.dt_run.specs.Run.{Run}
+use Rattle.dt_run.specs.declared.state.State.{State as StateInCode}
+use Rattle.dt_run.specs.Work.{Work, Works}
+use Rattle.dt_run.specs.Queue.{Queue}
+use Rattle.dt_run.specs.Turn.{State, Turn}
+use Rattle.dt_run.specs.Run.{Run, run_turns}
+
+-- where the processes stand that do not owe a segment
+abbrev pub Phases : Type 0
+Phases = FinMap nat_cmp Phase
+
+-- where a process stands: it owes where nothing else is noted
+abbrev pub phase_in : Option Phase → Phase
+phase_in None = Owes
+phase_in (Some phase) = phase
+
+-- the own part of a process whose machine is at home
+abbrev pub work_in : Phases → ℕ → Machine → Work
+work_in phases p m = record { machine = m; phase = phase_in (get phases p) }
+
+-- the works at home: each machine with where its process stands
+unfoldable pub works_in : Machines → Phases → Works
+works_in machines phases = from_entries (map (λ e. (e.0, work_in phases e.0 e.1)) (entries machines))
+
+-- the queue
+abbrev pub queue_of : CoreView → Queue
+queue_of core = record { order = map (λ (p : Process). p.vpid) core.queue; blocked = core.blocked; left = core.left }
 
 -- a run between two turns
 abbrev pub state_of : StateInCode → World → State
-state_of s w = record { shared = shared_of s.container.shared w; own = own_of s.phase s.container.machine; left = s.left }
+state_of s w = record {
+  shared = shared_of s.container.shared w;
+  works = works_in (home_of s.container.places) s.phases;
+  queue = queue_of s.core;
+  next = s.container.shared.pids.next;
+}
 
 -- a turn
-abbrev pub turn_as : State → TurnInCode → Turn
-turn_as next t = record { next = next; events = t.events.items; verdict = t.verdict }
+abbrev pub turn_as : State → List Event → Option Verdict → Turn
+turn_as next events verdict = record { next = next; events = events; verdict = verdict }
 
 -- a run
 abbrev pub run_as : RunInCode → World → Run
 run_as run w = record { events = run.events.items; verdict = run.verdict; last = shared_of run.last.shared w }
 
--- a turn in which a stop was served, where the process has its machine
-abbrev pub served_in : State → Stop → Option Turn
-served_in s stop = option_map (λ w. turned s.left w.phase (serve_machine s.shared FIRST_PID stop w.machine)) s.own
+-- what is left of a run: its turns, or nothing after a turn's verdict
+abbrev pub rest_of : State → Option Verdict → Run
+rest_of s None = run_turns s
+rest_of s (Some verdict) = record { events = []; verdict = verdict; last = s.shared }
+
+-- a process that stands so, as the queue knows it
+abbrev pub known : Phase → queue.Phase
+known Owes = as_queued.Owes
+known (Ran seg) = as_queued.Arrived seg.count
+known Waits = as_queued.Waits
+
+-- what is noted once the stop of a process was served
+abbrev pub noted : Phases → ℕ → Served → Phases
+noted phases p Done = remove phases p
+noted phases p (Child vpid) = remove phases p
+noted phases p (LastChild vpid) = remove phases p
+noted phases p Blocked = insert phases p Waits
+noted phases p Ended = remove phases p
+noted phases p (Unsupported number) = phases

@@ -2,7 +2,11 @@ use Rattle.std.proofs.Common.{sym, ap, subst, ◌∙◌}
 use Rattle.dt_host.specs.Sink.{added, AddsPart}
 use Rattle.dt_run.specs.Run.{status_by, status_of, report_of}
 use Rattle.dt_run.proofs.Completed.{run_of-came, holds_last}
+use Rattle.dt_run.proofs.Ending.{launched-home}
 use Rattle.dt_run.proofs.run.run_container.Goals as goal
+
+pub run_from-requires-clause-home : goal.run_from-requires-clause-home
+run_from-requires-clause-home g c = launched-home _ _ _ (g.H.Host.view c.launch.new.host) _ c.in_ok-launch.ensures.ok
 
 pub returns-clause-completed : goal.returns-clause-completed
 returns-clause-completed g c =
@@ -10,7 +14,7 @@ returns-clause-completed g c =
     record {
       status = c.status_by.ensures ∙ ap status_by c.end.ensures ∙ sym (ap status_of came);
       report = c.in_ok-sink_all.ensures.ok ∙ ap (added (g.O.Sink.told c.args.out.now)) (c.deref.ensures.value ∙ c.in_ok-text.ensures.ok ∙ sym (ap report_of came));
-      tree = holds_last _ _ _ _ c.report_text.ensures.asks.stays (ap (λ run. run.last.tree) came) c.in_ok-run.ensures.sound.stands;
+      tree = holds_last _ _ _ _ c.report_text.ensures.asks.stays (ap (λ run. run.last.tree) came) c.in_ok-run.ensures.sound.shared.stands;
     }
 
 pub returns-clause-part : goal.returns-clause-part

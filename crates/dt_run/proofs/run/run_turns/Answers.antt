@@ -1,21 +1,31 @@
-use Rattle.std.proofs.Common.{arith}
-use Rattle.dt_run.proofs.Turns.{run_turns-last, run_turns-next, left-next}
+use Rattle.std.proofs.Common.{sym, ◌∙◌, arith}
+use Rattle.dt_run.proofs.Queued.{owed-head, ready-head}
+use Rattle.dt_run.proofs.Ending.{after-turn, after-arrival, over-run}
 use Rattle.dt_run.proofs.run.run_turns.Goals as goal
 
-pub returns-in-Some-clause-ok : goal.returns-in-Some-clause-ok
-returns-in-Some-clause-ok g c =
-    rw c.in_ok-append.ensures.items
-    (run_turns-last _ _ _ _ _ _ _ c.loop-events.invariant.whole c.in_ok-turn.ensures.ok c.in-Some.is)
+pub loop-state-preserved-in_ok-arrive_next-in-NotArrived : goal.loop-state-preserved-in_ok-arrive_next-in-NotArrived
+loop-state-preserved-in_ok-arrive_next-in-NotArrived g c =
+    let running = owed-head c.loop-state.state.core _ (sym c.head.ensures.head ∙ c.in-NotArrived.is) in
+    record {
+      whole = after-arrival _ _ _ _ _ _ c.loop-state.invariant.whole running.0 c.in_ok-arrive_next-in-NotArrived.ensures.verdict c.in_ok-arrive_next-in-NotArrived.ensures.alike;
+      sound = c.in_ok-arrive_next-in-NotArrived.ensures.sound c.loop-state.invariant.sound;
+      good = c.in_ok-arrive_next-in-NotArrived.ensures.good;
+      later = omega (arith, c.loop-state.invariant.later, c.arrive_next.ensures.cause.later);
+    }
 
-pub loop-events-smaller : goal.loop-events-smaller
-loop-events-smaller g c =
-    omega (arith, left-next _ _ _ _ c.in_ok-turn.ensures.ok c.in-None.is)
+pub loop-state-preserved : goal.loop-state-preserved
+loop-state-preserved g c =
+    let ready = ready-head c.loop-state.state.core _ (sym c.head.ensures.head ∙ c.in-Ready.is) in
+    record {
+      whole = rw c.in_ok-append-in-Ready.ensures.items
+          (after-turn _ _ _ _ _ _ _ c.loop-state.invariant.whole ready.running c.in_ok-turn-in-Ready.ensures.ok);
+      sound = c.in_ok-turn-in-Ready.ensures.sound;
+      good = c.in_ok-turn-in-Ready.ensures.good;
+      later = omega (arith, c.loop-state.invariant.later, c.turn.ensures.cause.later);
+    }
 
-pub loop-events-preserved : goal.loop-events-preserved
-loop-events-preserved g c = record {
-  whole = rw c.in_ok-append.ensures.items
-      (run_turns-next _ _ _ _ _ _ c.loop-events.invariant.whole c.in_ok-turn.ensures.ok c.in-None.is);
-  sound = c.in_ok-turn.ensures.sound;
-  home = c.in_ok-turn.ensures.home c.in-None.is;
-  later = omega (arith, c.loop-events.invariant.later, c.turn.ensures.cause.later);
-}
+pub returns-in-Over-clause-ok : goal.returns-in-Over-clause-ok
+returns-in-Over-clause-ok g c =
+    over-run _ c.loop-state.state
+    (g.H.Host.view c.loop-state.host) _ c.in-Over.verdict c.loop-state.invariant.whole c.loop-state.invariant.good
+    c.head.ensures.sound (sym c.head.ensures.head ∙ c.in-Over.is)

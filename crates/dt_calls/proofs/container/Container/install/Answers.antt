@@ -1,14 +1,35 @@
-use Rattle.std.proofs.Common.{ap, sym, subst, ◌∙◌}
-use Rattle.dt_tree.specs.Table.{Stands, shape_of, tree_of}
-use Rattle.dt_calls.proofs.Held.{sound-first}
+use Rattle.std.proofs.Common.{◌≡◌, ◌+◌, None, refl, sym, ap, subst, ◌∙◌}
+use Rattle.std.specs.Prelude.{Option, IsSome}
+use Rattle.std.specs.Ordering.{nat_cmp}
+use Rattle.std.specs.FinMap.{FinMap, empty, get, insert}
+use Rattle.dt_procs.specs.declared.member.TheConstants.{FIRST_PID}
+use Rattle.dt_rv64.specs.declared.machine.Machine.{Machine}
+use Rattle.dt_calls.specs.Container.{first_shared}
+use Rattle.dt_calls.specs.InCode.{home_of}
+use Rattle.dt_calls.proofs.Homes.{home-first}
+use Rattle.dt_calls.proofs.Settled.{paired-insert, paired-empty, place-here}
 use Rattle.dt_calls.proofs.container.Container.install.Goals as goal
 
+pub counted-requires-clause-paired : goal.counted-requires-clause-paired
+counted-requires-clause-paired g c = λ q some.
+    let places = c.in_ok-put.ensures.ok ∙ (λ i. insert (c.new-places.ensures i) (c.from.ensures i) None) in
+    paired-insert c.in_ok-shared.shared.processes empty FIRST_PID None (paired-empty c.in_ok-shared.shared.processes) c.in_ok-shared.ensures.part q
+    (subst (λ (m : FinMap nat_cmp (Option Machine)). IsSome (get m q)) places some)
+
 pub returns-clause-sound : goal.returns-clause-sound
-returns-clause-sound g c =
-    let w = g.H.Host.view c.install.new.host in
-    let new = c.in_ok-new.field-0 in
-    let fs = ap (λ s. s.fs) c.in_ok-new.ensures.value in
-    sound-first new c.install.new.self w c.args.image.now c.in_ok-install.ensures.stands c.in_ok-install.ensures.tree
-    (subst (λ x. Stands x.tree w.forest) (sym fs) c.in_ok-hold.ensures.stands)
-    (ap (λ x. tree_of x.tree w.forest) fs ∙ c.in_ok-hold.ensures.tree)
-    c.in_ok-new.ensures.nodes (c.in_ok-new.ensures.all_in (shape_of new.fs.tree w.forest)) (ap (λ s. s.process) c.in_ok-new.ensures.value)
+returns-clause-sound g c = record { shared = c.in_ok-shared.ensures.sound; paired = counted-requires-clause-paired g c.before; few = c.counted.ensures }
+
+pub returns-clause-ok : goal.returns-clause-ok
+returns-clause-ok g c =
+    let places = c.in_ok-put.ensures.ok ∙ (λ i. insert (c.new-places.ensures i) (c.from.ensures i) None) in
+    let shared = c.in_ok-shared.ensures.ok ∙ ap (λ t. first_shared t c.args.seed) c.in_ok-install.ensures.tree in
+    let machines = ap home_of places ∙ home-first FIRST_PID in
+    (λ i. record { shared = shared i; machines = machines i; next = c.in_ok-shared.ensures.next i; events = c.new-3.ensures.items i })
+
+pub returns-clause-lives : goal.returns-clause-lives
+returns-clause-lives g c =
+    let places = c.in_ok-put.ensures.ok ∙ (λ i. insert (c.new-places.ensures i) (c.from.ensures i) None) in
+    record {
+      part = c.in_ok-shared.ensures.part;
+      place = subst (λ (m : FinMap nat_cmp (Option Machine)). IsSome (get m FIRST_PID)) (sym places) (place-here empty FIRST_PID None);
+    }

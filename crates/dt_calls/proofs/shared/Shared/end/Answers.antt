@@ -1,12 +1,21 @@
-use Rattle.std.proofs.Common.{Some, refl}
-use Rattle.dt_calls.proofs.Held.{sound-ended}
+use Rattle.std.proofs.Common.{arith, sym, ap, subst, ◌∙◌}
+use Rattle.dt_calls.proofs.Keys.{keys-below}
+use Rattle.dt_calls.proofs.Ended.{part-kept}
 use Rattle.dt_calls.proofs.shared.Shared.end.Goals as goal
 
-pub returns-clause-sound : goal.returns-clause-sound
-returns-clause-sound g c =
-    let old = c.args.self.now in
-    let left = record old { fs = record old.fs { tree = c.drop_all.new.tree; files = c.drop_all.new.self } } in
-    let new = record old { fs = record left.fs { tree = c.release.new.self }; process = record old.process { end = Some c.args.end } } in
-    sound-ended old left new (g.H.Host.view c.args.host.now) (g.H.Host.view c.drop_all.new.host) (g.H.Host.view c.release.new.host) c.args.end
-    c.requires.sound c.requires.lives c.in_ok-drop_all.ensures.backed c.in_ok-drop_all.ensures.others
-    c.in_ok-release.ensures.stands c.in_ok-release.ensures.tree refl refl
+pub show_kills-requires : goal.show_kills-requires
+show_kills-requires g c =
+    let most = c.next-next.ensures.sound.most in
+    let same = c.in_ok-end_one.ensures.next in
+    keys-below c.end_one.new.self.processes c.deref.result.now c.end_one.new.self.pids.next _
+    (c.deref.ensures.value ∙ c.in_ok-others.ensures) c.in_ok-end_one.ensures.sound.given (omega arith)
+
+pub kill_each-requires-clause-small : goal.kill_each-requires-clause-small
+kill_each-requires-clause-small g c =
+    let most = c.next-next.ensures.sound.most in
+    let same = c.in_ok-end_one.ensures.next in
+    keys-below c.end_one.new.self.processes c.deref-then-vpid-eq-FIRST_PID.result.now c.end_one.new.self.pids.next _
+    (c.deref-then-vpid-eq-FIRST_PID.ensures.value ∙ c.in_ok-others.ensures) c.in_ok-end_one.ensures.sound.given (omega arith)
+
+pub returns-else-vpid-eq-FIRST_PID-clause-others : goal.returns-else-vpid-eq-FIRST_PID-clause-others
+returns-else-vpid-eq-FIRST_PID-clause-others g c = λ q other apart lives. part-kept _ q _ _ _ c.in_ok-end_one.ensures.ended apart lives

@@ -1,0 +1,50 @@
+"""What the benches that run guests share: images, commands, times, and their own start."""
+import json
+import os
+import shutil
+import subprocess
+import sys
+import tempfile
+import time
+
+QEMU = shutil.which("qemu-riscv64")
+
+
+def times(command, runs):
+    """The times of so many runs, in seconds, the least first."""
+    taken = []
+    for _ in range(runs):
+        start = time.perf_counter()
+        subprocess.run(command, check=True, stdout=subprocess.DEVNULL)
+        taken.append(time.perf_counter() - start)
+    return sorted(taken)
+
+
+def write_image(folder, guest, entries=(), blobs=()):
+    """Makes a folder an image: an executable under its own name below the root, further entries, and their blobs."""
+    os.makedirs(folder)
+    shutil.copy(guest, folder)
+    name = os.path.basename(guest)
+    for blob, contents in blobs:
+        with open(os.path.join(folder, blob), "wb") as file:
+            file.write(contents)
+    first = {"path": "/" + name, "type": "file", "mode": 0o755, "blob": name}
+    with open(os.path.join(folder, "image.json"), "w", encoding="utf-8") as index:
+        json.dump({"version": 1, "entries": [first, *entries]}, index)
+
+
+def command(program, folder, guest):
+    """The words that run the guest of such an image, with the greatest budget. The guest's own follow."""
+    return [program, "run", folder, "--budget", "1000000000", "--", "/" + os.path.basename(guest)]
+
+
+def run(*benches):
+    """Runs each bench with the program that the command line names and an empty folder, and answers an exit status."""
+    if len(sys.argv) != 2 or not os.access(sys.argv[1], os.X_OK):
+        print("usage: run.py PROGRAM", file=sys.stderr)
+        return 2
+    program = os.path.abspath(sys.argv[1])
+    for bench in benches:
+        with tempfile.TemporaryDirectory() as top:
+            bench(program, top)
+    return 0

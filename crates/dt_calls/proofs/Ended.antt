@@ -1,0 +1,157 @@
+-- What holds after a process has ended.
+use Rattle.std.proofs.Common.{arith, ◌≡◌, ◌≢◌, ℕ, ◌+◌, ◌<◌, ◌≤◌, ◌==◌, ◌&&◌, ◌||◌, List, [], ◌∷◌, map, length, drop, drop-cons, add-one, Bool, true, false, cond, Option, None, Some, refl, sym, ap, subst, ◌∙◌}
+use Rattle.std.proofs.Math.ListN.{get_or}
+use Rattle.std.proofs.lemmas.Bool.Decides.{nat_tests}
+use Rattle.std.specs.Prelude.{IsSome, IfSome, is_some, is_none}
+use Rattle.std.specs.List.{list_any}
+use Rattle.std.specs.Cmp.{nat_cmp_total}
+use Rattle.std.specs.FinMap.{get, remove, nat_cmp-IsAntisymmetric}
+use Rattle.dt_base.specs.declared.event.End.{End}
+use Rattle.dt_base.specs.declared.event.End.TheVariants.{Signal}
+use Rattle.dt_fds.specs.Backs.{AllIn, IsBacked, KeepsOthers as KeepsHolds, at, descriptions_of}
+use Rattle.dt_fds.specs.Holding.{over}
+use Rattle.dt_host.specs.Total.{weight}
+use Rattle.dt_host.specs.World.{World, IsDir}
+use Rattle.dt_host.proofs.Maps.{get-remove_same, get-remove_other}
+use Rattle.dt_host.proofs.Totals.{total-remove}
+use Rattle.dt_procs.specs.declared.member.Member.{Member}
+use Rattle.dt_procs.specs.Members.{ended, ended_member, lives}
+use Rattle.dt_procs.specs.Table as procs
+use Rattle.dt_procs.specs.Table.{members_of}
+use Rattle.dt_scene.proofs.Kept.{all_in-through}
+use Rattle.dt_tree.specs.FileTree.{FileTree, holds_of}
+use Rattle.dt_tree.specs.Shape.{one_for}
+use Rattle.dt_tree.specs.Changes.{released}
+use Rattle.dt_tree.specs.Table.{Stands, shape_of, tree_of}
+use Rattle.dt_tree.proofs.Holding.{holds-released, IsFile-released, IsDir-released}
+use Rattle.dt_calls.specs.declared.shared.Process.{Process}
+use Rattle.dt_calls.specs.declared.shared.Shared.{Shared as SharedInCode}
+use Rattle.dt_calls.specs.declared.numbers.TheConstants.{SIGKILL}
+use Rattle.dt_calls.specs.Container.{Shared, Processes}
+use Rattle.dt_calls.specs.Settle.{ends_one, kills_each}
+use Rattle.dt_calls.specs.Sound.{directories_of, IsSound}
+
+one_for-swap : (a b : ℕ) → one_for a b ≡ one_for b a
+one_for-swap a b = grind (arith, nat_tests)
+
+one_for-here : (a : ℕ) → one_for a a ≡ 1
+one_for-here a = grind (arith, nat_tests)
+
+-- how often a process holds a node as its working directory
+abbrev pub by_own : ℕ → Process → ℕ
+by_own n own = one_for own.caller.cwd n
+
+-- of the processes without one
+pub directories-without : (processes : Processes) (p : ℕ) (own : Process) → get processes p ≡ Some own → (n : ℕ) → directories_of (remove processes p) n + one_for own.caller.cwd n ≡ directories_of processes n
+directories-without processes p own is n =
+    let sum = total-remove nat_cmp_total (by_own n) nat_cmp-IsAntisymmetric processes p in
+    let weighs = ap (weight (by_own n)) is in
+    omega arith
+
+-- a process's working directory is held at least once
+pub directories-least : (processes : Processes) (p : ℕ) (own : Process) → get processes p ≡ Some own → 1 ≤ directories_of processes own.caller.cwd
+directories-least processes p own is =
+    let sum = directories-without processes p own is own.caller.cwd in
+    omega (arith, one_for-here own.caller.cwd)
+
+-- whether a member is the live process that is asked for
+abbrev is_live : ℕ → Member → Bool
+is_live q m = (m.vpid == q) && is_none m.end
+
+live-ended : (p : ℕ) (end : End) (q : ℕ) (m : Member) → q ≢ p → is_live q (ended_member p end m) ≡ is_live q m
+live-ended p end q m apart = by_pid (m.vpid == p) refl
+  where
+    by_pid : (b : Bool) → (m.vpid == p) ≡ b → ((m.vpid == q) && is_none (cond b (Some end) m.end)) ≡ ((m.vpid == q) && is_none m.end)
+    by_pid false e = refl
+    by_pid true e =
+        let not : (m.vpid == q) ≡ false = grind (arith, nat_tests, e, apart) in
+        ap (λ b. b && false) not ∙ sym (ap (λ b. b && is_none m.end) not)
+
+-- the end of a process ends no other
+pub lives-ended : (p : ℕ) (end : End) (q : ℕ) (members : List Member) → q ≢ p → lives (ended p end members) q ≡ lives members q
+unfolding ended
+lives-ended p end q [] apart = refl
+lives-ended p end q (m ∷ ms) apart = (λ i. live-ended p end q m apart i || lives-ended p end q ms apart i)
+
+module _ (c left new : SharedInCode) (w u v : World) (p : ℕ) (own : Process) (end : End) (sound : IsSound c w) (here : get c.processes p ≡ Some own)
+    (backed : IsBacked (at left.fs.files left.fs.tree u)) (others : KeepsHolds p (over (tree_of c.fs.tree w.forest) c.fs.files) (over (tree_of left.fs.tree u.forest) left.fs.files)) where
+  abbrev pub between : FileTree
+  between = tree_of left.fs.tree u.forest
+
+  -- what is left open is held, and each working directory once more
+  holds-left : (n : ℕ) → holds_of between n ≡ descriptions_of left.fs.files n + directories_of c.processes n
+  holds-left n = omega (arith, sound.holds n, others.holds n)
+
+  -- so the working directory can be let go
+  pub cwd-left : 0 < holds_of between own.caller.cwd
+  cwd-left = omega (arith, holds-left own.caller.cwd, directories-least c.processes p own here)
+
+  abbrev after : FileTree
+  after = released between own.caller.cwd
+
+  holds-after : (n : ℕ) → holds_of after n ≡ descriptions_of left.fs.files n + directories_of (remove c.processes p) n
+  holds-after n =
+      omega (arith, holds-left n, holds-released between own.caller.cwd cwd-left n, one_for-swap own.caller.cwd n, directories-without c.processes p own here n)
+
+  -- a working directory of another process is one still
+  dir-after : (q : ℕ) (other : Process) → get (remove c.processes p) q ≡ Some other → get c.processes q ≡ Some other → IsDir after.shape other.caller.cwd
+  dir-after q other is was =
+      let n = other.caller.cwd in
+      let most = directories-least (remove c.processes p) q other is in
+      let all = directories-least c.processes q other was in
+      let dir : IsDir (shape_of c.fs.tree w.forest) n = subst (λ found. IfSome found (λ x. IsDir (shape_of c.fs.tree w.forest) x.caller.cwd)) was (sound.directories q) in
+      IsDir-released between own.caller.cwd backed.stands.tree n (λ _. omega (arith, holds-after n, most))
+      (others.dirs n (omega (arith, sound.holds n, all)) dir)
+
+  module _ (fs : new.fs.files ≡ left.fs.files) (processes : new.processes ≡ remove c.processes p) (members : members_of new.pids ≡ ended p end (members_of c.pids)) (next : new.pids.next ≡ c.pids.next)
+      (stands : Stands new.fs.tree v.forest) (tree : tree_of new.fs.tree v.forest ≡ after) (pids : procs.Stands new.pids v.pids) where
+    by_other : (q : ℕ) (P : Option Process → Type 0) → P None → ((other : Process) → q ≢ p → get (remove c.processes p) q ≡ Some other → get c.processes q ≡ Some other → P (Some other)) → P (get new.processes q)
+    by_other q P none some = subst P (sym (ap (λ m. get m q) processes)) (by_found (get (remove c.processes p) q) refl)
+      where
+        by_found : (found : Option Process) → get (remove c.processes p) q ≡ found → P (get (remove c.processes p) q)
+        by_found None e = subst P (sym e) none
+        by_found (Some other) e =
+            let apart : q ≢ p = λ is. (let no : Some other ≡ None = sym e ∙ ap (get (remove c.processes p)) is ∙ get-remove_same nat_cmp_total nat_cmp-IsAntisymmetric c.processes p in cc) in
+            subst P (sym e) (some other apart e (sym (get-remove_other nat_cmp_total nat_cmp-IsAntisymmetric c.processes p q apart) ∙ e))
+
+    -- a process whose descriptors were closed has ended
+    pub sound-ended : IsSound new v
+    sound-ended = record {
+      stands = stands;
+      pids = pids;
+      all_in = subst (λ t. AllIn t.shape new.fs.files) (sym tree) (subst (AllIn after.shape) (sym fs)
+          (all_in-through left.fs.files between.shape after.shape
+          (λ n some is. IsFile-released between own.caller.cwd backed.stands.tree n (λ _. omega (arith, holds-after n)) is)
+          (λ n some is. IsDir-released between own.caller.cwd backed.stands.tree n (λ _. omega (arith, holds-after n)) is)
+          backed.backs.is_in));
+      directories = λ q. by_other q (λ found. IfSome found (λ x. IsDir (shape_of new.fs.tree v.forest) x.caller.cwd)) tt
+          (λ other apart is was. subst (λ t. IsDir t.shape other.caller.cwd) (sym tree) (dir-after q other is was));
+      holds = λ n.
+          let now = ap (λ t. holds_of t n) tree in
+          let count = ap (λ f. descriptions_of f n) fs in
+          let dirs = ap (λ m. directories_of m n) processes in
+          omega (arith, holds-after n);
+      named = λ q. by_other q (λ found. IfSome found (λ x. x.caller.vpid ≡ q)) tt
+          (λ other apart is was. subst (λ found. IfSome found (λ x. x.caller.vpid ≡ q)) was (sound.named q));
+      given = λ q. by_other q (λ found. IsSome found → q < new.pids.next) (λ no. cc)
+          (λ other apart is was _. subst (λ n. q < n) (sym next) (sound.given q (ap is_some was)));
+      lives = λ q. by_other q (λ found. IsSome found → lives (members_of new.pids) q ≡ true) (λ no. cc)
+          (λ other apart is was _. ap (λ ms. lives ms q) members ∙ lives-ended p end q (members_of c.pids) apart ∙ sound.lives q (ap is_some was));
+      fresh = λ q late.
+          let below = sound.given p (ap is_some here) in
+          ap (λ f. get f.tables q) fs ∙ others.tables q (λ is. absurd (omega arith)) ∙ sound.fresh q (subst (λ n. n ≤ q) next late);
+    }
+
+-- one of the processes that are to be killed is killed
+pub kills-next : (vpids : List ℕ) (k p : ℕ) (c d whole : Shared) → k < length vpids → get_or vpids k 0 ≡ p → whole ≡ kills_each (drop k vpids) c → d ≡ ends_one p (Signal SIGKILL) c → whole ≡ kills_each (drop (k + 1) vpids) d
+unfolding kills_each
+kills-next vpids k p c d whole within is so ends =
+    so ∙ ap (λ ps. kills_each ps c) (drop-cons vpids k 0 within)
+    ∙ ap (λ n. kills_each (drop n vpids) (ends_one (get_or vpids k 0) (Signal SIGKILL) c)) (sym (add-one k))
+    ∙ ap (kills_each (drop (k + 1) vpids)) (ap (λ q. ends_one q (Signal SIGKILL) c) is ∙ sym ends)
+
+-- and the others live on
+pub part-kept : (p q : ℕ) (end : End) (c d : Shared) → d ≡ ends_one p end c → q ≢ p → IsSome (get c.processes q) → IsSome (get d.processes q)
+unfolding ends_one
+part-kept p q end c d is apart lives =
+    subst (λ found. IsSome found) (sym (ap (λ s. get s.processes q) is ∙ get-remove_other nat_cmp_total nat_cmp-IsAntisymmetric c.processes p q apart)) lives

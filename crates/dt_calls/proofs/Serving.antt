@@ -1,0 +1,134 @@
+-- The stop of a process whose machine is taken from home, served and settled.
+use Rattle.std.proofs.Common.{arith, ◌≡◌, ◌≢◌, ℕ, ◌<◌, cond, Option, None, Some, refl, sym, ap, subst, ◌∙◌}
+use Rattle.std.specs.Prelude.{IsSome, IfSome, option_map, unwrap_or, is_some}
+use Rattle.std.specs.Ordering.{nat_cmp}
+use Rattle.std.specs.Cmp.{nat_cmp_total}
+use Rattle.std.specs.FinMap.{get, insert, remove, empty, nat_cmp-IsAntisymmetric}
+use Rattle.dt_host.specs.World.{World}
+use Rattle.dt_host.proofs.Maps.{at_insert, get-insert_same, put_back}
+use Rattle.dt_procs.specs.declared.member.TheConstants.{FIRST_PID}
+use Rattle.dt_rv64.specs.declared.machine.Machine.{Machine}
+use Rattle.dt_rv64.specs.declared.segments.Stop.{Stop}
+use Rattle.dt_calls.specs.declared.shared.Process.{Process}
+use Rattle.dt_calls.specs.declared.shared.Shared.{Shared as SharedInCode}
+use Rattle.dt_calls.specs.Call.{served}
+use Rattle.dt_calls.specs.Container.{Container, blank_process}
+use Rattle.dt_calls.specs.Effect.{Effect}
+use Rattle.dt_calls.specs.InCode.{ContainerView, home_of, shared_of, container_of}
+use Rattle.dt_calls.specs.Settle.{Settled, Turned, turned, settle, serve, serve_machine, all_ended, with_own as with_machine, with_child, next_after}
+use Rattle.dt_calls.specs.Sound.{IsSound, IsPaired, IsSoundContainer, with_own}
+use Rattle.dt_calls.proofs.Held.{keeps-break}
+use Rattle.dt_calls.proofs.Homes.{home-away, own-over}
+use Rattle.dt_calls.proofs.Settled.{paired-insert, parts-kept, part-here}
+
+-- the machine that was taken from home has no part in the turn
+turned-away : (c d : Container) (p : ℕ) (s : Settled) → d.machines ≡ remove c.machines p → d.next ≡ c.next → turned d p s ≡ turned c p s
+turned-away c d p s away same =
+    let own : with_machine d.machines p s.own ≡ with_machine c.machines p s.own = ap (λ ms. with_machine ms p s.own) away ∙ own-over c.machines p s.own in
+    (λ i. record {
+      container = record {
+        shared = s.shared;
+        machines = cond (all_ended p s.served) empty (with_child (own i) (same i) s.child);
+        next = next_after (same i) s.child;
+        events = s.events;
+      };
+      served = s.served;
+    })
+
+module _ (v s : ContainerView) (w : World) (p : ℕ) (own : Process) (m : Machine) (sound : IsSoundContainer v w) (away : s ≡ record v { places = insert v.places p None }) (here : get v.shared.processes p ≡ Some own) where
+  same_shared : s.shared ≡ v.shared
+  same_shared = ap (λ (x : ContainerView). x.shared) away
+
+  -- the part of a process stands under its pid
+  pub own-pid : own.caller.vpid ≡ p
+  own-pid = subst (λ found. IfSome found (λ x. x.caller.vpid ≡ p)) here (sound.shared.named p)
+
+  put-same : with_own v.shared own ≡ v.shared
+  put-same =
+      ap (λ processes. record v.shared { processes = processes })
+      (ap (λ q. insert v.shared.processes q own) own-pid ∙ put_back nat_cmp_total nat_cmp-IsAntisymmetric v.shared.processes p own here)
+
+  -- what the call has in hand is sound
+  pub hand-sound : IsSound (with_own s.shared own) w
+  hand-sound = subst (λ (x : SharedInCode). IsSound (with_own x own) w) (sym same_shared) (subst (λ (x : SharedInCode). IsSound x w) (sym put-same) sound.shared)
+
+  -- each place is still one of a live process after it
+  pub paired-served : (new : SharedInCode) → ((q : ℕ) → IsSome (get s.shared.processes q) → IsSome (get new.processes q)) → (q : ℕ) → IsSome (get s.places q) → IsSome (get new.processes q)
+  paired-served new parts q some =
+      parts q (subst (λ (x : SharedInCode). IsSome (get x.processes q)) (sym same_shared)
+      (at_insert nat_cmp_total nat_cmp-IsAntisymmetric (λ found. IsSome found → IsSome (get v.shared.processes q)) v.places p None q
+      (λ is _. subst (λ k. IsSome (get v.shared.processes k)) (sym is) (ap is_some here)) (λ apart. sound.paired q)
+      (subst (λ (x : ContainerView). IsSome (get x.places q)) away some)))
+
+  -- the place of the process stands empty
+  pub place-served : (q : ℕ) → q ≡ own.caller.vpid → IsSome (get s.places q)
+  place-served q is =
+      subst (λ k. IsSome (get s.places k)) (sym (is ∙ own-pid)) (subst (λ (x : ContainerView). IsSome (get x.places p)) (sym away)
+      (subst (λ found. IsSome found) (sym (get-insert_same nat_cmp_total nat_cmp-IsAntisymmetric v.places p None)) refl))
+
+  -- its pid was given before
+  pub apart-served : (q next : ℕ) → q ≡ own.caller.vpid → next ≡ s.shared.pids.next → q ≢ next
+  apart-served q next is number = λ same.
+      let given = sound.shared.given p (ap is_some here) in
+      let now = number ∙ ap (λ (x : SharedInCode). x.pids.next) same_shared in
+      let pid = is ∙ own-pid in
+      absurd (omega arith)
+
+  -- what serving and settling came to is what the definition says
+  pub serve-done : (stop : Stop) (next q : ℕ) (did : Effect) (d : Container) (t : Turned) → get (home_of v.places) p ≡ Some m → next ≡ s.shared.pids.next → q ≡ own.caller.vpid
+      → served (shared_of s.shared w) s.shared.pids.next own m stop ≡ did
+      → d.machines ≡ home_of s.places → d.next ≡ next
+      → turned d q (settle next q did) ≡ t → serve (container_of v w) p stop ≡ Some t
+  unfolding serve serve_machine
+  serve-done stop next q did d t home number is did_as machines numbered done =
+      let c = container_of v w in
+      let pid = is ∙ own-pid in
+      let given = number ∙ ap (λ (x : SharedInCode). x.pids.next) same_shared in
+      let gone : d.machines ≡ remove c.machines p = machines ∙ ap home_of (ap (λ (x : ContainerView). x.places) away) ∙ home-away v.places p in
+      ap (option_map (λ k. turned c p (serve_machine c.shared c.next p stop k))) home
+      ∙ ap Some (ap (λ found. turned c p (settle c.next p (served c.shared c.next (unwrap_or found (blank_process p)) m stop))) here
+      ∙ ap (λ (x : SharedInCode). turned c p (settle c.next p (served (shared_of x w) x.pids.next own m stop))) (sym same_shared)
+      ∙ ap (λ e. turned c p (settle c.next p e)) did_as
+      ∙ sym (turned-away c d p (settle c.next p did) gone (numbered ∙ given))
+      ∙ (λ i. turned d (sym pid i) (settle (sym given i) (sym pid i) did))
+      ∙ done)
+
+-- a process whose break is another one, as it starts a program
+module _ (v : ContainerView) (w : World) (p : ℕ) (own new : Process) (m : Machine) (sound : IsSoundContainer v w) (here : get v.shared.processes p ≡ Some own) (same : new.caller ≡ own.caller) where
+  new-pid : new.caller.vpid ≡ p
+  new-pid = ap (λ caller. caller.vpid) same ∙ own-pid v (record v { places = insert v.places p None }) w p own m sound refl here
+
+  pub sound-started : IsSound (with_own v.shared new) w
+  sound-started =
+      let hand = hand-sound v (record v { places = insert v.places p None }) w p own m sound refl here in
+      let kept = keeps-break v.shared own w hand new same in
+      kept.sound
+
+  pub paired-started : (q : ℕ) → IsSome (get (insert v.places p (Some m)) q) → IsSome (get (insert v.shared.processes new.caller.vpid new) q)
+  paired-started =
+      paired-insert (insert v.shared.processes new.caller.vpid new) v.places p (Some m)
+      (λ q some. parts-kept v.shared.processes new.caller.vpid q new (sound.paired q some))
+      (subst (λ k. IsSome (get (insert v.shared.processes new.caller.vpid new) k)) new-pid (part-here v.shared.processes new.caller.vpid new))
+
+-- a container whose first process was started is sound, once its places are counted
+pub record Launches (new : ContainerView) (w : World) : Type 0 where
+  pub shared : IsSound new.shared w
+  pub paired : IsPaired new
+
+pub launches : (inside v : ContainerView) (w : World) (own started : Process) (m : Machine) (put : SharedInCode) (new : ContainerView)
+    → IsSoundContainer v w → inside ≡ v → get inside.shared.processes FIRST_PID ≡ Some own → started.caller ≡ own.caller
+    → put ≡ with_own inside.shared started
+    → new ≡ record { shared = put; places = insert inside.places FIRST_PID (Some m); events = inside.events }
+    → Launches new w
+launches inside v w own started m put new sound is own_is same put_is new_is =
+    let here : get v.shared.processes FIRST_PID ≡ Some own = sym (ap (λ (x : ContainerView). get x.shared.processes FIRST_PID) is) ∙ own_is in
+    let given : new ≡ record { shared = with_own v.shared started; places = insert v.places FIRST_PID (Some m); events = v.events } =
+    new_is ∙ (λ i. record {
+      shared = (put_is ∙ ap (λ (x : ContainerView). with_own x.shared started) is) i;
+      places = insert (ap (λ (x : ContainerView). x.places) is i) FIRST_PID (Some m);
+      events = ap (λ (x : ContainerView). x.events) is i;
+    }) in
+    record {
+      shared = subst (λ (x : ContainerView). IsSound x.shared w) (sym given) (sound-started v w FIRST_PID own started m sound here same);
+      paired = subst IsPaired (sym given) (paired-started v w FIRST_PID own started m sound here same);
+    }

@@ -1,0 +1,102 @@
+-- What holds when a container begins.
+use Rattle.std.proofs.Common.{arith, ◌≡◌, ◌≢◌, ℕ, ◌+◌, ◌<◌, ◌≤◌, Option, None, Some, true, refl, sym, ap, subst, ◌∙◌}
+use Rattle.std.proofs.lemmas.Bool.Decides.{nat_tests}
+use Rattle.std.specs.Prelude.{List, Bool, IsSome, IfSome}
+use Rattle.std.specs.Ordering.{nat_cmp}
+use Rattle.std.specs.Cmp.{nat_cmp_total}
+use Rattle.std.specs.FinMap.{FinMap, get, insert, empty, get-empty, nat_cmp-IsAntisymmetric}
+use Rattle.dt_base.specs.declared.image.Entry.{Entry}
+use Rattle.dt_fds.specs.declared.desc.Desc.{Desc}
+use Rattle.dt_fds.specs.declared.desc.DescKind.TheVariants.{Input, Stream}
+use Rattle.dt_fds.specs.declared.desc.TheConstants.{DESCRIPTOR_LIMIT}
+use Rattle.dt_fds.specs.Descriptions.{Descriptions, Table, none_open, opened_at, opened_lowest, first_desc, first_files, with_slot, with_new, lowest_free, table_of}
+use Rattle.dt_fds.specs.Backs.{AllIn, descriptions_of}
+use Rattle.dt_host.specs.Total.{weight}
+use Rattle.dt_host.specs.World.{World, Forest, IsDir}
+use Rattle.dt_host.proofs.Maps.{at_insert, get-insert_same, get-insert_other}
+use Rattle.dt_host.proofs.Spots.{IsLive-IsDir}
+use Rattle.dt_host.proofs.Totals.{total-insert, total-empty}
+use Rattle.dt_procs.specs.declared.member.TheConstants.{FIRST_PID}
+use Rattle.dt_procs.specs.Members.{first_members, lives}
+use Rattle.dt_procs.specs.Table as procs
+use Rattle.dt_procs.specs.Table.{members_of}
+use Rattle.dt_tree.specs.declared.limits.TheConstants.{ROOT}
+use Rattle.dt_tree.specs.FileTree.{FileTree, holds_of}
+use Rattle.dt_tree.specs.ImageTree.{image_tree}
+use Rattle.dt_tree.specs.Shape.{one_for}
+use Rattle.dt_tree.specs.Changes.{held}
+use Rattle.dt_tree.specs.Table.{Table as TreeTable, Stands, shape_of, tree_of}
+use Rattle.dt_tree.proofs.Holding.{holds-held, shape-held}
+use Rattle.dt_tree.proofs.Images.{not_held}
+use Rattle.dt_calls.specs.declared.shared.Process.{Process}
+use Rattle.dt_calls.specs.declared.shared.Shared.{Shared as SharedInCode}
+use Rattle.dt_calls.specs.Container.{Processes, blank_process}
+use Rattle.dt_calls.specs.Sound.{IsSound, directories_of}
+
+one_for-swap : (a b : ℕ) → one_for a b ≡ one_for b a
+one_for-swap a b = grind (arith, nat_tests)
+
+-- what one process opens is in no table of another
+tables-opened : (p q : ℕ) (desc : Desc) (f : Descriptions) → q ≢ p → (let new = opened_lowest p desc f in get new.tables q ≡ get f.tables q)
+unfolding opened_lowest with_slot with_new
+tables-opened p q desc f apart = by_free (lowest_free (table_of f p) 0)
+  where
+    by_free : (free : Option ℕ) → (let new = opened_at f p desc free in get new.tables q ≡ get f.tables q)
+    by_free None = refl
+    by_free (Some fd) = get-insert_other nat_cmp_total nat_cmp-IsAntisymmetric f.tables p _ q apart
+
+-- at first no other process has descriptors
+tables-first : (p q : ℕ) → q ≢ p → (let new = first_files p in get new.tables q ≡ None)
+unfolding first_files
+tables-first p q apart =
+    tables-opened p q (first_desc (Stream 2) 1) _ apart
+    ∙ tables-opened p q (first_desc (Stream 1) 1) _ apart
+    ∙ tables-opened p q (first_desc Input 0) (none_open p) apart
+    ∙ get-insert_other nat_cmp_total nat_cmp-IsAntisymmetric empty p _ q apart
+    ∙ get-empty nat_cmp q
+
+abbrev pub first_part : Process
+first_part = blank_process FIRST_PID
+
+-- the first process alone
+abbrev pub first_parts : Processes
+first_parts = insert empty FIRST_PID first_part
+
+-- what holds of the first process's part holds of each part
+of_first : (P : ℕ → Option Process → Type 0) → ((q : ℕ) → P q None) → P FIRST_PID (Some first_part) → (q : ℕ) → P q (get first_parts q)
+of_first P none first q =
+    at_insert nat_cmp_total nat_cmp-IsAntisymmetric (λ found. P q found) empty FIRST_PID first_part q
+    (λ is. subst (λ k. P k (Some first_part)) (sym is) first) (λ apart. subst (P q) (sym (get-empty nat_cmp q)) (none q))
+
+directories-first : (n : ℕ) → directories_of first_parts n ≡ one_for ROOT n
+directories-first n =
+    let g = λ (own : Process). one_for own.caller.cwd n in
+    let sum = total-insert nat_cmp_total g empty FIRST_PID first_part in
+    let none = total-empty nat_cmp_total g in
+    let weighs = ap (weight g) (get-empty {X = Process} nat_cmp FIRST_PID) in
+    omega arith
+
+-- a container begins: its process holds the root, and nothing is open that names a node
+pub sound-first : (c : SharedInCode) (old : TreeTable) (u w : World) (entries : List Entry) → Stands old u.forest → tree_of old u.forest ≡ image_tree entries → Stands c.fs.tree w.forest → tree_of c.fs.tree w.forest ≡ held (tree_of old u.forest) ROOT → procs.Stands c.pids w.pids
+    → ((n : ℕ) → descriptions_of c.fs.files n ≡ 0) → ((v : Forest) → AllIn v c.fs.files) → c.fs.files ≡ first_files FIRST_PID → c.processes ≡ first_parts → members_of c.pids ≡ first_members → c.pids.next ≡ 2 → IsSound c w
+sound-first c old u w entries was image stands tree pids nodes all files parts members next =
+    let t = tree_of old u.forest in
+    let top : IsDir t.shape ROOT = subst (IsDir t.shape) was.tree.root was.tree.shaped.root in
+    let dir : IsDir (shape_of c.fs.tree w.forest) ROOT = subst (λ x. IsDir x.shape ROOT) (sym tree) (subst (λ s. IsDir s ROOT) (sym (shape-held t ROOT)) top) in
+    let by = λ (P : ℕ → Option Process → Type 0) (none : (q : ℕ) → P q None) (first : P FIRST_PID (Some first_part)) (q : ℕ). subst (λ (m : Processes). P q (get m q)) (sym parts) (of_first P none first q) in
+    record {
+      stands = stands;
+      pids = pids;
+      all_in = all (shape_of c.fs.tree w.forest);
+      directories = by (λ q found. IfSome found (λ own. IsDir (shape_of c.fs.tree w.forest) own.caller.cwd)) (λ q. tt) dir;
+      holds = λ n.
+          let more = holds-held t was.tree ROOT (IsLive-IsDir t.shape ROOT top) n in
+          let now = ap (λ x. holds_of x n) tree in
+          let start = ap (λ x. holds_of x n) image ∙ not_held entries n in
+          let dirs = ap (λ m. directories_of m n) parts ∙ directories-first n in
+          omega (arith, nodes n, one_for-swap ROOT n);
+      named = by (λ q found. IfSome found (λ own. own.caller.vpid ≡ q)) (λ q. tt) refl;
+      given = by (λ q found. IsSome found → q < c.pids.next) (λ q some. cc) (λ some. omega (arith, next));
+      lives = by (λ q found. IsSome found → lives (members_of c.pids) q ≡ true) (λ q some. cc) (λ some. ap (λ ms. lives ms FIRST_PID) members);
+      fresh = λ q late. ap (λ f. get f.tables q) files ∙ tables-first FIRST_PID q (λ is. absurd (omega (arith, next)));
+    }

@@ -1,0 +1,78 @@
+-- clone(2) of a process (fork(2)): the child is a copy of its parent, and shares what the parent has open.
+use Rattle.std.specs.Prelude.{ℕ, ◌==◌, ◌&&◌, not, Bool, bit_and, bit_or, List, Some, Result, Ok, Err, if◌then◌else◌}
+use Rattle.std.specs.FinMap.{insert}
+use Rattle.dt_base.specs.declared.abi.TheConstants.{A0, A1, A2, A4, SP}
+use Rattle.dt_base.specs.declared.errno.Errno.TheVariants.{Again}
+use Rattle.dt_base.specs.Fields.{low_bytes}
+use Rattle.dt_fds.specs.Descriptions.{shared_all}
+use Rattle.dt_procs.specs.Members.{is_full, with_child}
+use Rattle.dt_rv64.specs.declared.machine.Machine.{Machine}
+use Rattle.dt_rv64.specs.Effects.{register, with_register, answered}
+use Rattle.dt_space.specs.declared.access.Miss.{Miss}
+use Rattle.dt_space.specs.Space.{PageView}
+use Rattle.dt_space.specs.Write.{stored}
+use Rattle.dt_tree.specs.Changes.{held}
+use Rattle.dt_calls.specs.declared.call.effect.Outcome.TheVariants.{Done, Unsupported}
+use Rattle.dt_calls.specs.declared.numbers.TheConstants.{CLONE, CSIGNAL, SIGCHLD, CLONE_PARENT_SETTID, CLONE_CHILD_CLEARTID, CLONE_CHILD_SETTID}
+use Rattle.dt_calls.specs.declared.shared.Process.{Process}
+use Rattle.dt_calls.specs.Container.{Shared}
+use Rattle.dt_calls.specs.Effect.{Effect, quiet, refused}
+
+-- a process that is no thread of its parent, with SIGCHLD at its end, and of the other flags at most these three
+abbrev pub is_supported : ℕ → Bool
+is_supported flags =
+    (bit_and flags CSIGNAL == SIGCHLD)
+    && (bit_or flags (bit_or CSIGNAL (bit_or CLONE_PARENT_SETTID (bit_or CLONE_CHILD_CLEARTID CLONE_CHILD_SETTID)))
+    == bit_or CSIGNAL (bit_or CLONE_PARENT_SETTID (bit_or CLONE_CHILD_CLEARTID CLONE_CHILD_SETTID)))
+
+-- the pages after a pid was written, or as they were where it can't be
+abbrev pub where_written : List PageView → Result (List PageView) Miss → List PageView
+where_written pages (Err miss) = pages
+where_written pages (Ok written) = written
+
+-- the machine with a pid of 4 bytes at an address, if a flag asks for it; an address that can't be written is ignored
+abbrev pub with_pid : Bool → ℕ → ℕ → Machine → Machine
+with_pid asked address vpid m =
+    if asked then record m { space = where_written m.space (stored m.space address (low_bytes 4 vpid)) } else m
+
+-- the machine with another stack, unless the address is 0
+abbrev pub with_stack : ℕ → Machine → Machine
+with_stack stack m = if stack == 0 then m else with_register m SP stack
+
+-- a flag is set
+abbrev pub has : ℕ → ℕ → Bool
+has flags flag = bit_and flags flag == flag
+
+-- the child's machine: its call answers 0
+abbrev pub child_machine : Machine → ℕ → Machine
+child_machine m vpid =
+    with_pid (has (register m A0) CLONE_CHILD_SETTID) (register m A4) vpid (with_stack (register m A1) (answered m 0))
+
+-- the parent's machine: its call answers the child's pid
+abbrev pub parent_machine : Machine → ℕ → Machine
+parent_machine m vpid = with_pid (has (register m A0) CLONE_PARENT_SETTID) (register m A2) vpid (answered m vpid)
+
+-- the child's part: a copy of the parent's, under its own pid
+abbrev pub child_process : Process → ℕ → Process
+child_process own vpid = record own { caller = record own.caller { vpid = vpid } }
+
+-- what is shared once the child is there: it holds its working directory, and has its parent's descriptors
+abbrev pub with_child_of : Shared → Process → ℕ → Shared
+with_child_of c own vpid = record c {
+  tree = held c.tree own.caller.cwd;
+  files = shared_all own.caller.vpid vpid c.files;
+  members = with_child c.members vpid own.caller.vpid;
+  processes = insert c.processes vpid (child_process own vpid);
+}
+
+-- a child is made
+abbrev pub cloned : Shared → ℕ → Process → Machine → Effect
+cloned c next own m =
+    record (quiet (with_child_of c own next) own (parent_machine m next) Done) { child = Some (child_machine m next) }
+
+-- clone(2): EAGAIN where 64 processes and zombies are there
+unfoldable pub clone_call : Shared → ℕ → Process → Machine → Effect
+clone_call c next own m =
+    if not (is_supported (register m A0)) then quiet c own m (Unsupported CLONE)
+    else if is_full c.members then refused c own m Again
+    else cloned c next own m

@@ -1,0 +1,36 @@
+-- execve(2): the process goes on as another program.
+use Rattle.std.specs.Prelude.{Result, Ok, Err}
+use Rattle.dt_base.specs.declared.abi.TheConstants.{A0, A1, A2}
+use Rattle.dt_base.specs.declared.errno.Errno.{Errno}
+use Rattle.dt_exec.specs.declared.program.Program.{Program}
+use Rattle.dt_exec.specs.Program.{execve_program}
+use Rattle.dt_fds.specs.Holding.{Holding, over, closed_on_exec}
+use Rattle.dt_rv64.specs.declared.machine.Machine.{Machine}
+use Rattle.dt_rv64.specs.Effects.{register}
+use Rattle.dt_virt.specs.Words.{start_bytes}
+use Rattle.dt_calls.specs.declared.call.effect.Outcome.TheVariants.{Done}
+use Rattle.dt_calls.specs.declared.shared.Process.{Process}
+use Rattle.dt_calls.specs.Container.{Shared}
+use Rattle.dt_calls.specs.Effect.{Effect, quiet, refused}
+
+-- with these open files, and the tree whose nodes they hold
+abbrev pub with_holding : Shared → Holding → Shared
+with_holding c h = record c { tree = h.tree; files = h.files }
+
+-- the process's part: its break is where the program's starts
+abbrev pub with_program : Process → Program → Process
+with_program own program =
+    record own { program_break = record { start = program.break_start; end = program.break_start } }
+
+-- a program that can be started takes the place of the one that called: pid, working directory and umask stay, and what is
+-- marked close-on-exec is closed
+abbrev pub by_program : Shared → Process → Machine → Result Program Errno → Effect
+by_program c own m (Err errno) = refused c own m errno
+by_program c own m (Ok program) =
+    quiet (with_holding c (closed_on_exec own.caller.vpid (over c.tree c.files))) (with_program own program) program.machine Done
+
+-- execve(2)
+unfoldable pub execve_call : Shared → Process → Machine → Effect
+execve_call c own m =
+    by_program c own m (execve_program c.tree.shape own.caller.cwd m.space
+    (register m A0) (register m A1) (register m A2) (start_bytes c.rand))

@@ -1,0 +1,46 @@
+-- The system calls that tell a process who and where it is, and those that do nothing: getpid(2) and its kin, uname(2),
+-- sched_yield(2), set_tid_address(2), set_robust_list(2).
+use Rattle.std.specs.Prelude.{ℕ, ◌-◌, ◌==◌, List, ◌++◌, length, replicate, codes, Result, Ok, Err, unwrap_or, if◌then◌else◌}
+use Rattle.dt_base.specs.declared.abi.TheConstants.{A0, A1}
+use Rattle.dt_base.specs.declared.errno.Errno.TheVariants.{Inval, Fault as BadAddress}
+use Rattle.dt_rv64.specs.declared.machine.Machine.{Machine}
+use Rattle.dt_rv64.specs.Effects.{register}
+use Rattle.dt_space.specs.declared.access.Miss.{Miss}
+use Rattle.dt_space.specs.Space.{PageView}
+use Rattle.dt_space.specs.Write.{stored}
+use Rattle.dt_procs.specs.Members.{parent_of}
+use Rattle.dt_calls.specs.declared.numbers.TheConstants.{ROBUST_LIST_SIZE, UTSNAME_FIELD}
+use Rattle.dt_calls.specs.declared.shared.Process.{Process}
+use Rattle.dt_calls.specs.Container.{Shared}
+use Rattle.dt_calls.specs.Effect.{Effect, done, refused}
+
+-- getpid(2), gettid(2), set_tid_address(2): the pid; a process has one thread, whose number is the process's
+unfoldable pub getpid_call : Shared → Process → Machine → Effect
+getpid_call c own m = done c own m own.caller.vpid
+
+-- getppid(2): the parent's pid; 0 for the first process
+unfoldable pub getppid_call : Shared → Process → Machine → Effect
+getppid_call c own m = done c own m (unwrap_or (parent_of c.members own.caller.vpid) 0)
+
+-- set_robust_list(2): the list is not looked at, since a process has one thread; EINVAL where its size is another
+unfoldable pub set_robust_list_call : Shared → Process → Machine → Effect
+set_robust_list_call c own m = if register m A1 == ROBUST_LIST_SIZE then done c own m 0 else refused c own m Inval
+
+-- a field of a `struct utsname`: a text, and zeros behind it
+abbrev pub field : List ℕ → List ℕ
+field text = text ++ replicate (UTSNAME_FIELD - length text) 0
+
+-- a `struct utsname`: system, node, release, version, machine, domain
+abbrev pub utsname : List ℕ
+utsname =
+    field (codes "Linux") ++ (field (codes "dettrace") ++ (field (codes "6.1.0")
+    ++ (field (codes "#1") ++ (field (codes "riscv64") ++ field (codes "(none)")))))
+
+-- the answer of a call that fills a buffer
+abbrev pub filled : Shared → Process → Machine → Result (List PageView) Miss → Effect
+filled c own m (Err miss) = refused c own m BadAddress
+filled c own m (Ok pages) = done c own (record m { space = pages }) 0
+
+-- uname(2): EFAULT where a byte of the buffer can't be written
+unfoldable pub uname_call : Shared → Process → Machine → Effect
+uname_call c own m = filled c own m (stored m.space (register m A0) utsname)

@@ -1,0 +1,72 @@
+-- wait4(2): a child that has ended is reaped.
+use Rattle.std.specs.Prelude.{ℕ, ◌*◌, ◌^◌, ◌-◌, ◌==◌, ◌||◌, ◌&&◌, nat_lt, not, Bool, List, replicate, Option, None, Some, is_ok, if◌then◌else◌}
+use Rattle.dt_base.specs.declared.abi.TheConstants.{A0, A1, A2, A3}
+use Rattle.dt_base.specs.Abi.{low_word}
+use Rattle.dt_base.specs.declared.errno.Errno.TheVariants.{Inval, Child, Fault as BadAddress}
+use Rattle.dt_base.specs.declared.event.End.{End}
+use Rattle.dt_base.specs.declared.event.End.TheVariants.{Code, Signal}
+use Rattle.dt_base.specs.Fields.{low_bytes}
+use Rattle.dt_procs.specs.declared.member.Reaped.{Reaped}
+use Rattle.dt_procs.specs.declared.member.Reaped.TheVariants.{Got, NoneReady, NoChild}
+use Rattle.dt_procs.specs.Members.{look_for, without}
+use Rattle.dt_rv64.specs.declared.machine.Machine.{Machine}
+use Rattle.dt_rv64.specs.Effects.{register}
+use Rattle.dt_space.specs.declared.access.TheConstants.{WRITE}
+use Rattle.dt_space.specs.Space.{PageView, load}
+use Rattle.dt_space.specs.Write.{write}
+use Rattle.dt_scene.specs.Arguments.{has_only, has}
+use Rattle.dt_calls.specs.declared.call.effect.Outcome.TheVariants.{Blocked, Unsupported}
+use Rattle.dt_calls.specs.declared.numbers.TheConstants.{WAIT4, WNOHANG, WAIT_OPTIONS, RUSAGE_SIZE}
+use Rattle.dt_calls.specs.declared.shared.Process.{Process}
+use Rattle.dt_calls.specs.Container.{Shared}
+use Rattle.dt_calls.specs.Effect.{Effect, quiet, done, refused}
+
+-- the low 32 bits as a signed number are below -1
+abbrev pub is_group : ℕ → Bool
+is_group pid = nat_lt (2 ^ 31 - 1) pid && nat_lt pid (2 ^ 32 - 1)
+
+-- the child that is waited for: any where the pid is 0 or -1
+abbrev pub asked : ℕ → Option ℕ
+asked pid = if (pid == 0) || (pid == 2 ^ 32 - 1) then None else Some pid
+
+-- the status word of an end: an exit code is its second byte, a signal its first
+abbrev pub status_of : End → ℕ
+status_of (Code code) = code * 256
+status_of (Signal signal) = signal
+
+-- so many bytes can be written at an address, or it is null
+abbrev pub takes : List PageView → ℕ → ℕ → Bool
+takes pages address count = (address == 0) || is_ok (load pages WRITE address count)
+
+-- the pages with bytes at an address, unless it is null
+abbrev pub with_bytes : List PageView → ℕ → List ℕ → List PageView
+with_bytes pages address bytes = if address == 0 then pages else write pages address bytes
+
+-- the bytes of a status word
+abbrev pub status_bytes : End → List ℕ
+status_bytes end = low_bytes 4 (status_of end)
+
+-- the bytes of the use of resources, which is told as none
+abbrev pub usage_bytes : List ℕ
+usage_bytes = replicate RUSAGE_SIZE 0
+
+-- a zombie is reaped, and its pid is the answer; EFAULT where its status or the use of resources can't be written
+abbrev pub reaps : Shared → Process → Machine → ℕ → ℕ → ℕ → End → Effect
+reaps c own m status usage vpid end =
+    if takes m.space status 4 && takes m.space usage RUSAGE_SIZE
+    then done (record c { members = without c.members vpid }) own
+    (record m { space = with_bytes (with_bytes m.space status (status_bytes end)) usage usage_bytes }) vpid
+    else refused c own m BadAddress
+
+-- by what there is: with WNOHANG the answer is 0 where no child has ended, and else the process waits
+abbrev pub by_found : Shared → Process → Machine → Reaped → Effect
+by_found c own m (Got vpid end) = reaps c own m (register m A1) (register m A3) vpid end
+by_found c own m NoneReady = if has (low_word (register m A2)) WNOHANG then done c own m 0 else quiet c own m Blocked
+by_found c own m NoChild = refused c own m Child
+
+-- wait4(2)
+unfoldable pub wait4_call : Shared → Process → Machine → Effect
+wait4_call c own m =
+    if is_group (low_word (register m A0)) then quiet c own m (Unsupported WAIT4)
+    else if not (has_only (low_word (register m A2)) WAIT_OPTIONS) then refused c own m Inval
+    else by_found c own m (look_for c.members own.caller.vpid (asked (low_word (register m A0))))

@@ -1,0 +1,87 @@
+// Calls that tell a process who and where it is, and calls that do nothing.
+ghost use Rattle.std.specs.Prelude.{◌≡◌, ◌-◌, ◌++◌, length, replicate, IfOk, OnOk, ◌≤◌, None};
+ghost use Rattle.dt_host.specs.World.{World};
+ghost use Rattle.dt_calls.specs.Identity.{getpid_call, getppid_call, set_robust_list_call, uname_call, field, utsname};
+ghost use Rattle.dt_calls.specs.InCode.{shared_of, effect_as};
+ghost use Rattle.dt_calls.specs.declared.numbers.TheConstants.{UTSNAME_FIELD as WIDTH};
+
+use super::Effect;
+use crate::numbers::{ROBUST_LIST_SIZE, UTSNAME_FIELD};
+use crate::shared::{Process, Shared};
+use dt_base::abi::{A0, A1};
+use dt_base::{Errno, NoMemory};
+use dt_rv64::Machine;
+use std::alloc::Global;
+
+/// getpid(2), gettid(2), set_tid_address(2)
+#[tactic(auto, unfolding(crate::specs::Identity::getpid_call))]
+pub fn getpid(alloc: Global, own: &Process, machine: &mut Machine) -> Effect
+    ensures served { (c : _) → getpid_call c own.now machine.old ≡ effect_as c own.now machine.new result }
+    ensures child { result.child ≡ None }
+{
+    Effect::done(alloc, machine, u64::from(own.caller.vpid))
+}
+
+/// getppid(2)
+#[tactic(auto, unfolding(crate::specs::Identity::getppid_call))]
+pub fn getppid(alloc: Global, shared: &Shared, own: &Process, machine: &mut Machine) -> Effect
+    ensures served { (w : World) → getppid_call (shared_of shared.now w) own.now machine.old
+        ≡ effect_as (shared_of shared.now w) own.now machine.new result }
+    ensures child { result.child ≡ None }
+{
+    let parent = shared.pids.parent(own.caller.vpid).unwrap_or(0);
+    Effect::done(alloc, machine, u64::from(parent))
+}
+
+/// set_robust_list(2)
+#[tactic(auto, unfolding(crate::specs::Identity::set_robust_list_call))]
+pub fn set_robust_list(alloc: Global, machine: &mut Machine) -> Effect
+    ensures served { (c : _) → (own : _) → set_robust_list_call c own machine.old
+        ≡ effect_as c own machine.new result }
+    ensures child { result.child ≡ None }
+{
+    if machine.reg(A1) == ROBUST_LIST_SIZE {
+        Effect::done(alloc, machine, 0)
+    } else {
+        Effect::refused(alloc, machine, Errno::Inval)
+    }
+}
+
+/// uname(2)
+#[tactic(auto, unfolding(crate::specs::Identity::uname_call))]
+pub fn uname(alloc: Global, machine: &mut Machine) -> Result<Effect, NoMemory>
+    ensures served { (c : _) → (own : _) → IfOk result
+        (λ e. uname_call c own machine.old ≡ effect_as c own machine.new e) }
+    ensures child { IfOk result (λ e. e.child ≡ None) }
+{
+    let name = utsname(alloc)?;
+    let buffer = machine.reg(A0);
+    if machine.space.write_bytes(buffer, &name).is_err() {
+        return Ok(Effect::refused(alloc, machine, Errno::Fault));
+    }
+    Ok(Effect::done(alloc, machine, 0))
+}
+
+// A `struct utsname`: system, node, release, version, machine, domain.
+fn utsname(alloc: Global) -> Result<Vec<u8>, NoMemory>
+    ensures { IfOk result (λ bytes. bytes.items ≡ utsname) }
+{
+    let mut bytes = Vec::new(alloc);
+    put_field(&mut bytes, b"Linux")?;
+    put_field(&mut bytes, b"dettrace")?;
+    put_field(&mut bytes, b"6.1.0")?;
+    put_field(&mut bytes, b"#1")?;
+    put_field(&mut bytes, b"riscv64")?;
+    put_field(&mut bytes, b"(none)")?;
+    Ok(bytes)
+}
+
+// Adds a field: a text, and zeros behind it.
+fn put_field(bytes: &mut Vec<u8>, text: &[u8]) -> Result<(), NoMemory>
+    requires { length text.now ≤ WIDTH }
+    ensures { OnOk result (bytes.new.items ≡ bytes.old.items ++ field text.now) }
+{
+    bytes.extend_from_slice(text)?;
+    bytes.resize(bytes.len() + (UTSNAME_FIELD - text.len()), 0)?;
+    Ok(())
+}

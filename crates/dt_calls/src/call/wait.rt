@@ -1,0 +1,131 @@
+// The wait for a child that ends.
+ghost use Rattle.std.specs.Prelude.{◌≡◌, ◌&&◌, length, true};
+ghost use Rattle.dt_calls.specs.declared.numbers.TheConstants.{RUSAGE_SIZE as RUSAGE};
+ghost use Rattle.dt_procs.specs.declared.member.Reaped.{Reaped as Found};
+ghost use Rattle.dt_procs.specs.Members.{look_for};
+ghost use Rattle.dt_calls.specs.Wait.{wait4_call, by_found, asked, is_group, status_of, takes, with_bytes};
+ghost use Rattle.dt_calls.specs.InCode.{shared_of};
+ghost use Rattle.dt_calls.specs.Sound.{IsSoundHand, Serves, hand};
+
+use super::{Effect, Outcome};
+use crate::numbers::{RUSAGE_SIZE, WAIT_OPTIONS, WAIT4, WNOHANG};
+use crate::shared::{Process, Shared};
+use dt_base::abi::{A0, A1, A2, A3, low_word};
+use dt_base::{End, Errno};
+use dt_host::{Host, HostErr};
+use dt_procs::Reaped;
+use dt_rv64::Machine;
+use dt_space::Space;
+use std::alloc::Global;
+
+/// wait4(2): reaps a child that has ended; the process waits where one may still.
+#[tactic(auto, unfolding(crate::specs::Wait::wait4_call))]
+pub fn wait4<H: Host>(
+    alloc: Global,
+    host: &mut H,
+    shared: &mut Shared,
+    own: &mut Process,
+    machine: &mut Machine,
+) -> Result<Effect, HostErr>
+    requires { IsSoundHand (hand shared.old own.old (H.view host.old)) }
+    ensures { Serves (wait4_call (shared_of shared.old (H.view host.old)) own.old machine.old)
+        (hand shared.old own.old (H.view host.old)) (hand shared.new own.new (H.view host.new)) machine.new result
+        (H.count host.old) (H.count host.new) }
+{
+    let _before = host.faults();
+    let (pid, options) = (low_word(machine.reg(A0)), low_word(machine.reg(A2)));
+    if is_group(pid) {
+        return Ok(Effect::quiet(alloc, Outcome::Unsupported(WAIT4)));
+    }
+    if options | WAIT_OPTIONS != WAIT_OPTIONS {
+        return Ok(Effect::refused(alloc, machine, Errno::Inval));
+    }
+    let which = asked(pid);
+    match shared.pids.look_for(own.caller.vpid, which) {
+        Reaped::Got(vpid, end) => reap(alloc, host, shared, own, machine, which, vpid, end),
+        Reaped::NoneReady if options & WNOHANG == WNOHANG => Ok(Effect::done(alloc, machine, 0)),
+        Reaped::NoneReady => Ok(Effect::quiet(alloc, Outcome::Blocked)),
+        Reaped::NoChild => Ok(Effect::refused(alloc, machine, Errno::Child)),
+    }
+}
+
+// Whether a pid, as a signed number, is below -1: that of a process group.
+fn is_group(pid: u32) -> bool
+    ensures { result ≡ is_group pid }
+{
+    pid > 0x7fff_ffff && pid < 0xffff_ffff
+}
+
+// The child that is waited for: any where the pid is 0 or -1.
+fn asked(pid: u32) -> Option<u32>
+    ensures { result ≡ asked pid }
+{
+    match pid {
+        0 | 0xffff_ffff => None,
+        pid => Some(pid),
+    }
+}
+
+// The status word of an end: an exit code is its second byte, a signal its first.
+fn status_of(end: End) -> u32
+    ensures { result ≡ status_of end }
+{
+    match end {
+        End::Code(code) => u32::from(code) * 256,
+        End::Signal(signal) => u32::from(signal),
+    }
+}
+
+// Whether so many bytes can be written at an address, or it is null.
+fn takes(space: &Space, address: u64, count: usize) -> bool
+    ensures { result ≡ takes space.now address count }
+{
+    address == 0 || space.writable(address, count as u64).is_ok()
+}
+
+// Whether a status and the use of resources can be written there.
+fn takes_both(space: &Space, status: u64, usage: u64) -> bool
+    ensures { result ≡ (takes space.now status 4 && takes space.now usage RUSAGE) }
+{
+    takes(space, status, 4) && takes(space, usage, RUSAGE_SIZE)
+}
+
+// Puts bytes at an address, unless it is null.
+fn give(space: &mut Space, address: u64, bytes: &[u8])
+    requires { takes space.old address (length bytes.now) ≡ true }
+    ensures { space.new ≡ with_bytes space.old address bytes.now }
+{
+    if address != 0 {
+        let _ = space.write_bytes(address, bytes);
+    }
+}
+
+// Reaps a zombie that was found, if its status and the use of resources can be given.
+fn reap<H: Host>(
+    alloc: Global,
+    host: &mut H,
+    shared: &mut Shared,
+    own: &Process,
+    machine: &mut Machine,
+    which: Option<u32>,
+    vpid: u32,
+    end: End,
+) -> Result<Effect, HostErr>
+    requires sound { IsSoundHand (hand shared.old own.now (H.view host.old)) }
+    requires found { look_for (shared_of shared.old (H.view host.old)).members own.now.caller.vpid which
+        ≡ Found.Got vpid end }
+    ensures { Serves (by_found (shared_of shared.old (H.view host.old)) own.now machine.old (Found.Got vpid end))
+        (hand shared.old own.now (H.view host.old)) (hand shared.new own.now (H.view host.new)) machine.new result
+        (H.count host.old) (H.count host.new) }
+{
+    let _before = host.faults();
+    let (status, usage) = (machine.reg(A1), machine.reg(A3));
+    if !takes_both(&machine.space, status, usage) {
+        return Ok(Effect::refused(alloc, machine, Errno::Fault));
+    }
+    let _next = shared.pids.next();
+    shared.pids.wait_for(host, own.caller.vpid, which)?;
+    give(&mut machine.space, status, &status_of(end).to_le_bytes());
+    give(&mut machine.space, usage, &[0; RUSAGE_SIZE]);
+    Ok(Effect::done(alloc, machine, u64::from(vpid)))
+}

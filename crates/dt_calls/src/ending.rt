@@ -1,0 +1,101 @@
+// The end of processes.
+ghost use Rattle.std.specs.Prelude.{◌≡◌, ◌≢◌, ℕ, ◌<◌, ◌^◌, IsSome, OnOk, IsErrOf, ◌++◌};
+ghost use Rattle.std.specs.List.{All};
+ghost use Rattle.std.specs.FinMap.{get, keys};
+ghost use Rattle.dt_host.specs.Cause.{HasCause};
+ghost use Rattle.dt_calls.specs.Settle.{ends_one, kills_each, kills_shown, ends, ends_shown};
+ghost use Rattle.dt_calls.specs.InCode.{shared_of};
+ghost use Rattle.dt_calls.specs.Sound.{IsSound};
+
+use crate::numbers::SIGKILL;
+use crate::shared::Shared;
+use dt_base::{End, Event, NoMemory};
+use dt_host::{Host, HostErr};
+use dt_procs::FIRST_PID;
+
+impl Shared {
+    /// Ends a process, and after the first one all others that live: what each has open is closed, it holds its working
+    /// directory no longer, and it is a zombie (_exit(2)). The ends that show are added to the events.
+    #[tactic(auto, unfolding(crate::specs::Settle::ends))]
+    pub fn end<H: Host>(
+        &mut self,
+        host: &mut H,
+        vpid: u32,
+        end: End,
+        events: &mut Vec<Event>,
+    ) -> Result<(), HostErr>
+        requires sound { IsSound self.old (H.view host.old) }
+        requires lives { IsSome (get self.old.processes vpid) }
+        ensures ended { OnOk result (shared_of self.new (H.view host.new)
+            ≡ ends vpid end (shared_of self.old (H.view host.old))) }
+        ensures shown { OnOk result (events.new.items
+            ≡ events.old.items ++ ends_shown vpid end (shared_of self.old (H.view host.old))) }
+        ensures sound { OnOk result (IsSound self.new (H.view host.new)) }
+        ensures next { OnOk result (self.new.pids.next ≡ self.old.pids.next) }
+        ensures others { (q : ℕ) → vpid ≢ FIRST_PID → q ≢ vpid → OnOk result
+            (IsSome (get self.old.processes q) → IsSome (get self.new.processes q)) }
+        ensures cause { HasCause (H.count host.old) (H.count host.new) (IsErrOf result HostErr.Failed) }
+    {
+        let _before = host.faults();
+        // A proof learns here that pids fit 32 bits.
+        let _next = self.pids.next();
+        events.push(Event::Exit(vpid, end))?;
+        self.end_one(host, vpid, end)?;
+        if vpid == FIRST_PID {
+            let others = self.processes.numbers()?;
+            show_kills(events, &others)?;
+            self.kill_each(host, &others)?;
+        }
+        Ok(())
+    }
+
+    // Ends one process.
+    #[tactic(auto, unfolding(crate::specs::Settle::ends_one))]
+    fn end_one<H: Host>(&mut self, host: &mut H, vpid: u32, end: End) -> Result<(), HostErr>
+        requires sound { IsSound self.old (H.view host.old) }
+        requires lives { IsSome (get self.old.processes vpid) }
+        ensures ended { OnOk result (shared_of self.new (H.view host.new)
+            ≡ ends_one vpid end (shared_of self.old (H.view host.old))) }
+        ensures sound { OnOk result (IsSound self.new (H.view host.new)) }
+        ensures next { OnOk result (self.new.pids.next ≡ self.old.pids.next) }
+        ensures cause { HasCause (H.count host.old) (H.count host.new) (IsErrOf result HostErr.Failed) }
+    {
+        let _before = host.faults();
+        let own = self.process(vpid);
+        self.fs.files.drop_all(host, &mut self.fs.tree, vpid)?;
+        self.fs.tree.release(host, own.caller.cwd)?;
+        self.processes.take(u64::from(vpid));
+        self.pids.ended(vpid, end);
+        Ok(())
+    }
+
+    // Kills processes, one after the other.
+    #[tactic(auto, unfolding(crate::specs::Settle::kills_each))]
+    fn kill_each<H: Host>(&mut self, host: &mut H, vpids: &[u64]) -> Result<(), HostErr>
+        requires sound { IsSound self.old (H.view host.old) }
+        requires all { keys self.old.processes ≡ vpids.now }
+        requires small { All (λ v. v < 2 ^ 32) vpids.now }
+        ensures killed { OnOk result (shared_of self.new (H.view host.new)
+            ≡ kills_each vpids.now (shared_of self.old (H.view host.old))) }
+        ensures sound { OnOk result (IsSound self.new (H.view host.new)) }
+        ensures next { OnOk result (self.new.pids.next ≡ self.old.pids.next) }
+        ensures cause { HasCause (H.count host.old) (H.count host.new) (IsErrOf result HostErr.Failed) }
+    {
+        let _before = host.faults();
+        for vpid in vpids {
+            self.end_one(host, *vpid as u32, End::Signal(SIGKILL))?;
+        }
+        Ok(())
+    }
+}
+
+// Shows that processes were killed.
+fn show_kills(events: &mut Vec<Event>, vpids: &[u64]) -> Result<(), NoMemory>
+    requires { All (λ v. v < 2 ^ 32) vpids.now }
+    ensures { OnOk result (events.new.items ≡ events.old.items ++ kills_shown vpids.now) }
+{
+    for vpid in vpids {
+        events.push(Event::Exit(*vpid as u32, End::Signal(SIGKILL)))?;
+    }
+    Ok(())
+}

@@ -1,9 +1,0 @@
-pub mod Held
-pub mod Done
-pub mod Homes
-pub mod Keys
-pub mod Ended
-pub mod Few
-pub mod Settled
-pub mod Serving
-pub mod Started

@@ -1,7 +1,0 @@
-use Rattle.std.proofs.Common.{◌≡◌, ◌++◌, take}
-use Rattle.dt_container.specs.Settle.{kills_shown}
-use Rattle.dt_container.proofs.ending.show_kills.Given as goal
-
--- so far the ends of the first ones are shown
-abbrev pub invariant-loop-vpid : goal.invariant-loop-vpid
-invariant-loop-vpid l = l.events.items ≡ l.fn.events.items ++ kills_shown (take l.vpid-index l.vpids)

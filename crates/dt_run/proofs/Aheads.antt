@@ -1,0 +1,129 @@
+-- Segments that ran ahead of their turns change no turn.
+use Rattle.std.proofs.Common.{◌≡◌, ℕ, Bool, true, false, cond, Option, Some, None, refl, sym, ap, ◌∙◌}
+use Rattle.std.specs.Prelude.{option_map}
+use Rattle.std.specs.Cmp.{nat_cmp_total}
+use Rattle.std.specs.FinMap.{empty, get, insert, remove, same_map, nat_cmp-IsAntisymmetric}
+use Rattle.dt_host.specs.Values.{map_values}
+use Rattle.dt_host.proofs.Maps.{put_back}
+use Rattle.dt_host.proofs.Valued.{get-map_values, map_values-insert, map_values-remove}
+use Rattle.dt_rv64.specs.declared.machine.Machine.{Machine}
+use Rattle.dt_calls.specs.Settle.{next_after}
+use Rattle.dt_run.specs.declared.phase.Phase.{Phase}
+use Rattle.dt_run.specs.declared.phase.Phase.TheVariants.{Owes, Ran, Waits}
+use Rattle.dt_run.specs.Work.{Work, Works, owing, ran_in, with_segment}
+use Rattle.dt_run.specs.Turn.{State, Act, act, acted, changed, all_ended, with_own, with_child, stuck, taken, headed, first_of, turn}
+use Rattle.dt_run.specs.Ahead.{ahead, ahead_of, ran, ran_where, TurnAhead, RanAhead}
+
+ran_in-again : (w : Work) (phase : Phase) → w.phase ≡ phase → with_segment (ran_in w phase) ≡ ran_in w phase
+unfolding with_segment
+ran_in-again w Owes is = refl
+ran_in-again w (Ran seg) is = ap (ran_in w) is
+ran_in-again w Waits is = ap (ran_in w) is
+
+-- a segment that was run isn't run again
+pub with_segment-again : (w : Work) → with_segment (with_segment w) ≡ with_segment w
+unfolding with_segment
+with_segment-again w = ran_in-again w w.phase refl
+
+twice : (found : Option Work) → option_map with_segment (option_map with_segment found) ≡ option_map with_segment found
+twice None = refl
+twice (Some w) = ap Some (with_segment-again w)
+
+get-ran : (works : Works) (q : ℕ) → get (map_values with_segment works) q ≡ option_map with_segment (get works q)
+get-ran works q = get-map_values nat_cmp_total with_segment works q
+
+map-insert : (works : Works) (p : ℕ) (w : Work)
+    → map_values with_segment (insert works p w) ≡ insert (map_values with_segment works) p (with_segment w)
+map-insert works p w = map_values-insert nat_cmp_total with_segment nat_cmp-IsAntisymmetric works p w
+
+map-remove : (works : Works) (p : ℕ)
+    → map_values with_segment (remove works p) ≡ remove (map_values with_segment works) p
+map-remove works p = map_values-remove nat_cmp_total with_segment nat_cmp-IsAntisymmetric works p
+
+map-again : (works : Works) → map_values with_segment (map_values with_segment works) ≡ map_values with_segment works
+map-again works = same_map nat_cmp_total nat_cmp-IsAntisymmetric _ _ (λ q.
+    get-ran (map_values with_segment works) q
+    ∙ ap (option_map with_segment) (get-ran works q)
+    ∙ twice (get works q)
+    ∙ sym (get-ran works q))
+
+-- running ahead twice is running ahead
+pub ahead-again : (s : State) → ahead (ahead s) ≡ ahead s
+unfolding ahead
+ahead-again s = ap (λ works. record s { works = works }) (map-again s.works)
+
+map-own : (works : Works) (p : ℕ) (own : Option Work)
+    → map_values with_segment (with_own (map_values with_segment works) p own) ≡ map_values with_segment (with_own works p own)
+map-own works p None =
+    map-remove (map_values with_segment works) p
+    ∙ ap (λ ws. remove ws p) (map-again works)
+    ∙ sym (map-remove works p)
+map-own works p (Some own) =
+    map-insert (map_values with_segment works) p own
+    ∙ ap (λ ws. insert ws p (with_segment own)) (map-again works)
+    ∙ sym (map-insert works p own)
+
+map-child : (a b : Works) (next : ℕ) (child : Option Machine) → map_values with_segment a ≡ map_values with_segment b
+    → map_values with_segment (with_child a next child) ≡ map_values with_segment (with_child b next child)
+map-child a b next None is = is
+map-child a b next (Some m) is =
+    map-insert a next (owing m)
+    ∙ ap (λ ws. insert ws next (with_segment (owing m))) is
+    ∙ sym (map-insert b next (owing m))
+
+map-left : (b : Bool) (x y : Works) → map_values with_segment x ≡ map_values with_segment y
+    → map_values with_segment (cond b empty x) ≡ map_values with_segment (cond b empty y)
+map-left true x y is = refl
+map-left false x y is = is
+
+map-changed : (works : Works) (p next : ℕ) (a : Act)
+    → map_values with_segment (changed (map_values with_segment works) p next a)
+    ≡ map_values with_segment (changed works p next a)
+unfolding changed
+map-changed works p next a = map-left (all_ended a.verdict) _ _ (map-child _ _ next a.child (map-own works p a.own))
+
+acted-ahead : (s : State) (p : ℕ) (a : Act) → ahead_of (acted (ahead s) p a) ≡ ahead_of (acted s p a)
+unfolding ahead
+acted-ahead s p a =
+    ap (λ works. record {
+      next
+          = record { shared = a.shared; works = works; queue = a.queue; next = next_after s.next a.child };
+      events
+          = a.events;
+      verdict = a.verdict;
+    })
+    (map-changed s.works p s.next a)
+
+taken-ahead : (s : State) (p : ℕ) (found : Option Work)
+    → ahead_of (taken (ahead s) p (option_map with_segment found)) ≡ ahead_of (taken s p found)
+unfolding ahead
+taken-ahead s p None = ap stuck (ahead-again s)
+taken-ahead s p (Some w) =
+    ap (λ v. ahead_of (acted (ahead s) p (act s.shared s.queue s.next p v))) (with_segment-again w)
+    ∙ acted-ahead s p (act s.shared s.queue s.next p (with_segment w))
+
+headed-ahead : (s : State) (head : Option ℕ) → ahead_of (headed (ahead s) head) ≡ ahead_of (headed s head)
+unfolding ahead
+headed-ahead s None = ap stuck (ahead-again s)
+headed-ahead s (Some p) = ap (λ found. ahead_of (taken (ahead s) p found)) (get-ran s.works p) ∙ taken-ahead s p (get s.works p)
+
+pub turn-ahead : TurnAhead
+unfolding turn ahead
+turn-ahead s = headed-ahead s (first_of s.queue.order)
+
+-- turns of states that are the same once all segments were run come to the same
+pub turn-same : (a b : State) → ahead a ≡ ahead b → ahead_of (turn a) ≡ ahead_of (turn b)
+turn-same a b is = sym (turn-ahead a) ∙ ap (λ s. ahead_of (turn s)) is ∙ turn-ahead b
+
+map-ran : (works : Works) (p : ℕ) (found : Option Work) → get works p ≡ found
+    → map_values with_segment (ran_where works p found) ≡ map_values with_segment works
+map-ran works p None is = refl
+map-ran works p (Some w) is =
+    map-insert works p (with_segment w)
+    ∙ ap (insert (map_values with_segment works) p) (with_segment-again w)
+    ∙ sym (map-insert works p w)
+    ∙ ap (map_values with_segment) (put_back nat_cmp_total nat_cmp-IsAntisymmetric works p w is)
+
+pub ran-ahead : RanAhead
+unfolding ahead ran
+ran-ahead p s = ap (λ works. record s { works = works }) (map-ran s.works p (get s.works p) refl)

@@ -1,0 +1,50 @@
+-- The queue's part of a turn.
+use Rattle.std.specs.Prelude.{ℕ, ◌==◌, List, [], ◌∷◌, ◌++◌, drop, length, Option, if◌then◌else◌}
+use Rattle.dt_base.specs.declared.event.Verdict.{Verdict}
+use Rattle.dt_calls.specs.declared.container.Served.{Served}
+use Rattle.dt_calls.specs.declared.container.Served.TheVariants.{Done, Child, LastChild, Blocked, Ended, Unsupported}
+use Rattle.dt_procs.specs.declared.member.TheConstants.{FIRST_PID}
+use Rattle.dt_sched.specs.declared.settled.Settled.{Settled}
+use Rattle.dt_sched.specs.declared.settled.Settled.TheVariants as settled
+use Rattle.dt_sched.specs.Core.{blocked_after, verdict_after}
+
+-- the live processes in the order of their turns, the blocked turns in a row, and the budget that is left, in steps
+pub record Queue : Type 0 where
+  pub order : List ℕ
+  pub blocked : ℕ
+  pub left : ℕ
+
+-- what the queue is told of a turn
+abbrev pub told : Served → Settled
+told Done = settled.Again
+told (Child vpid) = settled.Child vpid
+told (LastChild vpid) = settled.LastChild vpid
+told Blocked = settled.Waits
+told Ended = settled.Gone
+told (Unsupported number) = settled.Stopped number
+
+-- at the end of the first process nobody is left
+abbrev pub left_by : ℕ → List ℕ → List ℕ
+left_by p others = if p == FIRST_PID then [] else others
+
+-- a process that lives goes to the tail, and then its child; at a call that isn't supported all stays
+abbrev pub order_after : List ℕ → ℕ → List ℕ → Settled → List ℕ
+order_after order p rest settled.Again = rest ++ p ∷ []
+order_after order p rest (settled.Child vpid) = rest ++ p ∷ vpid ∷ []
+order_after order p rest (settled.LastChild vpid) = left_by p (rest ++ vpid ∷ [])
+order_after order p rest settled.Waits = rest ++ p ∷ []
+order_after order p rest settled.Moved = rest ++ p ∷ []
+order_after order p rest settled.Gone = left_by p rest
+order_after order p rest (settled.Stopped number) = order
+
+-- the queue after a turn of its head
+unfoldable pub queue_after : Queue → ℕ → Settled → Queue
+queue_after q p t = record {
+  order = order_after q.order p (drop 1 q.order) t;
+  blocked = blocked_after q.blocked t;
+  left = q.left;
+}
+
+-- the verdict of a turn, by the queue after it
+unfoldable pub verdict_by : Queue → ℕ → Settled → Option Verdict
+verdict_by q p t = verdict_after p q.blocked (length q.order) t

@@ -1,0 +1,22 @@
+// Laws of turns and runs: what the order in which segments are run cannot change.
+ghost use Rattle.dt_run.specs.Ahead.{TurnAhead, RanAhead, TurnAway, RunsAlike};
+
+/// A turn after segments ran ahead of it is the turn.
+pub fn turn_does_not_see_what_ran_ahead()
+    ensures { TurnAhead }
+{}
+
+/// One segment more leaves what running ahead gives.
+pub fn running_ahead_again_changes_nothing()
+    ensures { RanAhead }
+{}
+
+/// A turn sees no machine of another process.
+pub fn turn_does_not_see_machines_that_are_away()
+    ensures { TurnAway }
+{}
+
+/// Runs from states that are the same once all segments were run are the same.
+pub fn runs_do_not_see_what_ran_ahead()
+    ensures { RunsAlike }
+{}

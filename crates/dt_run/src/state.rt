@@ -1,0 +1,90 @@
+// A run between two turns, and the arrivals of segments that were run.
+ghost use Rattle.std.specs.Prelude.{◌≡◌, ◌<◌, length, IfOk, OnOk, IsErrOf};
+ghost use Rattle.std.specs.List.{Contains};
+ghost use Rattle.std.specs.FinMap.{empty, get};
+ghost use Rattle.dt_host.specs.Cause.{HasCause};
+ghost use Rattle.dt_host.specs.World.{World};
+ghost use Rattle.dt_sched.specs.Core.{started, owing};
+ghost use Rattle.dt_calls.specs.Sound.{IsSoundContainer};
+ghost use Rattle.dt_run.specs.Ahead.{ahead, ran};
+ghost use Rattle.dt_run.specs.inner.InCode.{state_of, phase_in};
+ghost use Rattle.dt_run.specs.inner.Good.{IsGood, steps_left};
+
+use crate::phase::Phase;
+use dt_base::NoMemory;
+use dt_calls::Container;
+use dt_host::{Host, HostErr};
+use dt_numbered::Numbered;
+use dt_rv64::segment;
+use dt_sched::Core;
+use std::alloc::Global;
+
+/// A run between two turns: the container, the queue, and where each process stands that does not owe a segment.
+#[derive(Drop)]
+pub struct State {
+    pub container: Container,
+    pub core: Core,
+    pub phases: Numbered<Phase>,
+}
+
+impl State {
+    /// A run that begins, with a budget in steps.
+    pub fn new(alloc: Global, container: Container, budget: u64) -> Result<Self, NoMemory>
+        ensures { IfOk result
+            (λ s. s ≡ record { container = container; core = started budget; phases = empty }) }
+    {
+        Ok(State {
+            container,
+            core: Core::new(alloc, budget)?,
+            phases: Numbered::new(alloc),
+        })
+    }
+
+    /// Where a process stands.
+    pub fn phase(&self, vpid: u32) -> Phase
+        ensures { result ≡ phase_in (get self.now.phases vpid) }
+    {
+        match self.phases.get(u64::from(vpid)) {
+            Some(phase) => *phase,
+            None => Phase::Owes,
+        }
+    }
+
+    /// Lets a segment arrive that is owed, of the process that the host chooses.
+    pub fn arrive_next<H: Host>(&mut self, host: &mut H) -> Result<(), HostErr>
+        requires good { IsGood self.old }
+        requires some { 0 < length (owing self.old.core.queue) }
+        ensures alike { OnOk result (ahead (state_of self.new (H.view host.new))
+            ≡ ahead (state_of self.old (H.view host.old))) }
+        ensures good { OnOk result (IsGood self.new) }
+        ensures sound { IsSoundContainer self.old.container (H.view host.old)
+            → OnOk result (IsSoundContainer self.new.container (H.view host.new)) }
+        ensures verdict { OnOk result (self.new.core.verdict ≡ self.old.core.verdict) }
+        ensures smaller { OnOk result (steps_left self.new.core < steps_left self.old.core) }
+        ensures cause { HasCause (H.count host.old) (H.count host.new) (IsErrOf result HostErr.Failed) }
+    {
+        let owing = self.core.owing();
+        let index = host.next_stop(owing)?;
+        let vpid = owing[index];
+        Ok(self.arrive(vpid)?)
+    }
+
+    // Runs the segment that a process owes, and lets it arrive.
+    fn arrive(&mut self, vpid: u32) -> Result<(), NoMemory>
+        requires good { IsGood self.old }
+        requires owing { Contains (owing self.old.core.queue) vpid }
+        ensures ran { (w : World) → OnOk result (state_of self.new w ≡ ran vpid (state_of self.old w)) }
+        ensures good { OnOk result (IsGood self.new) }
+        ensures sound { (w : World) → IsSoundContainer self.old.container w
+            → OnOk result (IsSoundContainer self.new.container w) }
+        ensures verdict { OnOk result (self.new.core.verdict ≡ self.old.core.verdict) }
+        ensures smaller { OnOk result (steps_left self.new.core < steps_left self.old.core) }
+    {
+        let mut machine = self.container.take_machine(vpid);
+        let seg = segment(&mut machine)?;
+        self.container.give_machine(vpid, machine);
+        self.phases.put(u64::from(vpid), Phase::Ran(seg))?;
+        self.core.arrived(vpid, seg.count);
+        Ok(())
+    }
+}

@@ -1,5 +1,0 @@
-use Rattle.dt_turns.proofs.Aheads.{ran-ahead}
-use Rattle.dt_turns.proofs.laws.running_ahead_again_changes_nothing.Goals as goal
-
-pub returns : goal.returns
-returns c = ran-ahead

@@ -1,3 +1,0 @@
--- Inner words: no public clause cites these.
-pub mod InCode
-pub mod Good
