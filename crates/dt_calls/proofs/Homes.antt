@@ -1,11 +1,11 @@
 -- Places for machines, and the machines in them.
-use Rattle.std.proofs.Common.{arith, ◌≡◌, ◌≢◌, ℕ, ◌+◌, ◌<◌, ◌≤◌, List, [], ◌∷◌, length, map, cond, Bool, true, false, ◌&&◌, ◌||◌, Option, None, Some, refl, sym, ap, subst, ◌∙◌}
-use Rattle.std.specs.Prelude.{T, is_some, IsSome}
+use Rattle.std.proofs.Common.{◌≡◌, ℕ, List, [], ◌∷◌, cond, Bool, true, false, Option, None, Some, refl, sym, ap, subst, ◌∙◌}
+use Rattle.std.specs.Prelude.{IsSome}
 use Rattle.std.specs.Option.{option_flatten}
 use Rattle.std.specs.Ordering.{is_eq, nat_cmp}
 use Rattle.std.specs.Cmp.{nat_cmp_total}
 use Rattle.std.specs.FinMap.{FinMap, find, get, insert, remove, empty, entries, get-entries, get-insert, get-remove, get-empty, same_map, nat_cmp-IsAntisymmetric}
-use Rattle.dt_host.proofs.Maps.{at_insert, at_remove, get-insert_same, get-insert_other, get-remove_same, get-remove_other}
+use Rattle.dt_host.proofs.Maps.{at_remove, get-insert_other, get-remove_same, get-remove_other, insert_same}
 use Rattle.dt_rv64.specs.declared.machine.Machine.{Machine}
 use Rattle.dt_calls.specs.Container.{Machines}
 use Rattle.dt_calls.specs.InCode.{placed, home_in, home_of, entered}
@@ -103,20 +103,14 @@ home-entered places next (Some m) = home-given places next m
 
 pub ruleset homes = (get-home_of, home-away, home-given, home-gone, home-empty, home-place, home-there, home-entered)
 
--- what is put in the place of what was taken away is put in
-put_over : (machines : Machines) (p : ℕ) (m : Machine) → insert (remove machines p) p m ≡ insert machines p m
-put_over machines p m = same _ _ (λ q.
-    at_insert nat_cmp_total nat_cmp-IsAntisymmetric (λ found. found ≡ get (insert machines p m) q) (remove machines p) p m q
-    (λ is. sym (ap (get (insert machines p m)) is ∙ get-insert_same nat_cmp_total nat_cmp-IsAntisymmetric machines p m))
-    (λ apart. get-remove_other nat_cmp_total nat_cmp-IsAntisymmetric machines p q apart ∙ sym (get-insert_other nat_cmp_total nat_cmp-IsAntisymmetric machines p m q apart)))
-
-gone_twice : (machines : Machines) (p : ℕ) → remove (remove machines p) p ≡ remove machines p
-gone_twice machines p = same _ _ (λ q.
-    at_remove nat_cmp_total nat_cmp-IsAntisymmetric (λ found. found ≡ get (remove machines p) q) (remove machines p) p q
+-- a machine that was put in a place and taken away is gone from it
+gone_put : (machines : Machines) (p : ℕ) (m : Machine) → remove (insert machines p m) p ≡ remove machines p
+gone_put machines p m = same _ _ (λ q.
+    at_remove nat_cmp_total nat_cmp-IsAntisymmetric (λ found. found ≡ get (remove machines p) q) (insert machines p m) p q
     (λ is. sym (ap (get (remove machines p)) is ∙ get-remove_same nat_cmp_total nat_cmp-IsAntisymmetric machines p))
-    (λ apart. refl))
+    (λ apart. get-insert_other nat_cmp_total nat_cmp-IsAntisymmetric machines p m q apart ∙ sym (get-remove_other nat_cmp_total nat_cmp-IsAntisymmetric machines p q apart)))
 
--- the machine of the process whose stop is served has no part in the machines after the turn
-pub own-over : (machines : Machines) (p : ℕ) (own : Option Machine) → with_own (remove machines p) p own ≡ with_own machines p own
-own-over machines p None = gone_twice machines p
-own-over machines p (Some m) = put_over machines p m
+-- what a process leaves of its machine stands in its place, whatever stood there
+pub own-over : (machines : Machines) (p : ℕ) (m : Machine) (own : Option Machine) → with_own (insert machines p m) p own ≡ with_own machines p own
+own-over machines p m None = gone_put machines p m
+own-over machines p m (Some n) = insert_same nat_cmp_total nat_cmp-IsAntisymmetric machines p m n

@@ -1,6 +1,7 @@
 pub mod Held
 pub mod Done
 pub mod Homes
+pub mod AtHome
 pub mod Keys
 pub mod Ended
 pub mod Few

@@ -1,9 +1,8 @@
--- The stop of a process whose machine is taken from home, served and settled.
-use Rattle.std.proofs.Common.{arith, ◌≡◌, ◌≢◌, ℕ, ◌<◌, cond, Option, None, Some, refl, sym, ap, subst, ◌∙◌}
+-- The stop of a process whose machine is at home, served and settled.
+use Rattle.std.proofs.Common.{arith, ◌≡◌, ◌≢◌, ℕ, cond, Some, refl, sym, ap, subst, ◌∙◌}
 use Rattle.std.specs.Prelude.{IsSome, IfSome, option_map, unwrap_or, is_some}
-use Rattle.std.specs.Ordering.{nat_cmp}
 use Rattle.std.specs.Cmp.{nat_cmp_total}
-use Rattle.std.specs.FinMap.{get, insert, remove, empty, nat_cmp-IsAntisymmetric}
+use Rattle.std.specs.FinMap.{get, insert, empty, nat_cmp-IsAntisymmetric}
 use Rattle.dt_host.specs.World.{World}
 use Rattle.dt_host.proofs.Maps.{at_insert, get-insert_same, put_back}
 use Rattle.dt_procs.specs.declared.member.TheConstants.{FIRST_PID}
@@ -18,13 +17,14 @@ use Rattle.dt_calls.specs.InCode.{ContainerView, home_of, shared_of, container_o
 use Rattle.dt_calls.specs.Settle.{Settled, Turned, turned, settle, serve, serve_machine, all_ended, with_own as with_machine, with_child, next_after}
 use Rattle.dt_calls.specs.Sound.{IsSound, IsPaired, IsSoundContainer, with_own}
 use Rattle.dt_calls.proofs.Held.{keeps-break}
-use Rattle.dt_calls.proofs.Homes.{home-away, own-over}
+use Rattle.dt_calls.specs.AtHome.{Places, Becomes}
+use Rattle.dt_calls.proofs.Homes.{home-given, home-there, own-over}
 use Rattle.dt_calls.proofs.Settled.{paired-insert, parts-kept, part-here}
 
--- the machine that was taken from home has no part in the turn
-turned-away : (c d : Container) (p : ℕ) (s : Settled) → d.machines ≡ remove c.machines p → d.next ≡ c.next → turned d p s ≡ turned c p s
-turned-away c d p s away same =
-    let own : with_machine d.machines p s.own ≡ with_machine c.machines p s.own = ap (λ ms. with_machine ms p s.own) away ∙ own-over c.machines p s.own in
+-- what the machine became has no part in the turn
+turned-over : (c d : Container) (p : ℕ) (m : Machine) (s : Settled) → d.machines ≡ insert c.machines p m → d.next ≡ c.next → turned d p s ≡ turned c p s
+turned-over c d p m s over same =
+    let own : with_machine d.machines p s.own ≡ with_machine c.machines p s.own = ap (λ ms. with_machine ms p s.own) over ∙ own-over c.machines p m s.own in
     (λ i. record {
       container = record {
         shared = s.shared;
@@ -35,9 +35,12 @@ turned-away c d p s away same =
       served = s.served;
     })
 
-module _ (v s : ContainerView) (w : World) (p : ℕ) (own : Process) (m : Machine) (sound : IsSoundContainer v w) (away : s ≡ record v { places = insert v.places p None }) (here : get v.shared.processes p ≡ Some own) where
+module _ (v s : ContainerView) (w : World) (p : ℕ) (own : Process) (sound : IsSoundContainer v w) (same : s ≡ v) (here : get v.shared.processes p ≡ Some own) where
   same_shared : s.shared ≡ v.shared
-  same_shared = ap (λ (x : ContainerView). x.shared) away
+  same_shared = ap (λ (x : ContainerView). x.shared) same
+
+  same_places : s.places ≡ v.places
+  same_places = ap (λ (x : ContainerView). x.places) same
 
   -- the part of a process stands under its pid
   pub own-pid : own.caller.vpid ≡ p
@@ -52,55 +55,63 @@ module _ (v s : ContainerView) (w : World) (p : ℕ) (own : Process) (m : Machin
   pub hand-sound : IsSound (with_own s.shared own) w
   hand-sound = subst (λ (x : SharedInCode). IsSound (with_own x own) w) (sym same_shared) (subst (λ (x : SharedInCode). IsSound x w) (sym put-same) sound.shared)
 
-  -- each place is still one of a live process after it
-  pub paired-served : (new : SharedInCode) → ((q : ℕ) → IsSome (get s.shared.processes q) → IsSome (get new.processes q)) → (q : ℕ) → IsSome (get s.places q) → IsSome (get new.processes q)
-  paired-served new parts q some =
-      parts q (subst (λ (x : SharedInCode). IsSome (get x.processes q)) (sym same_shared)
-      (at_insert nat_cmp_total nat_cmp-IsAntisymmetric (λ found. IsSome found → IsSome (get v.shared.processes q)) v.places p None q
-      (λ is _. subst (λ k. IsSome (get v.shared.processes k)) (sym is) (ap is_some here)) (λ apart. sound.paired q)
-      (subst (λ (x : ContainerView). IsSome (get x.places q)) away some)))
-
-  -- the place of the process stands empty
-  pub place-served : (q : ℕ) → q ≡ own.caller.vpid → IsSome (get s.places q)
-  place-served q is =
-      subst (λ k. IsSome (get s.places k)) (sym (is ∙ own-pid)) (subst (λ (x : ContainerView). IsSome (get x.places p)) (sym away)
-      (subst (λ found. IsSome found) (sym (get-insert_same nat_cmp_total nat_cmp-IsAntisymmetric v.places p None)) refl))
+  -- its machine is at home in the code's hands too
+  pub home-served : IsSome (get (home_of v.places) p) → IsSome (get (home_of s.places) p)
+  home-served = subst (λ places. IsSome (get (home_of places) p)) (sym same_places)
 
   -- its pid was given before
   pub apart-served : (q next : ℕ) → q ≡ own.caller.vpid → next ≡ s.shared.pids.next → q ≢ next
-  apart-served q next is number = λ same.
+  apart-served q next is number = λ equal.
       let given = sound.shared.given p (ap is_some here) in
       let now = number ∙ ap (λ (x : SharedInCode). x.pids.next) same_shared in
       let pid = is ∙ own-pid in
       absurd (omega arith)
 
-  -- what serving and settling came to is what the definition says
-  pub serve-done : (stop : Stop) (next q : ℕ) (did : Effect) (d : Container) (t : Turned) → get (home_of v.places) p ≡ Some m → next ≡ s.shared.pids.next → q ≡ own.caller.vpid
-      → served (shared_of s.shared w) s.shared.pids.next own m stop ≡ did
-      → d.machines ≡ home_of s.places → d.next ≡ next
-      → turned d q (settle next q did) ≡ t → serve (container_of v w) p stop ≡ Some t
-  unfolding serve serve_machine
-  serve-done stop next q did d t home number is did_as machines numbered done =
-      let c = container_of v w in
-      let pid = is ∙ own-pid in
-      let given = number ∙ ap (λ (x : SharedInCode). x.pids.next) same_shared in
-      let gone : d.machines ≡ remove c.machines p = machines ∙ ap home_of (ap (λ (x : ContainerView). x.places) away) ∙ home-away v.places p in
-      ap (option_map (λ k. turned c p (serve_machine c.shared c.next p stop k))) home
-      ∙ ap Some (ap (λ found. turned c p (settle c.next p (served c.shared c.next (unwrap_or found (blank_process p)) m stop))) here
-      ∙ ap (λ (x : SharedInCode). turned c p (settle c.next p (served (shared_of x w) x.pids.next own m stop))) (sym same_shared)
-      ∙ ap (λ e. turned c p (settle c.next p e)) did_as
-      ∙ sym (turned-away c d p (settle c.next p did) gone (numbered ∙ given))
-      ∙ (λ i. turned d (sym pid i) (settle (sym given i) (sym pid i) did))
-      ∙ done)
+  module _ (places : Places) (was now : Machine) (becomes : Becomes s.places places p was now) where
+    was-home : get (home_of v.places) p ≡ Some was
+    was-home = home-there v.places p (Some was) (subst (λ x. get x p ≡ Some (Some was)) same_places becomes.home)
+
+    -- each place is still one of a live process after it
+    pub paired-served : (new : SharedInCode) → ((q : ℕ) → IsSome (get s.shared.processes q) → IsSome (get new.processes q)) → (q : ℕ) → IsSome (get places q) → IsSome (get new.processes q)
+    paired-served new parts q some =
+        parts q (subst (λ (x : SharedInCode). IsSome (get x.processes q)) (sym same_shared)
+        (at_insert nat_cmp_total nat_cmp-IsAntisymmetric (λ found. IsSome found → IsSome (get v.shared.processes q)) s.places p (Some now) q
+        (λ is _. subst (λ k. IsSome (get v.shared.processes k)) (sym is) (ap is_some here))
+        (λ apart there. sound.paired q (subst (λ x. IsSome (get x q)) same_places there))
+        (subst (λ x. IsSome (get x q)) becomes.rest some)))
+
+    -- the machine stands in its place
+    pub place-served : (q : ℕ) → q ≡ own.caller.vpid → get places q ≡ Some (Some now)
+    place-served q is =
+        ap (get places) (is ∙ own-pid) ∙ ap (λ x. get x p) becomes.rest ∙ get-insert_same nat_cmp_total nat_cmp-IsAntisymmetric s.places p (Some now)
+
+    -- what serving and settling came to is what the definition says
+    pub serve-done : (stop : Stop) (next q : ℕ) (did : Effect) (d : Container) (t : Turned) → next ≡ s.shared.pids.next → q ≡ own.caller.vpid
+        → served (shared_of s.shared w) s.shared.pids.next own was stop ≡ did
+        → d.machines ≡ home_of places → d.next ≡ next
+        → turned d q (settle next q did) ≡ t → serve (container_of v w) p stop ≡ Some t
+    unfolding serve serve_machine
+    serve-done stop next q did d t number is did_as machines numbered done =
+        let c = container_of v w in
+        let pid = is ∙ own-pid in
+        let given = number ∙ ap (λ (x : SharedInCode). x.pids.next) same_shared in
+        let over : d.machines ≡ insert c.machines p now = machines ∙ ap home_of (becomes.rest ∙ ap (λ x. insert x p (Some now)) same_places) ∙ home-given v.places p now in
+        ap (option_map (λ k. turned c p (serve_machine c.shared c.next p stop k))) was-home
+        ∙ ap Some (ap (λ found. turned c p (settle c.next p (served c.shared c.next (unwrap_or found (blank_process p)) was stop))) here
+        ∙ ap (λ (x : SharedInCode). turned c p (settle c.next p (served (shared_of x w) x.pids.next own was stop))) (sym same_shared)
+        ∙ ap (λ e. turned c p (settle c.next p e)) did_as
+        ∙ sym (turned-over c d p now (settle c.next p did) over (numbered ∙ given))
+        ∙ (λ i. turned d (sym pid i) (settle (sym given i) (sym pid i) did))
+        ∙ done)
 
 -- a process whose break is another one, as it starts a program
 module _ (v : ContainerView) (w : World) (p : ℕ) (own new : Process) (m : Machine) (sound : IsSoundContainer v w) (here : get v.shared.processes p ≡ Some own) (same : new.caller ≡ own.caller) where
   new-pid : new.caller.vpid ≡ p
-  new-pid = ap (λ caller. caller.vpid) same ∙ own-pid v (record v { places = insert v.places p None }) w p own m sound refl here
+  new-pid = ap (λ caller. caller.vpid) same ∙ own-pid v v w p own sound refl here
 
   pub sound-started : IsSound (with_own v.shared new) w
   sound-started =
-      let hand = hand-sound v (record v { places = insert v.places p None }) w p own m sound refl here in
+      let hand = hand-sound v v w p own sound refl here in
       let kept = keeps-break v.shared own w hand new same in
       kept.sound
 

@@ -7,32 +7,32 @@ use Rattle.std.specs.FinMap.{FinMap, get, insert, remove, empty, keys, get-empty
 use Rattle.dt_base.specs.declared.event.Event.{Event}
 use Rattle.dt_base.specs.declared.event.End.{End}
 use Rattle.dt_host.specs.World.{World}
-use Rattle.dt_host.proofs.Maps.{at_insert, at_remove, get-insert_same, get-insert_other}
+use Rattle.dt_host.proofs.Maps.{at_insert, at_remove, get-insert_same, put_back}
 use Rattle.dt_procs.specs.declared.member.TheConstants.{FIRST_PID, PROCESS_LIMIT}
 use Rattle.dt_rv64.specs.declared.machine.Machine.{Machine}
 use Rattle.dt_calls.specs.declared.container.Served.{Served}
 use Rattle.dt_calls.specs.declared.shared.Process.{Process}
 use Rattle.dt_calls.specs.declared.shared.Shared.{Shared as SharedInCode}
-use Rattle.dt_calls.specs.Container.{Shared, Machines, Processes, with_process}
+use Rattle.dt_calls.specs.Container.{Shared, Processes, with_process}
 use Rattle.dt_calls.specs.declared.call.effect.Effect.{Effect as EffectInCode}
 use Rattle.dt_calls.specs.declared.call.effect.Outcome.TheVariants.{Ends}
 use Rattle.dt_calls.specs.InCode.{ContainerView, home_of, entered, shared_of, container_of, effect_as, turned_as}
 use Rattle.dt_calls.specs.Effect.{Effect}
 use Rattle.dt_calls.specs.Sound.{IsSound, IsPaired, IsSoundContainer, with_own}
-use Rattle.dt_calls.specs.Settle.{Settled, Turned, turned, settle, settled_by, ends, ends_shown, all_ended, goes_on, is_gone, with_child, next_after}
+use Rattle.dt_calls.specs.Settle.{turned, settle, settled_by, ends, ends_shown, all_ended, goes_on, is_gone, with_child, next_after}
 use Rattle.dt_calls.proofs.Homes.{home-entered, home-given, home-gone, home-empty}
 
 abbrev Places : Type 0
 Places = FinMap nat_cmp (Option Machine)
 
 -- a container in which a process keeps its machine, by the one that the code had in hand before
-pub kept-view : (inside now : ContainerView) (next : ℕ) (own : Process) (m : Machine) (e : EffectInCode) (put : SharedInCode) (new : ContainerView)
+pub kept-view : (inside now : ContainerView) (next : ℕ) (own : Process) (e : EffectInCode) (put : SharedInCode) (new : ContainerView)
     → inside ≡ now → put ≡ with_own inside.shared own
-    → new ≡ record { shared = put; places = entered (insert inside.places own.caller.vpid (Some m)) next e.child; events = e.events.items }
-    → new ≡ record { shared = with_own now.shared own; places = entered (insert now.places own.caller.vpid (Some m)) next e.child; events = e.events.items }
-kept-view inside now next own m e put new is put_is new_is = new_is ∙ (λ i. record {
+    → new ≡ record { shared = put; places = entered inside.places next e.child; events = e.events.items }
+    → new ≡ record { shared = with_own now.shared own; places = entered now.places next e.child; events = e.events.items }
+kept-view inside now next own e put new is put_is new_is = new_is ∙ (λ i. record {
   shared = (put_is ∙ ap (λ (v : ContainerView). with_own v.shared own) is) i;
-  places = entered (insert (ap (λ (v : ContainerView). v.places) is i) own.caller.vpid (Some m)) next e.child;
+  places = entered (ap (λ (v : ContainerView). v.places) is i) next e.child;
   events = e.events.items;
 })
 
@@ -110,12 +110,23 @@ child-kept None step holds = holds
 child-kept (Some m) step holds = step holds
 
 -- the container after a turn of a process that keeps its machine
-abbrev pub kept : ContainerView → ℕ → Process → Machine → EffectInCode → ContainerView
-kept v next own m e = record {
+abbrev pub kept : ContainerView → ℕ → Process → EffectInCode → ContainerView
+kept v next own e = record {
   shared = with_own v.shared own;
-  places = entered (insert v.places own.caller.vpid (Some m)) next e.child;
+  places = entered v.places next e.child;
   events = e.events.items;
 }
+
+module _ (v : ContainerView) (next : ℕ) (own : Process) (e : EffectInCode) where
+  pub paired-kept : (new : ContainerView) → new ≡ kept v next own e → IsPaired v → IfSome e.child (λ _. IsSome (get v.shared.processes next)) → IsPaired new
+  paired-kept new is paired child =
+      subst IsPaired (sym is)
+      (paired-entered (insert v.shared.processes own.caller.vpid own) v.places next e.child
+      (λ q some. parts-kept v.shared.processes own.caller.vpid q own (paired q some))
+      (child-kept e.child (parts-kept v.shared.processes own.caller.vpid next own) child))
+
+  pub sound-kept : (new : ContainerView) (w : World) → new ≡ kept v next own e → IsSound (with_own v.shared own) w → IsPaired new → length (keys new.places) ≤ PROCESS_LIMIT → IsSoundContainer new w
+  sound-kept new w is sound paired few = record { shared = subst (λ (n : ContainerView). IsSound n.shared w) (sym is) sound; paired = paired; few = few }
 
 module _ (v : ContainerView) (w : World) (next : ℕ) (own : Process) (m : Machine) (e : EffectInCode) (number : v.shared.pids.next ≡ next_after next e.child) where
   abbrev p : ℕ
@@ -125,23 +136,14 @@ module _ (v : ContainerView) (w : World) (next : ℕ) (own : Process) (m : Machi
   did = effect_as (shared_of v.shared w) own m e
 
   -- what the turn comes to is what the definition says
-  pub settle-kept : (new : ContainerView) (served : Served) → new ≡ kept v next own m e → settled_by next p did e.outcome ≡ record { shared = with_process (shared_of v.shared w) own; own = Some m; child = e.child; events = e.events.items; served = served } → all_ended p served ≡ false
+  pub settle-kept : (new : ContainerView) (served : Served) → get v.places p ≡ Some (Some m) → new ≡ kept v next own e → settled_by next p did e.outcome ≡ record { shared = with_process (shared_of v.shared w) own; own = Some m; child = e.child; events = e.events.items; served = served } → all_ended p served ≡ false
       → turned (record (container_of v w) { next = next }) p (settle next p did) ≡ turned_as (container_of new w) served
   unfolding settle
-  settle-kept new served is by lives =
+  settle-kept new served home is by lives =
       ap (turned (record (container_of v w) { next = next }) p) by
       ∙ turned-kept (shared_of v.shared w) (with_process (shared_of v.shared w) own) v.places p next v.shared.pids.next m e.child v.events e.events.items served lives number
+      ∙ ap (λ places. turned_as (container_of (record { shared = with_own v.shared own; places = entered places next e.child; events = e.events.items }) w) served) (put_back nat_cmp_total nat_cmp-IsAntisymmetric v.places p (Some m) home)
       ∙ ap (λ n. turned_as (container_of n w) served) (sym is)
-
-  pub paired-kept : (new : ContainerView) → new ≡ kept v next own m e → IsPaired v → IfSome e.child (λ _. IsSome (get v.shared.processes next)) → IsPaired new
-  paired-kept new is paired child =
-      subst IsPaired (sym is)
-      (paired-entered (insert v.shared.processes p own) (insert v.places p (Some m)) next e.child
-      (paired-insert (insert v.shared.processes p own) v.places p (Some m) (λ q some. parts-kept v.shared.processes p q own (paired q some)) (part-here v.shared.processes p own))
-      (child-kept e.child (parts-kept v.shared.processes p next own) child))
-
-  pub sound-kept : (new : ContainerView) → new ≡ kept v next own m e → IsSound (with_own v.shared own) w → IsPaired new → length (keys new.places) ≤ PROCESS_LIMIT → IsSoundContainer new w
-  sound-kept new is sound paired few = record { shared = subst (λ (n : ContainerView). IsSound n.shared w) (sym is) sound; paired = paired; few = few }
 
   -- likewise where the process ended
   pub settle-ended : (new : ContainerView) (u : World) (end : End) → e.outcome ≡ Ends end → shared_of new.shared u ≡ ends p end (with_process (shared_of v.shared w) own) → new.events ≡ e.events.items ++ ends_shown p end (with_process (shared_of v.shared w) own)

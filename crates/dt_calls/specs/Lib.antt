@@ -11,3 +11,4 @@ pub mod Settle
 pub mod Launch
 pub mod Sound
 pub mod InCode
+pub mod AtHome

@@ -1,5 +1,5 @@
 // A container.
-ghost use Rattle.std.specs.Prelude.{◌≡◌, [], None, Some, IsSome, IfOk, IsErrOf};
+ghost use Rattle.std.specs.Prelude.{◌≡◌, ◌≤◌, [], None, Some, IsSome, IsOk, IfOk, IsErrOf};
 ghost use Rattle.std.specs.FinMap.{get, insert, remove};
 ghost use Rattle.dt_host.specs.Cause.{HasCause};
 ghost use Rattle.dt_host.specs.World.{IsEmptyStart};
@@ -7,20 +7,22 @@ ghost use Rattle.dt_procs.specs.Table.{members_of};
 ghost use Rattle.dt_procs.specs.Members.{end_of};
 ghost use Rattle.dt_rv64.specs.declared.segments.Stop.TheVariants.{Call as a_call};
 ghost use Rattle.dt_tree.specs.ImageTree.{image_tree};
+ghost use Rattle.dt_base.specs.declared.limits.TheConstants.{SEGMENT_LIMIT};
+ghost use Rattle.dt_calls.specs.AtHome.{RunsAt};
 ghost use Rattle.dt_calls.specs.Container.{first_container};
 ghost use Rattle.dt_calls.specs.Launch.{launch};
 ghost use Rattle.dt_calls.specs.Settle.{serve};
 ghost use Rattle.dt_calls.specs.InCode.{Lives, home_of, container_of, launched_as, turned_as};
 ghost use Rattle.dt_calls.specs.Sound.{IsSoundContainer};
 
-use crate::call::serve;
+use crate::at_home::{run_at, serve_at};
 use crate::shared::Shared;
-use dt_base::{Command, End, Errno, Event, Image};
+use dt_base::{Command, End, Errno, Event, Image, NoMemory};
 use dt_exec::start_program;
 use dt_host::{Host, HostErr};
 use dt_numbered::Numbered;
 use dt_procs::FIRST_PID;
-use dt_rv64::{Machine, Stop};
+use dt_rv64::{Machine, Seg, Stop};
 use dt_tree::Tree;
 use std::alloc::Global;
 use std::marker::Model;
@@ -160,6 +162,18 @@ impl Container {
         self.places.set(u64::from(vpid), Some(machine));
     }
 
+    /// Runs a segment of a process whose machine is at home.
+    pub fn run_segment(&mut self, vpid: u32) -> Result<Seg, NoMemory>
+        requires { IsSome (get (home_of self.old.places) vpid) }
+        ensures always { IsOk result }
+        ensures run { IfOk result (RunsAt self.old.places self.new.places vpid) }
+        ensures rest { self.new ≡ record self.old { places = self.new.places } }
+        ensures least { IfOk result (λ seg. 1 ≤ seg.count) }
+        ensures most { IfOk result (λ seg. seg.count ≤ SEGMENT_LIMIT) }
+    {
+        run_at(&mut self.places, vpid)
+    }
+
     /// Serves the stop of a process that lives and has its machine at home, and settles what becomes of it.
     #[tactic(auto, unfolding(crate::specs::Settle::serve, crate::specs::Settle::serve_machine))]
     pub fn serve<H: Host>(
@@ -177,10 +191,17 @@ impl Container {
         ensures cause { HasCause (H.count host.old) (H.count host.new) (IsErrOf result HostErr.Failed) }
     {
         let mut own = self.shared.process(vpid);
-        let mut machine = self.take_machine(vpid);
         let next = self.shared.pids.next();
-        let effect = serve(alloc, host, &mut self.shared, &mut own, &mut machine, stop)?;
-        self.settle(host, next, own, machine, effect)
+        let effect = serve_at(
+            alloc,
+            host,
+            &mut self.shared,
+            &mut own,
+            &mut self.places,
+            vpid,
+            stop,
+        )?;
+        self.settle(host, next, own, effect)
     }
 
     /// Tries the waiting call of a process again.

@@ -2,6 +2,7 @@
 //! system calls.
 #![tactic(auto)]
 
+mod at_home;
 mod call;
 mod container;
 mod ending;

@@ -1,7 +1,8 @@
 // What becomes of a process whose stop was served, and of its container.
 ghost use Rattle.std.specs.Prelude.{◌≡◌, ◌≢◌, ℕ, ◌≤◌, ◌++◌, ◌==◌, true, length, Some, IsSome, IfSome, IfOk, OnOk};
 ghost use Rattle.std.specs.Prelude.{IsErrOf, if◌then◌else◌};
-ghost use Rattle.std.specs.FinMap.{empty, get, insert, keys, remove};
+ghost use Rattle.std.specs.FinMap.{empty, get, keys, remove};
+ghost use Rattle.dt_rv64.specs.declared.machine.Machine.{Machine};
 ghost use Rattle.dt_host.specs.Cause.{HasCause};
 ghost use Rattle.dt_procs.specs.Members.{lives};
 ghost use Rattle.dt_procs.specs.Table.{members_of};
@@ -40,14 +41,13 @@ fn is_gone(next: u32, child: &Option<Machine>) -> Served
 }
 
 impl Container {
-    /// Settles what becomes of a process whose stop was served, and whose machine is away.
+    /// Settles what becomes of a process whose stop was served, and whose machine is at home.
     #[tactic(auto, unfolding(crate::specs::Settle::settle))]
     pub(crate) fn settle<H: Host>(
         &mut self,
         host: &mut H,
         next: u32,
         own: Process,
-        machine: Machine,
         effect: Effect,
     ) -> Result<Served, HostErr>
         requires sound { IsSoundHand (hand self.old.shared own (H.view host.old)) }
@@ -56,9 +56,9 @@ impl Container {
         requires child { IfSome effect.child (λ _. IsSome (get self.old.shared.processes next)) }
         requires apart { own.caller.vpid ≢ next }
         requires number { self.old.shared.pids.next ≡ next_after next effect.child }
-        ensures ok { IfOk result (λ s.
+        ensures ok { (m : Machine) → get self.old.places own.caller.vpid ≡ Some (Some m) → IfOk result (λ s.
             turned (record (container_of self.old (H.view host.old)) { next = next }) own.caller.vpid
-            (settle next own.caller.vpid (effect_as (shared_of self.old.shared (H.view host.old)) own machine effect))
+            (settle next own.caller.vpid (effect_as (shared_of self.old.shared (H.view host.old)) own m effect))
             ≡ turned_as (container_of self.new (H.view host.new)) s) }
         ensures sound { IfOk result (λ _. IsSoundContainer self.new (H.view host.new)) }
         ensures cause { HasCause (H.count host.old) (H.count host.new) (IsErrOf result HostErr.Failed) }
@@ -76,17 +76,17 @@ impl Container {
                 Ok(is_gone)
             }
             Outcome::Done => {
-                self.keep(vpid, machine, next, effect.child)?;
+                self.enter(next, effect.child)?;
                 self.counted();
                 Ok(goes_on)
             }
             Outcome::Blocked => {
-                self.keep(vpid, machine, next, effect.child)?;
+                self.enter(next, effect.child)?;
                 self.counted();
                 Ok(Served::Blocked)
             }
             Outcome::Unsupported(number) => {
-                self.keep(vpid, machine, next, effect.child)?;
+                self.enter(next, effect.child)?;
                 self.counted();
                 Ok(Served::Unsupported(number))
             }
@@ -103,23 +103,6 @@ impl Container {
         ensures { length (keys self.now.places) ≤ PROCESS_LIMIT }
     {
         let _next = self.shared.pids.next();
-    }
-
-    // A process keeps its machine, and a child gets a place for its own.
-    fn keep(
-        &mut self,
-        vpid: u32,
-        machine: Machine,
-        next: u32,
-        child: Option<Machine>,
-    ) -> Result<(), NoMemory>
-        requires place { IsSome (get self.old.places vpid) }
-        ensures { OnOk result (self.new ≡ record self.old {
-          places = entered (insert self.old.places vpid (Some machine)) next child;
-        }) }
-    {
-        self.give_machine(vpid, machine);
-        self.enter(next, child)
     }
 
     // A child gets a place for its machine.

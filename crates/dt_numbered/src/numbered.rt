@@ -1,9 +1,11 @@
 // Values by number, which contracts see as a finite map.
 ghost use Rattle.std.specs.Prelude.{◌≡◌, ◌≢◌, ℕ, Some, IsSome, is_some, IfOk, OnOk, OnErr};
-ghost use Rattle.std.specs.Option.{option_copied};
+ghost use Rattle.std.specs.Option.{option_copied, option_copied_mut};
+ghost use Rattle.std.specs.Borrow.{sem};
 ghost use Rattle.std.specs.FinMap.{FinMap, get, insert, remove, empty, keys};
 ghost use Rattle.std.specs.Ordering.{nat_cmp};
 ghost use Rattle.std.specs.BTreeMap as tree;
+ghost use Rattle.dt_numbered.specs.Lent.{LendsValue};
 
 use std::alloc::{AllocError, Global};
 use std::collections::BTreeMap;
@@ -60,6 +62,14 @@ impl<X: Drop> Numbered<X> {
         ensures { IfOk result (λ numbers. numbers.items ≡ keys self.now) }
     {
         listed(self.alloc, &self.map)
+    }
+
+    /// The value of a number for writing, if it has one.
+    pub fn get_mut(&mut self, n: u64) -> Option<&mut X>
+        ensures* writes_back { sem 𝓛 (LendsValue X.row self.entry n result) }
+        ensures value { option_copied_mut result ≡ get self.old n }
+    {
+        self.map.get_mut(&n)
     }
 
     /// Gives a number a value, in the place of one that it may have.

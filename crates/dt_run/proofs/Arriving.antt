@@ -6,9 +6,9 @@ use Rattle.std.proofs.lemmas.List.Elements.{All-from_recursion, All-contains}
 use Rattle.std.specs.List.{AllByRecursion, Contains, filter, slice_index_or}
 use Rattle.std.specs.Ordering.{nat_cmp}
 use Rattle.std.specs.Cmp.{nat_cmp_total}
-use Rattle.std.specs.FinMap.{FinMap, get, insert, remove, keys, nat_cmp-IsAntisymmetric}
+use Rattle.std.specs.FinMap.{FinMap, get, insert, keys, nat_cmp-IsAntisymmetric}
 use Rattle.dt_host.specs.World.{World}
-use Rattle.dt_host.proofs.Maps.{at_insert, get-insert_same, get-insert_other, insert_same}
+use Rattle.dt_host.proofs.Maps.{at_insert, get-insert_same, get-insert_other}
 use Rattle.dt_host.proofs.Totals.{total-insert}
 use Rattle.dt_procs.specs.declared.member.TheConstants.{PROCESS_LIMIT}
 use Rattle.dt_rv64.specs.declared.machine.Machine.{Machine}
@@ -21,7 +21,8 @@ use Rattle.dt_sched.proofs.Tables.{owing-arrived}
 use Rattle.dt_calls.specs.Container.{Machines}
 use Rattle.dt_calls.specs.InCode.{ContainerView, shared_of, home_of}
 use Rattle.dt_calls.specs.Sound.{IsSoundContainer}
-use Rattle.dt_calls.proofs.Homes.{home-place, own-over}
+use Rattle.dt_calls.specs.AtHome.{Places, RunsAt}
+use Rattle.dt_calls.proofs.Homes.{home-place, home-given, home-there as machine-there}
 use Rattle.dt_run.specs.declared.phase.Phase.{Phase}
 use Rattle.dt_run.specs.declared.phase.Phase.TheVariants.{Owes, Ran, Waits}
 use Rattle.dt_run.specs.declared.state.State.{State as StateInCode}
@@ -78,35 +79,22 @@ pub record Arrived (s : StateInCode) (p : ℕ) (m : Machine) (seg : Seg) (new : 
   pub core : new.core ≡ arrived p seg.count s.core
   pub phases : new.phases ≡ insert s.phases p (Ran seg)
 
--- a place whose machine is away is one still
-pub still_a_place : (c taken : ContainerView) (p : ℕ) → taken ≡ record c { places = insert c.places p None }
-    → IsSome (get taken.places p)
-still_a_place c taken p took =
-    subst (λ (v : ContainerView). IsSome (get v.places p)) (sym took)
-    (subst IsSome (sym (get-insert_same nat_cmp_total nat_cmp-IsAntisymmetric c.places p None)) refl)
-
--- of two changes of a place the later stays
-replaced : (c taken given : ContainerView) (p : ℕ) (m : Machine) → taken ≡ record c { places = insert c.places p None }
-    → given ≡ record taken { places = insert taken.places p (Some m) }
-    → given ≡ record c { places = insert c.places p (Some m) }
-replaced c taken given p m took gave =
-    gave
-    ∙ ap (λ (v : ContainerView). record v { places = insert v.places p (Some m) }) took
-    ∙ ap (λ places. record c { places = places }) (insert_same nat_cmp_total nat_cmp-IsAntisymmetric c.places p None (Some m))
-
--- after the machine was taken away and brought home
-pub has_arrived : (s : StateInCode) (p : ℕ) (m : Machine) (seg : Seg) (taken : ContainerView) (new : StateInCode)
-    → taken ≡ record s.container { places = insert s.container.places p None }
-    → home_of taken.places ≡ remove (home_of s.container.places) p
-    → new.container ≡ record taken { places = insert taken.places p (Some m) }
-    → home_of new.container.places ≡ insert (home_of taken.places) p m → new.core ≡ arrived p seg.count s.core
-    → new.phases ≡ insert s.phases p (Ran seg) → Arrived s p m seg new
-has_arrived s p m seg taken new took away gave home core phases = record {
-  container = replaced s.container taken new.container p m took gave;
-  home = home ∙ ap (λ machines. insert machines p m) away ∙ own-over (home_of s.container.places) p (Some m);
+-- after a segment was run in its place
+pub has_arrived : (s : StateInCode) (p : ℕ) (seg : Seg) (new : StateInCode)
+    → (r : RunsAt s.container.places new.container.places p seg)
+    → new.container ≡ record s.container { places = new.container.places } → new.core ≡ arrived p seg.count s.core
+    → new.phases ≡ insert s.phases p (Ran seg) → Arrived s p r.now seg new
+has_arrived s p seg new r rest core phases = record {
+  container = rest ∙ ap (λ places. record s.container { places = places }) r.becomes.rest;
+  home = ap home_of r.becomes.rest ∙ home-given s.container.places p r.now;
   core = core;
   phases = phases;
 }
+
+-- the machine that ran it was at home
+pub was_there : (s : StateInCode) (p : ℕ) (seg : Seg) (after : Places) (r : RunsAt s.container.places after p seg)
+    → get (home_of s.container.places) p ≡ Some r.was
+was_there s p seg after r = machine-there s.container.places p (Some r.was) r.becomes.home
 
 -- the segment that was run is that of the definitions
 pub arrive-ran : (s : StateInCode) (w : World) (p : ℕ) (m now : Machine) (seg : Seg) (new : StateInCode)

@@ -15,7 +15,6 @@ use dt_base::NoMemory;
 use dt_calls::Container;
 use dt_host::{Host, HostErr};
 use dt_numbered::Numbered;
-use dt_rv64::segment;
 use dt_sched::Core;
 use std::alloc::Global;
 
@@ -80,9 +79,7 @@ impl State {
         ensures verdict { OnOk result (self.new.core.verdict ≡ self.old.core.verdict) }
         ensures smaller { OnOk result (steps_left self.new.core < steps_left self.old.core) }
     {
-        let mut machine = self.container.take_machine(vpid);
-        let seg = segment(&mut machine)?;
-        self.container.give_machine(vpid, machine);
+        let seg = self.container.run_segment(vpid)?;
         self.phases.put(u64::from(vpid), Phase::Ran(seg))?;
         self.core.arrived(vpid, seg.count);
         Ok(())

@@ -1,14 +1,14 @@
 -- Processes that stand once, and what arrivals and moves make of them.
-use Rattle.std.proofs.Common.{ℕ, ◌≡◌, ◌≢◌, ◌+◌, ◌≤◌, ◌&&◌, ◌||◌, ◌==◌, false, not, List, [], ◌∷◌, ◌++◌, map, length, take, drop, IsTrue, refl, sym, subst, ◌∙◌, ◌<◌, Option, Some, None, length-append, arith}
-use Rattle.std.proofs.lemmas.List.{length-map}
+use Rattle.std.proofs.Common.{ℕ, Bool, zero, suc, ◌≡◌, ◌≢◌, ◌+◌, ◌≤◌, ◌&&◌, ◌||◌, ◌==◌, true, false, not, List, [], ◌∷◌, ◌++◌, map, length, get_or, slice_set, remove, drop, IsTrue, refl, sym, ap, subst, ◌∙◌, ◌<◌, Option, Some, None, length-append, arith}
+use Rattle.std.proofs.lemmas.List.{length-map, drop_all}
 use Rattle.std.proofs.lemmas.Bool.Decides.{nat_tests}
-use Rattle.std.proofs.lemmas.Grind.{common_steps}
 use Rattle.std.specs.List.{filter}
 use Rattle.dt_sched.specs.declared.queue.TheConstants.{QUEUE_LIMIT}
 use Rattle.dt_sched.specs.declared.settled.Head.TheVariants.{Ready, Over}
 use Rattle.dt_base.specs.declared.event.Verdict.{Verdict}
-use Rattle.dt_sched.specs.Queue.{IsTable, first_of, queue_at}
+use Rattle.dt_sched.specs.Queue.{IsTable, first_of, queue_at, among, once, without}
 use Rattle.dt_sched.specs.declared.process.Process.{Process}
+use Rattle.dt_sched.specs.declared.process.Phase.TheVariants.{Arrived}
 use Rattle.dt_sched.specs.declared.settled.Settled.{Settled}
 use Rattle.dt_sched.specs.declared.settled.Settled.TheVariants.{Again, Child, LastChild, Waits as Blocked, Moved, Gone, Stopped}
 use Rattle.dt_sched.specs.Core.{holds, each_once, owing, arrived_at, queue_after, blocked_after, verdict_after, GoesOn, CoreView, IsReady, head_by, is_count, all_counted}
@@ -63,20 +63,75 @@ each_once-push (y ∷ ys) x once new = grind (arith, nat_tests, each_once-push y
 
 pub ruleset at_the_tail = (length-owing, owing-append, each_once-push, holds-append)
 
--- a slice of a whole vector written back
-pub written-back : (xs ys : List Process) (n : ℕ) → n ≡ length xs → length ys ≡ length xs
-    → take n (ys ++ drop (length ys) xs) ≡ ys
-written-back xs ys n whole same = grind (arith, common_steps)
+second-of : (a b : Bool) → IsTrue (a && b) → IsTrue b
+second-of true b both = both
+second-of false b both = grind arith
+
+-- an arrival leaves those among which the process is not
+pub absent-arrived : (vpid cost : ℕ) (xs : List Process) → holds vpid xs ≡ false → map (arrived_at vpid cost) xs ≡ xs
+absent-arrived vpid cost [] absent = refl
+absent-arrived vpid cost (x ∷ xs) absent = grind (arith, nat_tests, absent-arrived vpid cost xs)
+
+-- a process that stands at an index is there
+pub holds-index : (vpid k : ℕ) (xs : List Process) (d : Process) → k < length xs → (get_or xs k d).vpid ≡ vpid
+    → holds vpid xs ≡ true
+holds-index vpid k [] d within is = absurd (omega arith)
+holds-index vpid zero (x ∷ xs) d within is = grind (arith, nat_tests)
+holds-index vpid (suc k) (x ∷ xs) d within is = grind (arith, nat_tests, holds-index vpid k xs d (omega arith) is)
+
+-- the process at an index gets its cost, and the others stay
+pub arrived-index : (vpid cost k : ℕ) (xs : List Process) (p q : Process) → k < length xs → IsTrue (each_once xs)
+    → p ≡ get_or xs k p → q ≡ get_or xs k q → p.vpid ≡ vpid
+    → slice_set xs k (record { vpid = q.vpid; phase = Arrived cost }) ≡ map (arrived_at vpid cost) xs
+arrived-index vpid cost k [] p q within each here there is = absurd (omega arith)
+arrived-index vpid cost zero (x ∷ xs) p q within each here there is = grind (arith, nat_tests, absent-arrived vpid cost xs)
+arrived-index vpid cost (suc k) (x ∷ xs) p q within each here there is =
+    let held = holds-index vpid k xs p (omega arith) (ap (λ (x : Process). x.vpid) (sym here) ∙ is) in
+    grind (arith, nat_tests, arrived-index vpid cost k xs p q (omega arith) (second-of (not (holds x.vpid xs)) (each_once xs) each) here there is)
+
+-- none of those that owe is there twice
+pub among-owing : (vpid : ℕ) (xs : List Process) → holds vpid xs ≡ false → among vpid (owing xs) ≡ false
+among-owing vpid [] absent = refl
+among-owing vpid (x ∷ xs) absent = grind (arith, nat_tests, among-owing vpid xs)
+
+pub once-owing : (xs : List Process) → IsTrue (each_once xs) → IsTrue (once (owing xs))
+once-owing [] each = each
+once-owing (x ∷ xs) each = grind (arith, nat_tests, once-owing xs, among-owing x.vpid xs)
+
+-- what is taken away at an index is taken away wherever it stands
+pub absent-without : (vpid : ℕ) (xs : List ℕ) → among vpid xs ≡ false → without vpid xs ≡ xs
+absent-without vpid [] absent = refl
+absent-without vpid (x ∷ xs) absent = grind (arith, nat_tests, absent-without vpid xs)
+
+pub among-index : (vpid k : ℕ) (xs : List ℕ) (d : ℕ) → k < length xs → get_or xs k d ≡ vpid → among vpid xs ≡ true
+among-index vpid k [] d within is = absurd (omega arith)
+among-index vpid zero (x ∷ xs) d within is = grind (arith, nat_tests)
+among-index vpid (suc k) (x ∷ xs) d within is = grind (arith, nat_tests, among-index vpid k xs d (omega arith) is)
+
+pub without-index : (vpid k : ℕ) (xs : List ℕ) (d : ℕ) → k < length xs → IsTrue (once xs) → d ≡ get_or xs k d → d ≡ vpid
+    → remove xs k ≡ without vpid xs
+without-index vpid k [] d within each here is = absurd (omega arith)
+without-index vpid zero (x ∷ xs) d within each here is = grind (arith, nat_tests, absent-without vpid xs)
+without-index vpid (suc k) (x ∷ xs) d within each here is =
+    let held = among-index vpid k xs d (omega arith) (sym here ∙ is) in
+    grind (arith, nat_tests, without-index vpid k xs d (omega arith) (second-of (not (among x xs)) (once xs) each) here is)
+
+-- where none of a whole list was it, it is not there
+pub none-held : (vpid n : ℕ) (xs : List Process) → holds vpid xs ≡ holds vpid (drop n xs) → length xs ≤ n → holds vpid xs ≡ false
+none-held vpid n xs none all = none ∙ ap (holds vpid) (drop_all n xs all)
+
+pub none-among : (vpid n : ℕ) (xs : List ℕ) → among vpid xs ≡ among vpid (drop n xs) → length xs ≤ n → among vpid xs ≡ false
+none-among vpid n xs none all = none ∙ ap (among vpid) (drop_all n xs all)
 
 -- the table after an arrival
-pub table-arrived : (vpid cost : ℕ) (xs ys : List Process) (owed left : List ℕ) (room owed_room left_room : ℕ)
+pub table-arrived : (vpid cost : ℕ) (xs ys : List Process) (owed left : List ℕ) (room ys_room owed_room left_room : ℕ)
     → IsTable xs owed room owed_room → ys ≡ map (arrived_at vpid cost) xs
-    → left ≡ filter (λ other. not (other == vpid)) owed → left_room ≡ owed_room → IsTable ys left room left_room
-table-arrived vpid cost xs ys owed left room owed_room left_room table new less same = record {
+    → left ≡ without vpid owed → ys_room ≡ room → left_room ≡ owed_room → IsTable ys left ys_room left_room
+table-arrived vpid cost xs ys owed left room ys_room owed_room left_room table new less as_big same = record {
   each_once = subst (λ l. IsTrue (each_once l)) (sym new) (subst IsTrue (sym (each_once-arrived vpid cost xs)) table.each_once);
   few = rw (new, length-map) table.few;
   exact = rw (less, table.exact, new) (sym (owing-arrived vpid cost xs));
-  has_room = table.has_room;
+  has_room = rw as_big table.has_room;
   has_owed_room = rw same table.has_owed_room;
 }
 

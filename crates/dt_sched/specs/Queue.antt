@@ -1,5 +1,6 @@
 -- The table of the processes.
-use Rattle.std.specs.Prelude.{ℕ, ◌≡◌, ◌≤◌, Bool, false, not, List, [], ◌∷◌, length, Option, Some, None, IsTrue}
+use Rattle.std.specs.Prelude.{ℕ, ◌≡◌, ◌≤◌, ◌==◌, ◌&&◌, ◌||◌, Bool, true, false, not, List, [], ◌∷◌, length, Option, Some, None, IsTrue}
+use Rattle.std.specs.List.{filter}
 use Rattle.dt_sched.specs.declared.queue.TheConstants.{QUEUE_LIMIT}
 use Rattle.dt_sched.specs.declared.process.Process.{Process}
 use Rattle.dt_sched.specs.declared.settled.Settled.{Settled}
@@ -27,3 +28,17 @@ is_ready (p ∷ ps) = not (is_owing p.phase)
 abbrev pub queue_at : List Process → Settled → List Process
 queue_at [] turn = []
 queue_at (p ∷ rest) turn = queue_after p rest turn
+
+-- a virtual pid is one of these
+abbrev pub among : ℕ → List ℕ → Bool
+among vpid [] = false
+among vpid (x ∷ xs) = (x == vpid) || among vpid xs
+
+-- none of these stands there twice
+abbrev pub once : List ℕ → Bool
+once [] = true
+once (x ∷ xs) = not (among x xs) && once xs
+
+-- the others
+abbrev pub without : ℕ → List ℕ → List ℕ
+without vpid xs = filter (λ other. not (other == vpid)) xs

@@ -3,7 +3,7 @@ ghost use Rattle.std.specs.Prelude.{◌≡◌, ◌<◌, ◌≤◌, ◌++◌, ◌
 ghost use Rattle.std.specs.Prelude.{map, if◌then◌else◌, ◌==◌};
 ghost use Rattle.dt_sched.specs.Core.{owes, holds, each_once, owing, waits, arrived_at, is_owing, is_waiting, has_room};
 ghost use Rattle.dt_sched.specs.declared.queue.TheConstants.{QUEUE_LIMIT};
-ghost use Rattle.dt_sched.specs.Queue.{first_of, is_ready, queue_at};
+ghost use Rattle.dt_sched.specs.Queue.{first_of, is_ready, queue_at, once, without};
 
 use crate::process::{Phase, Process};
 use crate::settled::Settled;
@@ -49,13 +49,30 @@ impl Model for Queue {
     ghost invariant = { λ q. IsTable q.processes.items q.owed.items (vec_capacity q.processes) (vec_capacity q.owed) };
 }
 
-// Lets the segment of a process arrive.
-fn mark(processes: &mut [Process], vpid: u32, cost: u32)
-    ensures { processes.new ≡ map (arrived_at vpid cost) processes.old }
+// Lets the segment of a process arrive, which stands there once.
+fn mark(processes: &mut Vec<Process>, vpid: u32, cost: u32)
+    requires { IsTrue (each_once processes.old.items) }
+    ensures items { processes.new.items ≡ map (arrived_at vpid cost) processes.old.items }
+    ensures room { vec_capacity processes.new ≡ vec_capacity processes.old }
 {
-    for process in processes.iter_mut() {
-        if process.vpid == vpid {
-            process.phase = Phase::Arrived(cost);
+    for index in 0..processes.len() {
+        if processes[index].vpid == vpid {
+            processes[index].phase = Phase::Arrived(cost);
+            return;
+        }
+    }
+}
+
+// Takes a process from those that owe a segment, if it is one, where each stands once.
+fn forget(owed: &mut Vec<u32>, vpid: u32)
+    requires { IsTrue (once owed.old.items) }
+    ensures items { owed.new.items ≡ without vpid owed.old.items }
+    ensures room { vec_capacity owed.new ≡ vec_capacity owed.old }
+{
+    for index in 0..owed.len() {
+        if owed[index] == vpid {
+            owed.remove(index);
+            return;
         }
     }
 }
@@ -141,7 +158,7 @@ impl Queue {
         ensures { self.new ≡ map (arrived_at vpid cost) self.old }
     {
         mark(&mut self.processes, vpid, cost);
-        self.owed.retain(|other| *other != vpid);
+        forget(&mut self.owed, vpid);
     }
 
     // Takes the head away, whose segment has arrived.

@@ -1,6 +1,6 @@
 use Rattle.std.proofs.Common.{◌==◌, ◌++◌, cond, Some, refl, sym, ap, subst, ◌∙◌}
 use Rattle.std.specs.Prelude.{IsSome, IfSome}
-use Rattle.std.specs.FinMap.{empty, get, insert, remove}
+use Rattle.std.specs.FinMap.{empty, get, remove}
 use Rattle.dt_procs.specs.declared.member.TheConstants.{FIRST_PID}
 use Rattle.dt_calls.specs.Container.{with_process}
 use Rattle.dt_calls.specs.InCode.{ContainerView, entered, shared_of, effect_as, container_of, turned_as}
@@ -27,70 +27,70 @@ finish-requires-clause-child g c =
 
 pub counted-requires-in-Done-clause-paired : goal.counted-requires-in-Done-clause-paired
 counted-requires-in-Done-clause-paired g c =
-    let new = kept-view _ c.args.self.now c.args.next c.args.own c.args.machine c.args.effect c.put.new.self _ c.self.view_is c.put.ensures c.in_ok-keep-in-Done.ensures in
-    paired-kept c.args.self.now (g.H.Host.view c.args.host.now) c.args.next c.args.own c.args.machine c.args.effect c.requires.number c.keep.new.self new c.requires.paired c.requires.child
+    let new = kept-view _ c.args.self.now c.args.next c.args.own c.args.effect c.put.new.self _ c.self.view_is c.put.ensures c.in_ok-enter-in-Done.ensures in
+    paired-kept c.args.self.now c.args.next c.args.own c.args.effect c.enter.new.self new c.requires.paired c.requires.child
 
-pub returns-in_ok-keep-in-Done-clause-ok : goal.returns-in_ok-keep-in-Done-clause-ok
-returns-in_ok-keep-in-Done-clause-ok g c =
-    let new = kept-view _ c.args.self.now c.args.next c.args.own c.args.machine c.args.effect c.put.new.self _ c.self.view_is c.put.ensures c.in_ok-keep-in-Done.ensures in
+pub returns-in_ok-enter-in-Done-clause-ok : goal.returns-in_ok-enter-in-Done-clause-ok
+returns-in_ok-enter-in-Done-clause-ok g c = λ m home.
+    let new = kept-view _ c.args.self.now c.args.next c.args.own c.args.effect c.put.new.self _ c.self.view_is c.put.ensures c.in_ok-enter-in-Done.ensures in
     let s = shared_of c.args.self.now.shared (g.H.Host.view c.args.host.now) in
-    settle-kept c.args.self.now (g.H.Host.view c.args.host.now) c.args.next c.args.own c.args.machine c.args.effect c.requires.number c.keep.new.self c.goes_on-goes_on.result new
-    (ap (settled_by c.args.next c.args.own.caller.vpid (effect_as s c.args.own c.args.machine c.args.effect)) c.in-Done.is
-    ∙ (λ i. record { shared = with_process s c.args.own; own = Some c.args.machine; child = c.args.effect.child; events = c.args.effect.events.items; served = sym c.goes_on-goes_on.ensures i }))
+    settle-kept c.args.self.now (g.H.Host.view c.args.host.now) c.args.next c.args.own m c.args.effect c.requires.number c.enter.new.self c.goes_on-goes_on.result home new
+    (ap (settled_by c.args.next c.args.own.caller.vpid (effect_as s c.args.own m c.args.effect)) c.in-Done.is
+    ∙ (λ i. record { shared = with_process s c.args.own; own = Some m; child = c.args.effect.child; events = c.args.effect.events.items; served = sym c.goes_on-goes_on.ensures i }))
     (ap (λ r. all_ended c.args.own.caller.vpid r) c.goes_on-goes_on.ensures ∙ goes_on-lives c.args.own.caller.vpid c.args.next c.args.effect.child)
 
-pub returns-in_ok-keep-in-Done-clause-sound : goal.returns-in_ok-keep-in-Done-clause-sound
-returns-in_ok-keep-in-Done-clause-sound g c =
-    let new = kept-view _ c.args.self.now c.args.next c.args.own c.args.machine c.args.effect c.put.new.self _ c.self.view_is c.put.ensures c.in_ok-keep-in-Done.ensures in
-    sound-kept c.args.self.now (g.H.Host.view c.args.host.now) c.args.next c.args.own c.args.machine c.args.effect c.requires.number c.keep.new.self new c.requires.sound (paired-kept c.args.self.now (g.H.Host.view c.args.host.now) c.args.next c.args.own c.args.machine c.args.effect c.requires.number c.keep.new.self new c.requires.paired c.requires.child) c.counted-in-Done.ensures
+pub returns-in_ok-enter-in-Done-clause-sound : goal.returns-in_ok-enter-in-Done-clause-sound
+returns-in_ok-enter-in-Done-clause-sound g c =
+    let new = kept-view _ c.args.self.now c.args.next c.args.own c.args.effect c.put.new.self _ c.self.view_is c.put.ensures c.in_ok-enter-in-Done.ensures in
+    sound-kept c.args.self.now c.args.next c.args.own c.args.effect c.enter.new.self (g.H.Host.view c.args.host.now) new c.requires.sound (paired-kept c.args.self.now c.args.next c.args.own c.args.effect c.enter.new.self new c.requires.paired c.requires.child) c.counted-in-Done.ensures
 
 pub counted-requires-in-Blocked-clause-paired : goal.counted-requires-in-Blocked-clause-paired
 counted-requires-in-Blocked-clause-paired g c =
-    let new = kept-view _ c.args.self.now c.args.next c.args.own c.args.machine c.args.effect c.put.new.self _ c.self.view_is c.put.ensures c.in_ok-keep-in-Blocked.ensures in
-    paired-kept c.args.self.now (g.H.Host.view c.args.host.now) c.args.next c.args.own c.args.machine c.args.effect c.requires.number c.keep-in-Blocked.new.self new c.requires.paired c.requires.child
+    let new = kept-view _ c.args.self.now c.args.next c.args.own c.args.effect c.put.new.self _ c.self.view_is c.put.ensures c.in_ok-enter-in-Blocked.ensures in
+    paired-kept c.args.self.now c.args.next c.args.own c.args.effect c.enter-in-Blocked.new.self new c.requires.paired c.requires.child
 
-pub returns-in_ok-keep-in-Blocked-clause-ok : goal.returns-in_ok-keep-in-Blocked-clause-ok
-returns-in_ok-keep-in-Blocked-clause-ok g c =
-    let new = kept-view _ c.args.self.now c.args.next c.args.own c.args.machine c.args.effect c.put.new.self _ c.self.view_is c.put.ensures c.in_ok-keep-in-Blocked.ensures in
+pub returns-in_ok-enter-in-Blocked-clause-ok : goal.returns-in_ok-enter-in-Blocked-clause-ok
+returns-in_ok-enter-in-Blocked-clause-ok g c = λ m home.
+    let new = kept-view _ c.args.self.now c.args.next c.args.own c.args.effect c.put.new.self _ c.self.view_is c.put.ensures c.in_ok-enter-in-Blocked.ensures in
     let s = shared_of c.args.self.now.shared (g.H.Host.view c.args.host.now) in
-    settle-kept c.args.self.now (g.H.Host.view c.args.host.now) c.args.next c.args.own c.args.machine c.args.effect c.requires.number c.keep-in-Blocked.new.self Blocked new
-    (ap (settled_by c.args.next c.args.own.caller.vpid (effect_as s c.args.own c.args.machine c.args.effect)) c.in-Blocked.is
+    settle-kept c.args.self.now (g.H.Host.view c.args.host.now) c.args.next c.args.own m c.args.effect c.requires.number c.enter-in-Blocked.new.self Blocked home new
+    (ap (settled_by c.args.next c.args.own.caller.vpid (effect_as s c.args.own m c.args.effect)) c.in-Blocked.is
     ∙ refl)
     refl
 
-pub returns-in_ok-keep-in-Blocked-clause-sound : goal.returns-in_ok-keep-in-Blocked-clause-sound
-returns-in_ok-keep-in-Blocked-clause-sound g c =
-    let new = kept-view _ c.args.self.now c.args.next c.args.own c.args.machine c.args.effect c.put.new.self _ c.self.view_is c.put.ensures c.in_ok-keep-in-Blocked.ensures in
-    sound-kept c.args.self.now (g.H.Host.view c.args.host.now) c.args.next c.args.own c.args.machine c.args.effect c.requires.number c.keep-in-Blocked.new.self new c.requires.sound (paired-kept c.args.self.now (g.H.Host.view c.args.host.now) c.args.next c.args.own c.args.machine c.args.effect c.requires.number c.keep-in-Blocked.new.self new c.requires.paired c.requires.child) c.counted-in-Blocked.ensures
+pub returns-in_ok-enter-in-Blocked-clause-sound : goal.returns-in_ok-enter-in-Blocked-clause-sound
+returns-in_ok-enter-in-Blocked-clause-sound g c =
+    let new = kept-view _ c.args.self.now c.args.next c.args.own c.args.effect c.put.new.self _ c.self.view_is c.put.ensures c.in_ok-enter-in-Blocked.ensures in
+    sound-kept c.args.self.now c.args.next c.args.own c.args.effect c.enter-in-Blocked.new.self (g.H.Host.view c.args.host.now) new c.requires.sound (paired-kept c.args.self.now c.args.next c.args.own c.args.effect c.enter-in-Blocked.new.self new c.requires.paired c.requires.child) c.counted-in-Blocked.ensures
 
 pub counted-requires-in-Unsupported-clause-paired : goal.counted-requires-in-Unsupported-clause-paired
 counted-requires-in-Unsupported-clause-paired g c =
-    let new = kept-view _ c.args.self.now c.args.next c.args.own c.args.machine c.args.effect c.put.new.self _ c.self.view_is c.put.ensures c.in_ok-keep-in-Unsupported.ensures in
-    paired-kept c.args.self.now (g.H.Host.view c.args.host.now) c.args.next c.args.own c.args.machine c.args.effect c.requires.number c.keep-in-Unsupported.new.self new c.requires.paired c.requires.child
+    let new = kept-view _ c.args.self.now c.args.next c.args.own c.args.effect c.put.new.self _ c.self.view_is c.put.ensures c.in_ok-enter-in-Unsupported.ensures in
+    paired-kept c.args.self.now c.args.next c.args.own c.args.effect c.enter-in-Unsupported.new.self new c.requires.paired c.requires.child
 
-pub returns-in_ok-keep-in-Unsupported-clause-ok : goal.returns-in_ok-keep-in-Unsupported-clause-ok
-returns-in_ok-keep-in-Unsupported-clause-ok g c =
-    let new = kept-view _ c.args.self.now c.args.next c.args.own c.args.machine c.args.effect c.put.new.self _ c.self.view_is c.put.ensures c.in_ok-keep-in-Unsupported.ensures in
+pub returns-in_ok-enter-in-Unsupported-clause-ok : goal.returns-in_ok-enter-in-Unsupported-clause-ok
+returns-in_ok-enter-in-Unsupported-clause-ok g c = λ m home.
+    let new = kept-view _ c.args.self.now c.args.next c.args.own c.args.effect c.put.new.self _ c.self.view_is c.put.ensures c.in_ok-enter-in-Unsupported.ensures in
     let s = shared_of c.args.self.now.shared (g.H.Host.view c.args.host.now) in
-    settle-kept c.args.self.now (g.H.Host.view c.args.host.now) c.args.next c.args.own c.args.machine c.args.effect c.requires.number c.keep-in-Unsupported.new.self (Unsupported c.in-Unsupported.number) new
-    (ap (settled_by c.args.next c.args.own.caller.vpid (effect_as s c.args.own c.args.machine c.args.effect)) c.in-Unsupported.is
+    settle-kept c.args.self.now (g.H.Host.view c.args.host.now) c.args.next c.args.own m c.args.effect c.requires.number c.enter-in-Unsupported.new.self (Unsupported c.in-Unsupported.number) home new
+    (ap (settled_by c.args.next c.args.own.caller.vpid (effect_as s c.args.own m c.args.effect)) c.in-Unsupported.is
     ∙ refl)
     refl
 
-pub returns-in_ok-keep-in-Unsupported-clause-sound : goal.returns-in_ok-keep-in-Unsupported-clause-sound
-returns-in_ok-keep-in-Unsupported-clause-sound g c =
-    let new = kept-view _ c.args.self.now c.args.next c.args.own c.args.machine c.args.effect c.put.new.self _ c.self.view_is c.put.ensures c.in_ok-keep-in-Unsupported.ensures in
-    sound-kept c.args.self.now (g.H.Host.view c.args.host.now) c.args.next c.args.own c.args.machine c.args.effect c.requires.number c.keep-in-Unsupported.new.self new c.requires.sound (paired-kept c.args.self.now (g.H.Host.view c.args.host.now) c.args.next c.args.own c.args.machine c.args.effect c.requires.number c.keep-in-Unsupported.new.self new c.requires.paired c.requires.child) c.counted-in-Unsupported.ensures
+pub returns-in_ok-enter-in-Unsupported-clause-sound : goal.returns-in_ok-enter-in-Unsupported-clause-sound
+returns-in_ok-enter-in-Unsupported-clause-sound g c =
+    let new = kept-view _ c.args.self.now c.args.next c.args.own c.args.effect c.put.new.self _ c.self.view_is c.put.ensures c.in_ok-enter-in-Unsupported.ensures in
+    sound-kept c.args.self.now c.args.next c.args.own c.args.effect c.enter-in-Unsupported.new.self (g.H.Host.view c.args.host.now) new c.requires.sound (paired-kept c.args.self.now c.args.next c.args.own c.args.effect c.enter-in-Unsupported.new.self new c.requires.paired c.requires.child) c.counted-in-Unsupported.ensures
 
 pub returns-in_ok-finish-in-Ends-clause-ok : goal.returns-in_ok-finish-in-Ends-clause-ok
-returns-in_ok-finish-in-Ends-clause-ok g c =
+returns-in_ok-finish-in-Ends-clause-ok g c = λ m home.
     let w = g.H.Host.view c.args.host.now in
     let put = c.put.ensures ∙ ap (λ (v : ContainerView). with_own v.shared c.args.own) c.self.view_is in
     let places = ap (λ (v : ContainerView). v.places) c.self.view_is in
     let p = c.args.own.caller.vpid in
-    settle-ended c.args.self.now w c.args.next c.args.own c.args.machine c.args.effect c.requires.number c.finish.new.self (g.H.Host.view c.finish.new.host) c.in-Ends.end c.in-Ends.is
+    settle-ended c.args.self.now w c.args.next c.args.own m c.args.effect c.requires.number c.finish.new.self (g.H.Host.view c.finish.new.host) c.in-Ends.end c.in-Ends.is
     (c.in_ok-finish-in-Ends.ensures.shared ∙ ap (λ s. ends p c.in-Ends.end (shared_of s w)) put)
     (c.in_ok-finish-in-Ends.ensures.events ∙ ap (λ s. c.args.effect.events.items ++ ends_shown p c.in-Ends.end (shared_of s w)) put)
-    (c.in_ok-finish-in-Ends.ensures.places ∙ ap (λ m. cond (p == FIRST_PID) empty (entered (remove m p) c.args.next c.args.effect.child)) places)
+    (c.in_ok-finish-in-Ends.ensures.places ∙ ap (λ x. cond (p == FIRST_PID) empty (entered (remove x p) c.args.next c.args.effect.child)) places)
     (c.in_ok-finish-in-Ends.ensures.next ∙ ap (λ s. s.pids.next) put)
     ∙ (λ i. turned_as (container_of c.finish.new.self (g.H.Host.view c.finish.new.host)) (sym c.is_gone-is_gone.ensures i))

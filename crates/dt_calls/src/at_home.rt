@@ -1,0 +1,93 @@
+// What is done with the machine of a process in its place: a machine is too big to be moved in each turn.
+ghost use Rattle.std.specs.Prelude.{◌≡◌, ◌≤◌, IsSome, IfSome, IsOk, IfOk};
+ghost use Rattle.std.specs.FinMap.{get};
+ghost use Rattle.dt_base.specs.declared.limits.TheConstants.{SEGMENT_LIMIT};
+ghost use Rattle.dt_rv64.specs.Segment.{segment_of};
+ghost use Rattle.dt_calls.specs.Call.{served};
+ghost use Rattle.dt_calls.specs.InCode.{home_of, shared_of};
+ghost use Rattle.dt_calls.specs.AtHome.{RunsAt, ServesAt};
+ghost use Rattle.dt_calls.specs.Sound.{IsSoundHand, Serves, hand};
+
+use crate::call::{Effect, serve};
+use crate::shared::{Process, Shared};
+use dt_base::NoMemory;
+use dt_host::{Host, HostErr};
+use dt_numbered::Numbered;
+use dt_rv64::{Machine, Seg, Stop, segment};
+use std::alloc::Global;
+
+/// Runs a segment of the machine of a process, which is at home.
+pub(crate) fn run_at(places: &mut Numbered<Option<Machine>>, vpid: u32) -> Result<Seg, NoMemory>
+    requires { IsSome (get (home_of places.old) vpid) }
+    ensures always { IsOk result }
+    ensures run { IfOk result (RunsAt places.old places.new vpid) }
+    ensures least { IfOk result (λ seg. 1 ≤ seg.count) }
+    ensures most { IfOk result (λ seg. seg.count ≤ SEGMENT_LIMIT) }
+{
+    match places.get_mut(u64::from(vpid)) {
+        Some(place) => run_in(place),
+        None => unreachable!(),
+    }
+}
+
+/// Serves the stop of a process, whose machine is at home.
+pub(crate) fn serve_at<H: Host>(
+    alloc: Global,
+    host: &mut H,
+    shared: &mut Shared,
+    own: &mut Process,
+    places: &mut Numbered<Option<Machine>>,
+    vpid: u32,
+    stop: Stop,
+) -> Result<Effect, HostErr>
+    requires sound { IsSoundHand (hand shared.old own.old (H.view host.old)) }
+    requires home { IsSome (get (home_of places.old) vpid) }
+    ensures { ServesAt
+        (λ m. served (shared_of shared.old (H.view host.old)) shared.old.pids.next own.old m stop)
+        (hand shared.old own.old (H.view host.old)) (hand shared.new own.new (H.view host.new))
+        places.old places.new vpid result (H.count host.old) (H.count host.new) }
+{
+    match places.get_mut(u64::from(vpid)) {
+        Some(place) => serve_in(alloc, host, shared, own, place, stop),
+        None => unreachable!(),
+    }
+}
+
+// Runs a segment of the machine in a place.
+fn run_in(place: &mut Option<Machine>) -> Result<Seg, NoMemory>
+    requires { IsSome place.old }
+    ensures always { IsOk result }
+    ensures stays { IsSome place.new }
+    ensures run { IfOk result (λ seg. IfSome place.old (λ was. IfSome place.new (λ now.
+        segment_of was ≡ record { count = seg.count; stop = seg.stop; machine = now }))) }
+    ensures least { IfOk result (λ seg. 1 ≤ seg.count) }
+    ensures most { IfOk result (λ seg. seg.count ≤ SEGMENT_LIMIT) }
+{
+    match place {
+        Some(machine) => segment(machine),
+        None => unreachable!(),
+    }
+}
+
+// Serves the stop of a process, whose machine is in this place.
+fn serve_in<H: Host>(
+    alloc: Global,
+    host: &mut H,
+    shared: &mut Shared,
+    own: &mut Process,
+    place: &mut Option<Machine>,
+    stop: Stop,
+) -> Result<Effect, HostErr>
+    requires sound { IsSoundHand (hand shared.old own.old (H.view host.old)) }
+    requires some { IsSome place.old }
+    ensures stays { IsSome place.new }
+    ensures served { IfSome place.old (λ was. IfSome place.new (λ now. Serves
+        (served (shared_of shared.old (H.view host.old)) shared.old.pids.next own.old was stop)
+        (hand shared.old own.old (H.view host.old)) (hand shared.new own.new (H.view host.new)) now result
+        (H.count host.old) (H.count host.new))) }
+{
+    match place {
+        Some(machine) => serve(alloc, host, shared, own, machine, stop),
+        None => unreachable!(),
+    }
+}
