@@ -1,5 +1,5 @@
--- How an argument of a call is read (syscall(2), read(2), exit(2)).
-use Rattle.std.specs.Prelude.{ℕ, ℤ, ◌%◌, ◌^◌, min}
+-- How an argument of a call is read (syscall(2), read(2), exit(2)), and flags.
+use Rattle.std.specs.Prelude.{ℕ, ℤ, ◌%◌, ◌^◌, ◌==◌, Bool, bit_and, min}
 use Rattle.std.specs.Int.{w32, cast_signed}
 use Rattle.dt_base.specs.declared.limits.TheConstants.{TRANSFER_LIMIT}
 
@@ -18,3 +18,7 @@ byte_count argument = min argument TRANSFER_LIMIT
 -- the code of an end: the low 8 bits
 abbrev pub exit_code : ℕ → ℕ
 exit_code argument = argument % 256
+
+-- all of a flag is among these
+abbrev pub has : ℕ → ℕ → Bool
+has flags flag = bit_and flags flag == flag

@@ -1,6 +1,6 @@
 //! Linux's calls on 64-bit RISC-V: registers, call numbers, signal numbers, and how wide an argument is.
 ghost use Rattle.std.specs.Prelude.{◌≡◌};
-ghost use Rattle.dt_base.specs.Abi.{low_word, signed_word, byte_count, exit_code};
+ghost use Rattle.dt_base.specs.Abi.{low_word, signed_word, byte_count, exit_code, has};
 
 use crate::TRANSFER_LIMIT;
 
@@ -72,6 +72,9 @@ pub const OPENAT: u64 = 56;
 
 /// close(2)
 pub const CLOSE: u64 = 57;
+
+/// pipe2(2)
+pub const PIPE2: u64 = 59;
 
 /// getdents64(2)
 pub const GETDENTS64: u64 = 61;
@@ -272,11 +275,21 @@ pub const SIGBUS: u8 = 7;
 /// An access to memory that is not there, or lacks the right.
 pub const SIGSEGV: u8 = 11;
 
+/// A write to a pipe that nobody reads.
+pub const SIGPIPE: u8 = 13;
+
 /// The 32 bits that count of an argument with 32 bits: a descriptor, flags, a mode.
 pub fn low_word(argument: u64) -> u32
     ensures { result ≡ low_word argument }
 {
     (argument & 0xffff_ffff) as u32
+}
+
+/// Whether all of a flag is among these.
+pub fn has(flags: u32, flag: u32) -> bool
+    ensures { result ≡ has flags flag }
+{
+    flags & flag == flag
 }
 
 /// The same 32 bits of an argument that may be negative: a dirfd, a count of buffers.

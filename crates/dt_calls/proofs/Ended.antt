@@ -8,8 +8,8 @@ use Rattle.std.specs.Cmp.{nat_cmp_total}
 use Rattle.std.specs.FinMap.{get, remove, nat_cmp-IsAntisymmetric}
 use Rattle.dt_base.specs.declared.event.End.{End}
 use Rattle.dt_base.specs.declared.event.End.TheVariants.{Signal}
-use Rattle.dt_fds.specs.Backs.{AllIn, IsBacked, KeepsOthers as KeepsHolds, at, descriptions_of}
-use Rattle.dt_fds.specs.Holding.{over}
+use Rattle.dt_fds.specs.declared.files.Files.{Files}
+use Rattle.dt_fds.specs.Backs.{AllIn, IsBacked, IsPiped, KeepsOthers as KeepsHolds, at, holding, descriptions_of}
 use Rattle.dt_host.specs.Total.{weight}
 use Rattle.dt_host.specs.World.{World, IsDir}
 use Rattle.dt_host.proofs.Maps.{get-remove_same, get-remove_other}
@@ -74,12 +74,12 @@ lives-ended p end q [] apart = refl
 lives-ended p end q (m ∷ ms) apart = (λ i. live-ended p end q m apart i || lives-ended p end q ms apart i)
 
 module _ (c left new : SharedInCode) (w u v : World) (p : ℕ) (own : Process) (end : End) (sound : IsSound c w) (here : get c.processes p ≡ Some own)
-    (backed : IsBacked (at left.fs.files left.fs.tree u)) (others : KeepsHolds p (over (tree_of c.fs.tree w.forest) c.fs.files) (over (tree_of left.fs.tree u.forest) left.fs.files)) where
+    (backed : IsBacked (at left.fs.files left.fs.tree u)) (others : KeepsHolds p (holding (at c.fs.files c.fs.tree w)) (holding (at left.fs.files left.fs.tree u))) where
   abbrev pub between : FileTree
   between = tree_of left.fs.tree u.forest
 
   -- what is left open is held, and each working directory once more
-  holds-left : (n : ℕ) → holds_of between n ≡ descriptions_of left.fs.files n + directories_of c.processes n
+  holds-left : (n : ℕ) → holds_of between n ≡ descriptions_of left.fs.files.descriptors n + directories_of c.processes n
   holds-left n = omega (arith, sound.holds n, others.holds n)
 
   -- so the working directory can be let go
@@ -89,7 +89,7 @@ module _ (c left new : SharedInCode) (w u v : World) (p : ℕ) (own : Process) (
   abbrev after : FileTree
   after = released between own.caller.cwd
 
-  holds-after : (n : ℕ) → holds_of after n ≡ descriptions_of left.fs.files n + directories_of (remove c.processes p) n
+  holds-after : (n : ℕ) → holds_of after n ≡ descriptions_of left.fs.files.descriptors n + directories_of (remove c.processes p) n
   holds-after n =
       omega (arith, holds-left n, holds-released between own.caller.cwd cwd-left n, one_for-swap own.caller.cwd n, directories-without c.processes p own here n)
 
@@ -104,7 +104,7 @@ module _ (c left new : SharedInCode) (w u v : World) (p : ℕ) (own : Process) (
       (others.dirs n (omega (arith, sound.holds n, all)) dir)
 
   module _ (fs : new.fs.files ≡ left.fs.files) (processes : new.processes ≡ remove c.processes p) (members : members_of new.pids ≡ ended p end (members_of c.pids)) (next : new.pids.next ≡ c.pids.next)
-      (stands : Stands new.fs.tree v.forest) (tree : tree_of new.fs.tree v.forest ≡ after) (pids : procs.Stands new.pids v.pids) where
+      (stands : Stands new.fs.tree v.forest) (tree : tree_of new.fs.tree v.forest ≡ after) (pids : procs.Stands new.pids v.pids) (pipes : v.pipes ≡ u.pipes) where
     by_other : (q : ℕ) (P : Option Process → Type 0) → P None → ((other : Process) → q ≢ p → get (remove c.processes p) q ≡ Some other → get c.processes q ≡ Some other → P (Some other)) → P (get new.processes q)
     by_other q P none some = subst P (sym (ap (λ m. get m q) processes)) (by_found (get (remove c.processes p) q) refl)
       where
@@ -119,8 +119,8 @@ module _ (c left new : SharedInCode) (w u v : World) (p : ℕ) (own : Process) (
     sound-ended = record {
       stands = stands;
       pids = pids;
-      all_in = subst (λ t. AllIn t.shape new.fs.files) (sym tree) (subst (AllIn after.shape) (sym fs)
-          (all_in-through left.fs.files between.shape after.shape
+      all_in = subst (λ t. AllIn t.shape new.fs.files.descriptors) (sym tree) (subst (λ (f : Files). AllIn after.shape f.descriptors) (sym fs)
+          (all_in-through left.fs.files.descriptors between.shape after.shape
           (λ n some is. IsFile-released between own.caller.cwd backed.stands.tree n (λ _. omega (arith, holds-after n)) is)
           (λ n some is. IsDir-released between own.caller.cwd backed.stands.tree n (λ _. omega (arith, holds-after n)) is)
           backed.backs.is_in));
@@ -128,9 +128,10 @@ module _ (c left new : SharedInCode) (w u v : World) (p : ℕ) (own : Process) (
           (λ other apart is was. subst (λ t. IsDir t.shape other.caller.cwd) (sym tree) (dir-after q other is was));
       holds = λ n.
           let now = ap (λ t. holds_of t n) tree in
-          let count = ap (λ f. descriptions_of f n) fs in
+          let count = ap (λ (f : Files). descriptions_of f.descriptors n) fs in
           let dirs = ap (λ m. directories_of m n) processes in
           omega (arith, holds-after n);
+      piped = subst (λ f. IsPiped f v.pipes) (sym fs) (subst (IsPiped left.fs.files) (sym pipes) (record { stands = backed.pipes; counted = backed.ends; there = backed.backs.ends }));
       named = λ q. by_other q (λ found. IfSome found (λ x. x.caller.vpid ≡ q)) tt
           (λ other apart is was. subst (λ found. IfSome found (λ x. x.caller.vpid ≡ q)) was (sound.named q));
       given = λ q. by_other q (λ found. IsSome found → q < new.pids.next) (λ no. cc)
@@ -139,7 +140,7 @@ module _ (c left new : SharedInCode) (w u v : World) (p : ℕ) (own : Process) (
           (λ other apart is was _. ap (λ ms. lives ms q) members ∙ lives-ended p end q (members_of c.pids) apart ∙ sound.lives q (ap is_some was));
       fresh = λ q late.
           let below = sound.given p (ap is_some here) in
-          ap (λ f. get f.tables q) fs ∙ others.tables q (λ is. absurd (omega arith)) ∙ sound.fresh q (subst (λ n. n ≤ q) next late);
+          ap (λ (f : Files). get f.descriptors.tables q) fs ∙ others.tables q (λ is. absurd (omega arith)) ∙ sound.fresh q (subst (λ n. n ≤ q) next late);
     }
 
 -- one of the processes that are to be killed is killed

@@ -8,10 +8,10 @@ use Rattle.std.proofs.lemmas.Bool.Decides.{nat_tests}
 use Rattle.std.proofs.lemmas.List.Folds.{list_any-append, list_any_none}
 use Rattle.dt_base.specs.declared.caller.Caller.{Caller}
 use Rattle.dt_base.specs.declared.event.End.{End}
-use Rattle.dt_fds.specs.Backs.{AllIn, KeepsNodes, KeepsOthers as KeepsHolds, at, holding, IsBacked, descriptions_of}
-use Rattle.dt_fds.specs.Descriptions.{Descriptions}
+use Rattle.dt_fds.specs.Backs.{AllIn, KeepsNodes, KeepsOthers as KeepsHolds, OnlyFiles, at, holding, IsBacked, IsPiped, descriptions_of}
+use Rattle.dt_fds.specs.declared.files.Files.{Files}
 use Rattle.dt_host.specs.Total.{weight}
-use Rattle.dt_host.specs.World.{World, IsDir, OnlyForest, OnlyPids}
+use Rattle.dt_host.specs.World.{World, Forest, IsDir, OnlyPids}
 use Rattle.dt_host.proofs.Maps.{at_insert, get-insert_same, get-insert_other, get-remove_other}
 use Rattle.dt_host.proofs.Spots.{IsLive-IsDir}
 use Rattle.dt_host.proofs.Totals.{total-insert, total-remove}
@@ -23,7 +23,7 @@ use Rattle.dt_procs.proofs.Pairs.{AllPairs-head, AllPairs-tail}
 use Rattle.dt_procs.proofs.Standing.{Rises}
 use Rattle.dt_procs.specs.Table as procs
 use Rattle.dt_procs.specs.Table.{members_of}
-use Rattle.dt_scene.proofs.Kept.{sound_held, others_held, others_kept, backed_sound}
+use Rattle.dt_scene.proofs.Kept.{sound_held, others_held, others_kept, backed_sound, piped_nodes}
 use Rattle.dt_scene.specs.declared.fs.Fs.{Fs}
 use Rattle.dt_scene.specs.Sound.{Sound, KeepsOthers, stage, scene}
 use Rattle.dt_space.specs.Space.{PageView}
@@ -105,13 +105,14 @@ module _ (c : Shared) (own : Process) (w : World) (sound : IsSoundHand (hand c o
     enough = λ n.
         let count = count-at here own.caller.vpid own here-own n in
         omega (arith, sound.holds n, one_for-swap own.caller.cwd n);
+    piped = sound.piped;
   }
 
   -- nothing changes
   pub keeps-same : Keeps (hand c own w) (hand c own w) None
   keeps-same = record { sound = sound; vpid = refl; parts = λ q there. there; next = refl; child = tt }
 
-  module _ (fs : Fs) (new : Process) (v : World) (space pages : List PageView) (left : Sound (stage fs v new.caller pages)) (others : KeepsOthers (scene (stage c.fs w own.caller space)) (scene (stage fs v new.caller pages))) (rest : OnlyForest w v) where
+  module _ (fs : Fs) (new : Process) (v : World) (space pages : List PageView) (left : Sound (stage fs v new.caller pages)) (others : KeepsOthers (scene (stage c.fs w own.caller space)) (scene (stage fs v new.caller pages))) (rest : OnlyFiles w v) where
     abbrev moved : Shared
     moved = record c { fs = fs }
 
@@ -144,6 +145,7 @@ module _ (c : Shared) (own : Process) (w : World) (sound : IsSoundHand (hand c o
           let now = ap (λ (m : Processes). directories_of m n) key in
           let count = count-changed c.processes own.caller.vpid own new n in
           omega (arith, sound.holds n, others.holds n, one_for-swap own.caller.cwd n, one_for-swap new.caller.cwd n);
+      piped = left.piped;
       named = parts-moved (λ q found. IfSome found (λ other. other.caller.vpid ≡ q)) refl (λ q apart. sound.named q);
       given = parts-moved (λ q found. IsSome found → q < c.pids.next) (λ some. let mine = own-given in omega (arith, others.vpid)) (λ q apart. sound.given q);
       lives = parts-moved (λ q found. IsSome found → lives (members_of c.pids) q ≡ true) (λ some. subst (λ q. lives (members_of c.pids) q ≡ true) (sym others.vpid) own-lives) (λ q apart. sound.lives q);
@@ -170,12 +172,12 @@ module _ (c : Shared) (own : Process) (w : World) (sound : IsSoundHand (hand c o
       let fs : Fs = record c.fs { clock = clock } in
       let before = sound-scene c own w sound [] in
       keeps-called c own w sound fs own w [] []
-      (record { stands = before.stands; is_dir = before.is_dir; all_in = before.all_in; enough = before.enough })
+      (record { stands = before.stands; is_dir = before.is_dir; all_in = before.all_in; enough = before.enough; piped = before.piped })
       (others_kept (scene (stage c.fs w own.caller [])) (scene (stage fs w own.caller [])) refl refl (KeepsHeld-same (tree_of c.fs.tree w.forest)))
       refl
 
   -- open files are closed, and the process's break changes
-  pub keeps-closed : (files : Descriptions) (tree : Table) (new : Process) (v : World) → new.caller ≡ own.caller → IsBacked (at files tree v) → KeepsHolds own.caller.vpid (holding (at c.fs.files c.fs.tree w)) (holding (at files tree v)) → OnlyForest w v → Keeps (hand c own w) (hand (record c { fs = record c.fs { tree = tree; files = files } }) new v) None
+  pub keeps-closed : (files : Files) (tree : Table) (new : Process) (v : World) → new.caller ≡ own.caller → IsBacked (at files tree v) → KeepsHolds own.caller.vpid (holding (at c.fs.files c.fs.tree w)) (holding (at files tree v)) → OnlyFiles w v → Keeps (hand c own w) (hand (record c { fs = record c.fs { tree = tree; files = files } }) new v) None
   keeps-closed files tree new v same backed others rest =
       let fs : Fs = record c.fs { tree = tree; files = files } in
       keeps-called c own w sound fs new v [] []
@@ -220,10 +222,10 @@ module _ (c : Shared) (own : Process) (w : World) (sound : IsSoundHand (hand c o
       by_found (Some other) is = absurd (let below : c.pids.next < c.pids.next = sound.given c.pids.next (subst IsSome (sym is) refl) in omega arith)
 
   -- the pid that is next has no descriptors
-  pub fresh-next : get c.fs.files.tables c.pids.next ≡ None
+  pub fresh-next : get c.fs.files.descriptors.tables c.pids.next ≡ None
   fresh-next = sound.fresh c.pids.next (omega arith)
 
-  module _ (new : Shared) (child : Process) (v : World) (parent : ℕ) (forest : OnlyPids w v) (stands : Stands new.fs.tree v.forest) (tree : tree_of new.fs.tree v.forest ≡ held (tree_of c.fs.tree v.forest) own.caller.cwd) (nodes : KeepsNodes c.pids.next c.fs.files new.fs.files) (pids : procs.Stands new.pids v.pids) (members : members_of new.pids ≡ with_child (members_of c.pids) c.pids.next parent) (next : new.pids.next ≡ c.pids.next + 1) (processes : new.processes ≡ insert c.processes c.pids.next child) (vpid : child.caller.vpid ≡ c.pids.next) (cwd : child.caller.cwd ≡ own.caller.cwd) where
+  module _ (new : Shared) (child : Process) (v : World) (parent : ℕ) (only : OnlyPids w v) (stands : Stands new.fs.tree v.forest) (tree : tree_of new.fs.tree v.forest ≡ held (tree_of c.fs.tree v.forest) own.caller.cwd) (nodes : KeepsNodes c.pids.next c.fs.files.descriptors new.fs.files.descriptors) (pipes : new.fs.files.pipes ≡ c.fs.files.pipes) (ends : new.fs.files.ends ≡ c.fs.files.ends) (pids : procs.Stands new.pids v.pids) (members : members_of new.pids ≡ with_child (members_of c.pids) c.pids.next parent) (next : new.pids.next ≡ c.pids.next + 1) (processes : new.processes ≡ insert c.processes c.pids.next child) (vpid : child.caller.vpid ≡ c.pids.next) (cwd : child.caller.cwd ≡ own.caller.cwd) where
     apart-next : c.pids.next ≢ own.caller.vpid
     apart-next is = let below = own-given c own w sound in omega arith
 
@@ -231,7 +233,7 @@ module _ (c : Shared) (own : Process) (w : World) (sound : IsSoundHand (hand c o
     all-parts = ap (λ (m : Processes). insert m own.caller.vpid own) processes ∙ insert_apart c.processes own.caller.vpid c.pids.next own child apart-next
 
     tree-now : tree_of new.fs.tree v.forest ≡ held (tree_of c.fs.tree w.forest) own.caller.cwd
-    tree-now = tree ∙ ap (λ f. held (tree_of c.fs.tree f) own.caller.cwd) forest
+    tree-now = tree ∙ ap (λ (f : Forest). held (tree_of c.fs.tree f) own.caller.cwd) only.forest
 
     shape-now : shape_of new.fs.tree v.forest ≡ shape_of c.fs.tree w.forest
     shape-now = ap (λ (t : FileTree). t.shape) tree-now ∙ shape-held (tree_of c.fs.tree w.forest) own.caller.cwd
@@ -243,7 +245,7 @@ module _ (c : Shared) (own : Process) (w : World) (sound : IsSoundHand (hand c o
     dir-child : IsDir (shape_of c.fs.tree w.forest) child.caller.cwd
     dir-child = subst (IsDir (shape_of c.fs.tree w.forest)) (sym cwd) (own-dir c own w sound)
 
-    holds-child : (n : ℕ) → holds_of (tree_of new.fs.tree v.forest) n ≡ descriptions_of new.fs.files n + directories_of (insert new.processes own.caller.vpid own) n
+    holds-child : (n : ℕ) → holds_of (tree_of new.fs.tree v.forest) n ≡ descriptions_of new.fs.files.descriptors n + directories_of (insert new.processes own.caller.vpid own) n
     holds-child n =
         let now = ap (λ (t : FileTree). holds_of t n) tree-now in
         let more = holds-held (tree_of c.fs.tree w.forest) sound.stands.tree own.caller.cwd (IsLive-IsDir (shape_of c.fs.tree w.forest) own.caller.cwd (own-dir c own w sound)) n in
@@ -258,11 +260,12 @@ module _ (c : Shared) (own : Process) (w : World) (sound : IsSoundHand (hand c o
     sound-child = record {
       stands = stands;
       pids = pids;
-      all_in = subst (λ s. AllIn s new.fs.files) (sym shape-now) (nodes.all_in (shape_of c.fs.tree w.forest) sound.all_in);
+      all_in = subst (λ s. AllIn s new.fs.files.descriptors) (sym shape-now) (nodes.all_in (shape_of c.fs.tree w.forest) sound.all_in);
       directories = parts-child (λ r found. IfSome found (λ other. IsDir (shape_of new.fs.tree v.forest) other.caller.cwd))
           (subst (λ s. IsDir s child.caller.cwd) (sym shape-now) dir-child)
           (λ r. subst (λ s. IfSome (get present r) (λ other. IsDir s other.caller.cwd)) (sym shape-now) (sound.directories r));
       holds = holds-child;
+      piped = subst (IsPiped new.fs.files) (sym only.pipes) (piped_nodes c.pids.next c.fs.files new.fs.files w.pipes nodes pipes ends sound.piped);
       named = parts-child (λ r found. IfSome found (λ other. other.caller.vpid ≡ r)) vpid (λ r. sound.named r);
       given = parts-child (λ r found. IsSome found → r < new.pids.next) (λ some. omega arith) (λ r some. let below = sound.given r some in omega arith);
       lives = parts-child (λ r found. IsSome found → lives (members_of new.pids) r ≡ true)
@@ -317,7 +320,7 @@ module _ (c : Shared) (own : Process) (w : World) (sound : IsSoundHand (hand c o
   abbrev living : Processes
   living = insert c.processes own.caller.vpid own
 
-  module _ (pids : procs.Table) (v : World) (parent : ℕ) (which : Option ℕ) (vpid : ℕ) (end : End) (rising : procs.IsRising (members_of c.pids)) (found : look_for (members_of c.pids) parent which ≡ Got vpid end) (forest : OnlyPids w v) (stands : procs.Stands pids v.pids) (members : members_of pids ≡ without (members_of c.pids) vpid) (next : pids.next ≡ c.pids.next) where
+  module _ (pids : procs.Table) (v : World) (parent : ℕ) (which : Option ℕ) (vpid : ℕ) (end : End) (rising : procs.IsRising (members_of c.pids)) (found : look_for (members_of c.pids) parent which ≡ Got vpid end) (only : OnlyPids w v) (stands : procs.Stands pids v.pids) (members : members_of pids ≡ without (members_of c.pids) vpid) (next : pids.next ≡ c.pids.next) where
     zombie-dead : lives (members_of c.pids) vpid ≡ false
     zombie-dead =
         let z = lowest (members_of c.pids) parent which vpid end rising found in
@@ -330,11 +333,12 @@ module _ (c : Shared) (own : Process) (w : World) (sound : IsSoundHand (hand c o
     -- a zombie is reaped
     pub sound-reaped : IsSoundHand (hand (record c { pids = pids }) own v)
     sound-reaped = record {
-      stands = subst (Stands c.fs.tree) (sym forest) sound.stands;
+      stands = subst (Stands c.fs.tree) (sym only.forest) sound.stands;
       pids = stands;
-      all_in = subst (λ f. AllIn (shape_of c.fs.tree f) c.fs.files) (sym forest) sound.all_in;
-      directories = λ p. subst (λ f. IfSome (get living p) (λ other. IsDir (shape_of c.fs.tree f) other.caller.cwd)) (sym forest) (sound.directories p);
-      holds = λ n. subst (λ f. holds_of (tree_of c.fs.tree f) n ≡ descriptions_of c.fs.files n + directories_of living n) (sym forest) (sound.holds n);
+      all_in = subst (λ f. AllIn (shape_of c.fs.tree f) c.fs.files.descriptors) (sym only.forest) sound.all_in;
+      directories = λ p. subst (λ f. IfSome (get living p) (λ other. IsDir (shape_of c.fs.tree f) other.caller.cwd)) (sym only.forest) (sound.directories p);
+      holds = λ n. subst (λ f. holds_of (tree_of c.fs.tree f) n ≡ descriptions_of c.fs.files.descriptors n + directories_of living n) (sym only.forest) (sound.holds n);
+      piped = subst (IsPiped c.fs.files) (sym only.pipes) sound.piped;
       named = sound.named;
       given = λ p some. let below = sound.given p some in omega arith;
       lives = λ p some. lives-reaped p (sound.lives p some);

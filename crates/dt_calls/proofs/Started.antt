@@ -1,21 +1,24 @@
 -- What holds when a container begins.
-use Rattle.std.proofs.Common.{arith, ◌≡◌, ◌≢◌, ℕ, ◌+◌, ◌<◌, ◌≤◌, Option, None, Some, true, refl, sym, ap, subst, ◌∙◌}
+use Rattle.std.proofs.Common.{arith, ◌≡◌, ◌≢◌, ℕ, ◌+◌, ◌<◌, ◌≤◌, Option, None, Some, true, false, refl, sym, ap, subst, ◌∙◌}
 use Rattle.std.proofs.lemmas.Bool.Decides.{nat_tests}
-use Rattle.std.specs.Prelude.{List, Bool, IsSome, IfSome}
+use Rattle.std.specs.Prelude.{List, Bool, IsSome, IfSome, is_some}
 use Rattle.std.specs.Ordering.{nat_cmp}
 use Rattle.std.specs.Cmp.{nat_cmp_total}
-use Rattle.std.specs.FinMap.{FinMap, get, insert, empty, get-empty, nat_cmp-IsAntisymmetric}
+use Rattle.std.specs.FinMap.{FinMap, get, insert, empty, get-empty, same_map, nat_cmp-IsAntisymmetric}
 use Rattle.dt_base.specs.declared.image.Entry.{Entry}
 use Rattle.dt_fds.specs.declared.desc.Desc.{Desc}
 use Rattle.dt_fds.specs.declared.desc.DescKind.TheVariants.{Input, Stream}
 use Rattle.dt_fds.specs.declared.desc.TheConstants.{DESCRIPTOR_LIMIT}
 use Rattle.dt_fds.specs.Descriptions.{Descriptions, Table, none_open, opened_at, opened_lowest, first_desc, first_files, with_slot, with_new, lowest_free, table_of}
-use Rattle.dt_fds.specs.Backs.{AllIn, descriptions_of}
+use Rattle.dt_fds.specs.Backs.{AllIn, IsPiped, descriptions_of}
 use Rattle.dt_host.specs.Total.{weight}
-use Rattle.dt_host.specs.World.{World, Forest, IsDir}
+use Rattle.dt_host.specs.World.{World, Forest, Pipes, IsDir}
 use Rattle.dt_host.proofs.Maps.{at_insert, get-insert_same, get-insert_other}
 use Rattle.dt_host.proofs.Spots.{IsLive-IsDir}
 use Rattle.dt_host.proofs.Totals.{total-insert, total-empty}
+use Rattle.dt_pipes.specs.Table as pipes
+use Rattle.dt_pipes.specs.Table.{pipes_of}
+use Rattle.dt_pipes.proofs.Held.{has-pipes_of}
 use Rattle.dt_procs.specs.declared.member.TheConstants.{FIRST_PID}
 use Rattle.dt_procs.specs.Members.{first_members, lives}
 use Rattle.dt_procs.specs.Table as procs
@@ -78,8 +81,8 @@ directories-first n =
 
 -- a container begins: its process holds the root, and nothing is open that names a node
 pub sound-first : (c : SharedInCode) (old : TreeTable) (u w : World) (entries : List Entry) → Stands old u.forest → tree_of old u.forest ≡ image_tree entries → Stands c.fs.tree w.forest → tree_of c.fs.tree w.forest ≡ held (tree_of old u.forest) ROOT → procs.Stands c.pids w.pids
-    → ((n : ℕ) → descriptions_of c.fs.files n ≡ 0) → ((v : Forest) → AllIn v c.fs.files) → c.fs.files ≡ first_files FIRST_PID → c.processes ≡ first_parts → members_of c.pids ≡ first_members → c.pids.next ≡ 2 → IsSound c w
-sound-first c old u w entries was image stands tree pids nodes all files parts members next =
+    → ((n : ℕ) → descriptions_of c.fs.files.descriptors n ≡ 0) → ((v : Forest) → AllIn v c.fs.files.descriptors) → c.fs.files.descriptors ≡ first_files FIRST_PID → IsPiped c.fs.files w.pipes → c.processes ≡ first_parts → members_of c.pids ≡ first_members → c.pids.next ≡ 2 → IsSound c w
+sound-first c old u w entries was image stands tree pids nodes all files piped parts members next =
     let t = tree_of old u.forest in
     let top : IsDir t.shape ROOT = subst (IsDir t.shape) was.tree.root was.tree.shaped.root in
     let dir : IsDir (shape_of c.fs.tree w.forest) ROOT = subst (λ x. IsDir x.shape ROOT) (sym tree) (subst (λ s. IsDir s ROOT) (sym (shape-held t ROOT)) top) in
@@ -95,8 +98,18 @@ sound-first c old u w entries was image stands tree pids nodes all files parts m
           let start = ap (λ x. holds_of x n) image ∙ not_held entries n in
           let dirs = ap (λ m. directories_of m n) parts ∙ directories-first n in
           omega (arith, nodes n, one_for-swap ROOT n);
+      piped = piped;
       named = by (λ q found. IfSome found (λ own. own.caller.vpid ≡ q)) (λ q. tt) refl;
       given = by (λ q found. IsSome found → q < c.pids.next) (λ q some. cc) (λ some. omega (arith, next));
       lives = by (λ q found. IsSome found → lives (members_of c.pids) q ≡ true) (λ q some. cc) (λ some. ap (λ ms. lives ms FIRST_PID) members);
       fresh = λ q late. ap (λ f. get f.tables q) files ∙ tables-first FIRST_PID q (λ is. absurd (omega (arith, next)));
     }
+
+no-some : {A : Type 0} (found : Option A) → is_some found ≡ false → found ≡ None
+no-some None is = refl
+no-some (Some value) is = cc
+
+-- a table of no pipes stands for none
+pub none-held : (t : pipes.Table) (host : Pipes) → t.pipes ≡ empty → pipes_of t host ≡ empty
+none-held t host none = same_map nat_cmp_total nat_cmp-IsAntisymmetric (pipes_of t host) empty
+    (λ q. no-some (get (pipes_of t host) q) (has-pipes_of t host q ∙ ap (λ m. is_some (get m q)) none ∙ ap is_some (get-empty nat_cmp q)) ∙ sym (get-empty nat_cmp q))

@@ -4,6 +4,8 @@ use Rattle.std.specs.Ordering.{nat_cmp}
 use Rattle.std.specs.FinMap.{FinMap, empty, get, insert}
 use Rattle.dt_base.specs.declared.event.Event.{Event}
 use Rattle.dt_fds.specs.Descriptions.{Descriptions, first_files}
+use Rattle.dt_fds.specs.Pipes.{Pipes}
+use Rattle.dt_pipes.specs.declared.pipe.TheConstants.{FIRST_PIPE}
 use Rattle.dt_rv64.specs.declared.machine.Machine.{Machine}
 use Rattle.dt_procs.specs.declared.member.Member.{Member}
 use Rattle.dt_procs.specs.declared.member.TheConstants.{FIRST_PID}
@@ -19,11 +21,12 @@ use Rattle.dt_calls.specs.declared.shared.Process.{Process}
 abbrev pub Processes : Type 0
 Processes = FinMap nat_cmp Process
 
--- all of a container but its machines: the file tree, the open files, the logical time, the seed's words, the processes as
--- their kin see them, zombies included, and the part of each that lives
+-- all of a container but its machines: the file tree, the open files, the pipes, the logical time, the seed's words, the
+-- processes as their kin see them, zombies included, and the part of each that lives
 pub record Shared : Type 0 where
   pub tree : FileTree
   pub files : Descriptions
+  pub pipes : Pipes
   pub clock : ℕ
   pub rand : Seeded
   pub members : List Member
@@ -43,7 +46,7 @@ pub record Container : Type 0 where
 -- a process that has no program yet: its working directory is the root, and it has no data
 abbrev pub blank_process : ℕ → Process
 blank_process vpid = record {
-  caller = record { vpid = vpid; cwd = ROOT; umask = FIRST_UMASK };
+  caller = record { vpid = vpid; cwd = ROOT; umask = FIRST_UMASK; done = 0 };
   program_break = record { start = 0; end = 0 };
 }
 
@@ -55,11 +58,16 @@ process_at c p = unwrap_or (get c.processes p) (blank_process p)
 abbrev pub with_process : Shared → Process → Shared
 with_process c own = record c { processes = insert c.processes own.caller.vpid own }
 
--- what a process finds that starts on a tree: it holds its working directory, and no time has passed
+-- no pipes, none of which has been made
+abbrev pub no_pipes : Pipes
+no_pipes = record { contents = empty; next = FIRST_PIPE }
+
+-- what a process finds that starts on a tree: it holds its working directory, there is no pipe, and no time has passed
 abbrev pub first_shared : FileTree → ℕ → Shared
 first_shared t seed = record {
   tree = held t ROOT;
   files = first_files FIRST_PID;
+  pipes = no_pipes;
   clock = 0;
   rand = seeded_by seed;
   members = first_members;

@@ -2,7 +2,9 @@
 use Rattle.std.specs.Prelude.{ℕ, ◌-◌, ◌^◌, List, [], ◌∷◌, length, Option, None}
 use Rattle.dt_base.specs.declared.answer.Answer.{Answer}
 use Rattle.dt_base.specs.declared.answer.Answer.TheVariants as answer
+use Rattle.dt_base.specs.declared.abi.TheConstants.{SIGPIPE}
 use Rattle.dt_base.specs.declared.errno.Errno.{Errno}
+use Rattle.dt_base.specs.declared.event.End.TheVariants.{Signal}
 use Rattle.dt_base.specs.declared.event.Event.{Event}
 use Rattle.dt_base.specs.declared.event.Event.TheVariants.{Out}
 use Rattle.dt_base.specs.Errno.{errno_number}
@@ -11,7 +13,7 @@ use Rattle.dt_rv64.specs.Effects.{answered, counter_read}
 use Rattle.dt_virt.specs.declared.clock.TheConstants.{READING_TICKS}
 use Rattle.dt_virt.specs.Clock.{later}
 use Rattle.dt_calls.specs.declared.call.effect.Outcome.{Outcome}
-use Rattle.dt_calls.specs.declared.call.effect.Outcome.TheVariants.{Done, Unsupported}
+use Rattle.dt_calls.specs.declared.call.effect.Outcome.TheVariants.{Done, Blocked, Moved, Ends, Unsupported}
 use Rattle.dt_calls.specs.declared.shared.Process.{Process}
 use Rattle.dt_calls.specs.Container.{Shared}
 
@@ -42,11 +44,15 @@ abbrev pub puts_out : Shared → Process → Machine → ℕ → List ℕ → Ef
 puts_out c own m stream bytes =
     record (done c own m (length bytes)) { events = Out stream bytes ∷ [] }
 
--- a call of this number gives its answer
+-- a call of this number gives its answer: one that waits or goes on is tried again in the process's next turn, and SIGPIPE
+-- ends the process
 abbrev pub answers : Shared → Process → Machine → ℕ → Answer → Effect
 answers c own m number (answer.Value value) = done c own m value
 answers c own m number (answer.Refused errno) = refused c own m errno
 answers c own m number (answer.Output stream bytes) = puts_out c own m stream bytes
+answers c own m number answer.Waits = quiet c own m Blocked
+answers c own m number (answer.Part moved) = quiet c own m Moved
+answers c own m number (answer.Pipe value) = quiet c own m (Ends (Signal SIGPIPE))
 answers c own m number answer.Unsupported = quiet c own m (Unsupported number)
 
 -- a counter is read into a register: the reading takes its time, and gives the time after it

@@ -13,9 +13,9 @@ use Rattle.dt_calls.specs.declared.shared.Process.{Process}
 use Rattle.dt_calls.specs.Container.{Shared}
 use Rattle.dt_calls.specs.Effect.{Effect, quiet, refused}
 
--- with these open files, and the tree whose nodes they hold
+-- with these open files, their pipes, and the tree whose nodes they hold
 abbrev pub with_holding : Shared → Holding → Shared
-with_holding c h = record c { tree = h.tree; files = h.files }
+with_holding c h = record c { tree = h.tree; files = h.files; pipes = h.pipes }
 
 -- the process's part: its break is where the program's starts
 abbrev pub with_program : Process → Program → Process
@@ -27,7 +27,7 @@ with_program own program =
 abbrev pub by_program : Shared → Process → Machine → Result Program Errno → Effect
 by_program c own m (Err errno) = refused c own m errno
 by_program c own m (Ok program) =
-    quiet (with_holding c (closed_on_exec own.caller.vpid (over c.tree c.files))) (with_program own program) program.machine Done
+    quiet (with_holding c (closed_on_exec own.caller.vpid (over c.tree c.pipes c.files))) (with_program own program) program.machine Done
 
 -- execve(2)
 unfoldable pub execve_call : Shared → Process → Machine → Effect

@@ -8,6 +8,9 @@ use Rattle.dt_fcalls.specs.Calls.{file_row}
 use Rattle.dt_iocalls.specs.Calls.{is_io, io_row}
 use Rattle.dt_calls.specs.declared.shared.Process.{Process}
 use Rattle.dt_calls.specs.Container.{Shared}
+use Rattle.dt_base.specs.declared.answer.Answer.{Answer}
+use Rattle.dt_base.specs.declared.answer.Answer.TheVariants.{Value, Refused, Output, Waits, Part, Pipe, Unsupported}
+use Rattle.dt_base.specs.declared.caller.Caller.{Caller}
 use Rattle.dt_calls.specs.Effect.{Effect, answers}
 
 -- the arguments of a call: a0 to a5 (syscall(2))
@@ -20,6 +23,7 @@ abbrev pub scene_of : Shared → Process → Machine → Scene
 scene_of c own m = record {
   tree = c.tree;
   files = c.files;
+  pipes = c.pipes;
   clock = c.clock;
   rand = c.rand;
   caller = own.caller;
@@ -28,16 +32,31 @@ scene_of c own m = record {
 
 -- what is shared, as such a call leaves it
 abbrev pub with_scene : Shared → Scene → Shared
-with_scene c s = record c { tree = s.tree; files = s.files; clock = s.clock; rand = s.rand }
+with_scene c s = record c { tree = s.tree; files = s.files; pipes = s.pipes; clock = s.clock; rand = s.rand }
 
 -- the row of the call of a number: one on open files, or one on paths, names, time or random bytes
 unfoldable pub row_of : ℕ → List ℕ → Scene → Row
 row_of number args s = if is_io number then io_row number args s else file_row number args s
 
+-- how many bytes a call has moved that answers so, where it had moved so many before: none once it is over
+abbrev pub done_after : ℕ → Answer → ℕ
+done_after count (Value value) = 0
+done_after count (Refused errno) = 0
+done_after count (Output stream bytes) = 0
+done_after count Waits = count
+done_after count (Part moved) = moved
+done_after count (Pipe value) = 0
+done_after count Unsupported = 0
+
+-- the process that made a call, after its answer
+abbrev pub caller_after : Caller → Answer → Caller
+caller_after caller answer = record caller { done = done_after caller.done answer }
+
 -- the call of a number leaves this, and gives its answer
 abbrev pub left : Shared → Process → Machine → ℕ → Row → Effect
 left c own m number r =
-    answers (with_scene c r.next) (record own { caller = r.next.caller }) (record m { space = r.next.space }) number r.answer
+    answers (with_scene c r.next) (record own { caller = caller_after r.next.caller r.answer })
+    (record m { space = r.next.space }) number r.answer
 
 -- the call of a number, served by its row
 unfoldable pub file_call : ℕ → Shared → Process → Machine → Effect

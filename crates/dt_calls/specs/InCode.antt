@@ -4,6 +4,7 @@ use Rattle.std.specs.Ordering.{nat_cmp}
 use Rattle.std.specs.FinMap.{FinMap, empty, entries, get, insert, remove}
 use Rattle.dt_base.specs.declared.event.Event.{Event}
 use Rattle.dt_rv64.specs.declared.machine.Machine.{Machine}
+use Rattle.dt_fds.specs.OpenFiles.{pipes_at}
 use Rattle.dt_host.specs.World.{World}
 use Rattle.dt_procs.specs.Table.{members_of}
 use Rattle.dt_tree.specs.Table.{tree_of}
@@ -17,7 +18,7 @@ use Rattle.dt_calls.specs.Effect.{Effect}
 use Rattle.dt_calls.specs.Launch.{Launched}
 use Rattle.dt_calls.specs.Settle.{Turned}
 
--- a container in code: its tables of inodes and pids stand for a tree and for processes where what the host keeps is known;
+-- a container in code: its tables of inodes, pipes and pids stand for a tree, for pipes and for processes where what the host keeps is known;
 -- each live process has a place for its machine, which is empty where the machine is away
 pub record ContainerView : Type 0 where
   pub shared : SharedInCode
@@ -28,7 +29,8 @@ pub record ContainerView : Type 0 where
 abbrev pub shared_of : SharedInCode → World → Shared
 shared_of c w = record {
   tree = tree_of c.fs.tree w.forest;
-  files = c.fs.files;
+  files = c.fs.files.descriptors;
+  pipes = pipes_at c.fs.files w.pipes;
   clock = c.fs.clock;
   rand = c.fs.rand;
   members = members_of c.pids;

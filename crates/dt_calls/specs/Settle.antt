@@ -14,7 +14,7 @@ use Rattle.dt_tree.specs.Changes.{released}
 use Rattle.dt_calls.specs.declared.call.effect.Outcome.{Outcome}
 use Rattle.dt_calls.specs.declared.call.effect.Outcome.TheVariants as outcome
 use Rattle.dt_calls.specs.declared.container.Served.{Served}
-use Rattle.dt_calls.specs.declared.container.Served.TheVariants.{Done, Child, LastChild, Blocked, Ended, Unsupported}
+use Rattle.dt_calls.specs.declared.container.Served.TheVariants.{Done, Child, LastChild, Blocked, Moved, Ended, Unsupported}
 use Rattle.dt_calls.specs.declared.numbers.TheConstants.{SIGKILL}
 use Rattle.dt_calls.specs.Container.{Shared, Container, Machines, process_at, with_process}
 use Rattle.dt_calls.specs.Effect.{Effect}
@@ -33,7 +33,7 @@ pub record Settled : Type 0 where
 -- a process has nothing open, and holds its working directory no longer
 abbrev pub let_go : ℕ → Shared → Shared
 let_go p c =
-    let left = with_holding c (dropped p (over c.tree c.files)) in
+    let left = with_holding c (dropped p (over c.tree c.pipes c.files)) in
     record left { tree = released left.tree (process_at c p).caller.cwd }
 
 -- a process ends: its part goes, its children go to the first process, and its end is kept until it is reaped
@@ -68,7 +68,7 @@ abbrev pub is_gone : ℕ → Option Machine → Served
 is_gone next None = Ended
 is_gone next (Some m) = LastChild next
 
--- a process goes on with its machine, or waits with it; or it ends, which shows; or it stays at a call that isn't supported
+-- a process goes on with its machine, or waits with it, or goes on with its call; or it ends, which shows; or it stays at a call that isn't supported
 abbrev pub settled_by : ℕ → ℕ → Effect → Outcome → Settled
 settled_by next p r outcome.Done = record {
   shared = with_process r.shared r.own;
@@ -83,6 +83,13 @@ settled_by next p r outcome.Blocked = record {
   child = r.child;
   events = r.events;
   served = Blocked;
+}
+settled_by next p r outcome.Moved = record {
+  shared = with_process r.shared r.own;
+  own = Some r.machine;
+  child = r.child;
+  events = r.events;
+  served = Moved;
 }
 settled_by next p r (outcome.Ends end) = let c = with_process r.shared r.own in record {
   shared = ends p end c;
@@ -103,7 +110,7 @@ settled_by next p r (outcome.Unsupported number) = record {
 unfoldable pub settle : ℕ → ℕ → Effect → Settled
 settle next p r = settled_by next p r r.outcome
 
--- a stop of a process with this machine is served, and what becomes of it is settled; a waiting call is served again
+-- a stop of a process with this machine is served, and what becomes of it is settled; a call that waits or goes on is served again
 unfoldable pub serve_machine : Shared → ℕ → ℕ → Stop → Machine → Settled
 serve_machine c next p stop m = settle next p (served c next (process_at c p) m stop)
 
@@ -113,6 +120,7 @@ all_ended p Done = false
 all_ended p (Child v) = false
 all_ended p (LastChild v) = p == FIRST_PID
 all_ended p Blocked = false
+all_ended p Moved = false
 all_ended p Ended = p == FIRST_PID
 all_ended p (Unsupported number) = false
 

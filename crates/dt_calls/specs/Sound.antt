@@ -1,7 +1,7 @@
 -- What holds between stops of a container in code, with what its host keeps.
 use Rattle.std.specs.Prelude.{◌≡◌, ℕ, ◌+◌, ◌<◌, ◌≤◌, length, true, Option, None, IsSome, IfSome, Result, IfOk, IsErrOf}
 use Rattle.std.specs.FinMap.{get, insert, keys}
-use Rattle.dt_fds.specs.Backs.{AllIn, descriptions_of}
+use Rattle.dt_fds.specs.Backs.{AllIn, IsPiped, descriptions_of}
 use Rattle.dt_host.specs.Cause.{HasCause}
 use Rattle.dt_host.specs.declared.error.HostErr.{HostErr}
 use Rattle.dt_host.specs.declared.error.HostErr.TheVariants.{Failed}
@@ -27,20 +27,21 @@ use Rattle.dt_calls.specs.Settle.{next_after}
 abbrev pub directories_of : Processes → ℕ → ℕ
 directories_of processes n = total (λ (own : Process). one_for own.caller.cwd n) processes
 
--- the table of the tree stands for it, with the host's nodes, and that of the processes for theirs, with the host's pids; what
+-- the table of the tree stands for it, with the host's nodes, those of the pipes and of the processes for theirs; what
 -- is open is in the tree, and the working directory of each live process is a directory of it; each node is held once for each
 -- description and each working directory that names it; each part of a process stands under its pid, which was given before,
 -- and the process lives; and no pid that is still to be given has descriptors
 pub record IsSound (c : Shared) (w : World) : Type 0 where
   pub stands : Stands c.fs.tree w.forest
   pub pids : procs.Stands c.pids w.pids
-  pub all_in : AllIn (shape_of c.fs.tree w.forest) c.fs.files
+  pub all_in : AllIn (shape_of c.fs.tree w.forest) c.fs.files.descriptors
   pub directories : (p : ℕ) → IfSome (get c.processes p) (λ own. IsDir (shape_of c.fs.tree w.forest) own.caller.cwd)
-  pub holds : (n : ℕ) → holds_of (tree_of c.fs.tree w.forest) n ≡ descriptions_of c.fs.files n + directories_of c.processes n
+  pub holds : (n : ℕ) → holds_of (tree_of c.fs.tree w.forest) n ≡ descriptions_of c.fs.files.descriptors n + directories_of c.processes n
+  pub piped : IsPiped c.fs.files w.pipes
   pub named : (p : ℕ) → IfSome (get c.processes p) (λ own. own.caller.vpid ≡ p)
   pub given : (p : ℕ) → IsSome (get c.processes p) → p < c.pids.next
   pub lives : (p : ℕ) → IsSome (get c.processes p) → lives (members_of c.pids) p ≡ true
-  pub fresh : (p : ℕ) → c.pids.next ≤ p → get c.fs.files.tables p ≡ None
+  pub fresh : (p : ℕ) → c.pids.next ≤ p → get c.fs.files.descriptors.tables p ≡ None
 
 -- each place for a machine is one of a live process
 abbrev pub IsPaired : ContainerView → Type 0

@@ -14,7 +14,8 @@ use Rattle.dt_rv64.specs.Effects.{register}
 use Rattle.dt_space.specs.declared.access.TheConstants.{WRITE}
 use Rattle.dt_space.specs.Space.{PageView, load}
 use Rattle.dt_space.specs.Write.{write}
-use Rattle.dt_scene.specs.Arguments.{has_only, has}
+use Rattle.dt_scene.specs.Arguments.{has_only}
+use Rattle.dt_base.specs.Abi.{has}
 use Rattle.dt_calls.specs.declared.call.effect.Outcome.TheVariants.{Blocked, Unsupported}
 use Rattle.dt_calls.specs.declared.numbers.TheConstants.{WAIT4, WNOHANG, WAIT_OPTIONS, RUSAGE_SIZE}
 use Rattle.dt_calls.specs.declared.shared.Process.{Process}

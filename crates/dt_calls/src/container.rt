@@ -48,6 +48,8 @@ pub enum Served {
     LastChild(u32),
     /// Its call waits, and is tried again in its next turn.
     Blocked,
+    /// Its call has moved some bytes, and goes on in its next turn.
+    Moved,
     /// It has ended.
     Ended,
     /// It stays at its stop: its call, by its number, isn't supported.
@@ -68,13 +70,14 @@ pub struct Container {
 impl Model for Container {
     ghost use Rattle.std.specs.Coded.{codes, coded_ℕ};
     ghost use Rattle.std.specs.FinMap.{code};
-    ghost use Rattle.dt_fds.specs.inner.Codes.{descriptions_code};
+    ghost use Rattle.dt_fds.specs.inner.Codes.{descriptions_code, ends_code};
+    ghost use Rattle.dt_pipes.specs.inner.Codes.{table_code as pipes_code};
     ghost use Rattle.dt_tree.specs.inner.Codes.{table_code};
     ghost use Rattle.dt_calls.specs.InCode.{ContainerView};
 
     ghost Value = { ContainerView };
 
-    ghost coded = { Prim.hlevel (codes, table_code, descriptions_code, code, coded_ℕ) };
+    ghost coded = { Prim.hlevel (codes, table_code, descriptions_code, pipes_code, ends_code, code, coded_ℕ) };
 
     ghost view = { λ c. record { shared = c.shared; places = c.places; events = c.events.items } };
 }
@@ -204,7 +207,7 @@ impl Container {
         self.settle(host, next, own, effect)
     }
 
-    /// Tries the waiting call of a process again.
+    /// Tries the call of a process again, which waits or goes on.
     pub fn retry<H: Host>(
         &mut self,
         alloc: Global,

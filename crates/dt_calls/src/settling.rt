@@ -85,6 +85,11 @@ impl Container {
                 self.counted();
                 Ok(Served::Blocked)
             }
+            Outcome::Moved => {
+                self.enter(next, effect.child)?;
+                self.counted();
+                Ok(Served::Moved)
+            }
             Outcome::Unsupported(number) => {
                 self.enter(next, effect.child)?;
                 self.counted();

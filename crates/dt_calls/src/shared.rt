@@ -1,6 +1,6 @@
 // What the processes of a container share, and the part of each.
 ghost use Rattle.std.specs.Prelude.{◌≡◌, ◌+◌, List, Some, IsSome, IfOk, IsErrOf};
-ghost use Rattle.std.specs.FinMap.{get};
+ghost use Rattle.std.specs.FinMap.{empty, get};
 ghost use Rattle.std.specs.FinSet as pid_set;
 ghost use Rattle.dt_host.specs.Cause.{HasCause};
 ghost use Rattle.dt_base.specs.declared.image.Entry.{Entry};
@@ -50,6 +50,7 @@ impl Process {
                 vpid: FIRST_PID,
                 cwd: ROOT,
                 umask: FIRST_UMASK,
+                done: 0,
             },
             program_break: Break { start: 0, end: 0 },
         }
@@ -68,6 +69,7 @@ impl Shared {
         requires stands { Stands tree (H.view host.old).forest }
         requires image { (entries : List Entry) × (tree_of tree (H.view host.old).forest ≡ image_tree entries) }
         requires no_pids { (H.view host.old).pids ≡ pid_set.empty }
+        requires no_pipes { (H.view host.old).pipes ≡ empty }
         ensures ok { IfOk result (λ c. shared_of c (H.view host.new)
             ≡ first_shared (tree_of tree (H.view host.old).forest) seed) }
         ensures next { IfOk result (λ c. c.pids.next ≡ FIRST_PID + 1) }

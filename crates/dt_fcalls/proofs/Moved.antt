@@ -15,7 +15,7 @@ use Rattle.dt_tree.proofs.Holding.{holds-held, holds-released, shape-held, IsFil
 use Rattle.dt_tree.proofs.Namings.{one_for-same, one_for-other}
 use Rattle.dt_scene.specs.declared.fs.Fs.{Fs}
 use Rattle.dt_fcalls.specs.Nodes.{with_cwd}
-use Rattle.dt_fds.specs.Backs.{AllIn, descriptions_of}
+use Rattle.dt_fds.specs.Backs.{AllIn, IsPiped, descriptions_of}
 use Rattle.dt_scene.proofs.Kept.{all_in-through, cwd_held}
 use Rattle.dt_scene.specs.Sound.{Sound, Ends, stage}
 
@@ -70,14 +70,19 @@ held_still old mid v n c stands is grown some =
 -- the working directory is another
 pub reaches_moved : (fs : Fs) (new : Table) (w v : World) (caller : Caller) (space : List PageView) (n before now : ℕ) → Sound (stage fs w caller space) → IsDir (shape_of fs.tree w.forest) n → Stands new v.forest → tree_of new v.forest ≡ released (held (tree_of fs.tree w.forest) n) caller.cwd → OnlyForest w v → before ≤ now → Ends (with_cwd n) (stage fs w caller space) (stage (record fs { tree = new }) v (record caller { cwd = n }) space) (Ok (Value 0)) before now
 reaches_moved fs new w v caller space n before now sound is stands tree rest later = record {
-  served = cc;
+  served = let same = rest.pipes in cc;
   sound = record {
     stands = stands;
     is_dir = subst (λ t. IsDir t.shape n) (sym tree) (new-dir t n caller.cwd sound.stands.tree live some is);
-    all_in = subst (λ t. AllIn t.shape fs.files) (sym tree) (let new = released (held t n) caller.cwd in all_in-through fs.files t.shape new.shape open-file open-dir sound.all_in);
+    all_in =
+        let f = fs.files.descriptors in
+        let new = released (held t n) caller.cwd in
+        subst (λ t. AllIn t.shape f) (sym tree)
+        (all_in-through f t.shape new.shape open-file open-dir sound.all_in);
     enough = λ q.
         let now = ap (λ t. holds_of t q) tree in
         omega (arith, sound.enough q, holds-moved t n caller.cwd sound.stands.tree live some q);
+    piped = subst (IsPiped fs.files) (sym rest.pipes) sound.piped;
   };
   others = record {
     vpid = refl;
@@ -88,7 +93,7 @@ reaches_moved fs new w v caller space n before now sound is stands tree rest lat
     files = λ q enough file. subst (λ t. IsFile t.shape q) (sym tree) (files-moved t n caller.cwd sound.stands.tree live some q (omega arith) file);
     dirs = λ q enough dir. subst (λ t. IsDir t.shape q) (sym tree) (dirs-moved t n caller.cwd sound.stands.tree live some q (omega arith) dir);
   };
-  rest = rest;
+  rest = rest.pids;
   cause = record { later = later; rose = λ failed. cc };
 }
   where
@@ -101,8 +106,10 @@ reaches_moved fs new w v caller space n before now sound is stands tree rest lat
     some : 1 ≤ holds_of t caller.cwd
     some = cwd_held fs w caller space sound
 
-    open-file : (q : ℕ) → 1 ≤ descriptions_of fs.files q → IsFile t.shape q → (let new = released (held t n) caller.cwd in IsFile new.shape q)
+    open-file : (q : ℕ) → 1 ≤ descriptions_of fs.files.descriptors q → IsFile t.shape q
+        → (let new = released (held t n) caller.cwd in IsFile new.shape q)
     open-file q one file = files-moved t n caller.cwd sound.stands.tree live some q (omega (arith, sound.enough q)) file
 
-    open-dir : (q : ℕ) → 1 ≤ descriptions_of fs.files q → IsDir t.shape q → (let new = released (held t n) caller.cwd in IsDir new.shape q)
+    open-dir : (q : ℕ) → 1 ≤ descriptions_of fs.files.descriptors q → IsDir t.shape q
+        → (let new = released (held t n) caller.cwd in IsDir new.shape q)
     open-dir q one dir = dirs-moved t n caller.cwd sound.stands.tree live some q (omega (arith, sound.enough q)) dir

@@ -8,6 +8,7 @@ use Rattle.dt_base.specs.declared.errno.Errno.TheVariants.{NoEnt, NoSpc, FBig}
 use Rattle.dt_base.specs.declared.image.What.TheVariants.{File}
 use Rattle.dt_base.specs.declared.limits.TheConstants.{FILE_LIMIT}
 use Rattle.dt_base.specs.Bytes.{resized}
+use Rattle.dt_fds.specs.OpenFiles.{pipes_at}
 use Rattle.dt_host.specs.World.{World, Forest, OnlyForest, file, dir, IsFile, IsDir, node_at, names_at, content, with_node, with_entry}
 use Rattle.dt_host.proofs.Spots.{IsLive-IsDir}
 use Rattle.dt_host.proofs.Worlds.{node_at-with_node, node_at-with_node_other, IsFile-with_bytes}
@@ -33,10 +34,14 @@ pub steps_done : {A : Type 0} (d : Scene → Done A) (old : Fs) (tree : Table) (
 steps_done d old tree clock w v caller space value before now sound stands kept rest later at is =
     let s = scene (stage old w caller space) in
     let new : Fs = record { tree = tree; files = old.files; clock = clock; rand = old.rand } in
+    let after = scene (stage new v caller space) in
     record {
-      next = λ row. ap (λ x. on_done s x row) is ∙ ap (λ ticks. row value (record s { tree = tree_of tree v.forest; clock = ticks })) (sym at);
-      sound = sound_kept old new w v caller space space sound stands kept refl;
-      others = others_kept s (scene (stage new v caller space)) refl refl kept;
+      next = λ row.
+          ap (λ x. on_done s x row) is
+          ∙ ap (λ ticks. row value (record s { tree = tree_of tree v.forest; clock = ticks })) (sym at)
+          ∙ ap (λ host. row value (record after { pipes = pipes_at old.files host })) (sym rest.pipes);
+      sound = sound_kept old new w v caller space space sound stands kept refl rest.pipes;
+      others = others_kept s after refl refl kept;
       rest = rest;
       cause = record { later = later; rose = λ failed. cc };
     }

@@ -9,7 +9,7 @@ use Rattle.dt_base.specs.declared.limits.TheConstants.{PATH_LIMIT}
 use Rattle.dt_base.specs.Path.{begins_with_slash}
 use Rattle.dt_fds.specs.declared.desc.Desc.{Desc}
 use Rattle.dt_fds.specs.declared.desc.DescKind.{DescKind}
-use Rattle.dt_fds.specs.declared.desc.DescKind.TheVariants.{File, Dir, Input, Stream}
+use Rattle.dt_fds.specs.declared.desc.DescKind.TheVariants.{File, Dir, PipeRead, PipeWrite, Input, Stream}
 use Rattle.dt_scene.specs.Scene.{Scene, described}
 use Rattle.dt_space.specs.Space.{PageView}
 use Rattle.dt_space.specs.declared.access.TextErr.{TextErr}
@@ -41,6 +41,8 @@ path_argument pages address = not_empty (text_argument pages address)
 abbrev pub dir_of : DescKind → Result ℕ Errno
 dir_of (File n) = Err NotDir
 dir_of (Dir n) = Ok n
+dir_of (PipeRead q) = Err NotDir
+dir_of (PipeWrite q) = Err NotDir
 dir_of Input = Err NotDir
 dir_of (Stream stream) = Err NotDir
 

@@ -1,6 +1,6 @@
 -- The calls that make and add names: mkdirat(2), symlinkat(2), linkat(2).
 use Rattle.std.specs.Prelude.{ℕ, ◌-◌, not, List, Option, None, Some, is_some, Result, Ok, Err, bit_and, if◌then◌else◌}
-use Rattle.dt_base.specs.Abi.{low_word}
+use Rattle.dt_base.specs.Abi.{has, low_word}
 use Rattle.dt_base.specs.declared.abi.TheConstants.{AT_SYMLINK_FOLLOW}
 use Rattle.dt_base.specs.declared.caller.Caller.{Caller}
 use Rattle.dt_base.specs.declared.errno.Errno.{Errno}
@@ -14,7 +14,7 @@ use Rattle.dt_walk.specs.declared.place.Place.{Place}
 use Rattle.dt_fcalls.specs.declared.modes.TheConstants.{DIR_MODES}
 use Rattle.dt_fcalls.specs.declared.places.LastLink.{LastLink}
 use Rattle.dt_fcalls.specs.declared.places.LastLink.TheVariants.{Follow, Keep, KeepWithoutSlash}
-use Rattle.dt_scene.specs.Arguments.{argument, has_only, has}
+use Rattle.dt_scene.specs.Arguments.{argument, has_only}
 use Rattle.dt_fcalls.specs.Arguments.{path_argument}
 use Rattle.dt_fcalls.specs.Places.{place_at, on_place, on_path}
 use Rattle.dt_scene.specs.Scene.{Scene, Row, refused, stamp, by_done}

@@ -1,7 +1,7 @@
 -- The call that opens files and directories: openat(2).
 use Rattle.std.specs.Prelude.{ℕ, ◌==◌, ◌&&◌, ◌||◌, Bool, not, List, [], Option, None, Some, Result, Ok, Err, bit_and, if◌then◌else◌}
 use Rattle.std.specs.Option.{is_none}
-use Rattle.dt_base.specs.Abi.{low_word}
+use Rattle.dt_base.specs.Abi.{has, low_word}
 use Rattle.dt_base.specs.declared.abi.TheConstants.{O_ACCMODE, O_CREAT, O_EXCL, O_TRUNC, O_APPEND, O_NONBLOCK, O_DIRECTORY, O_NOFOLLOW, O_CLOEXEC}
 use Rattle.dt_base.specs.declared.errno.Errno.{Errno}
 use Rattle.dt_base.specs.declared.errno.Errno.TheVariants.{NoEnt, Exist, NotDir, IsDir, Inval, MFile, Loop}
@@ -25,7 +25,7 @@ use Rattle.dt_fcalls.specs.declared.places.LastLink.TheVariants.{Follow, Keep, K
 use Rattle.dt_fcalls.specs.Arguments.{path_argument, start_of}
 use Rattle.dt_fcalls.specs.Names.{masked, on_text, unless_refused}
 use Rattle.dt_fcalls.specs.Places.{place_from, on_place}
-use Rattle.dt_scene.specs.Arguments.{argument, has_only, has}
+use Rattle.dt_scene.specs.Arguments.{argument, has_only}
 use Rattle.dt_scene.specs.Scene.{Scene, Row, refused, unsupported, stamp, changed_to, holding, by_outcome}
 
 -- the access mode: 0 to read, 1 to write, 2 for both

@@ -3,7 +3,7 @@ use Rattle.std.specs.Prelude.{ℕ, ◌+◌, ◌-◌, ◌/◌, ◌%◌, ◌==◌,
 use Rattle.dt_base.specs.Fields.{with_field}
 use Rattle.dt_tree.specs.declared.limits.TheConstants.{DT_DIR, DT_REG, DT_LNK}
 use Rattle.dt_tree.specs.declared.meta.Meta.{Meta}
-use Rattle.dt_fcalls.specs.declared.stat.TheConstants.{STAT_LEN, ST_DEV, ST_INO, ST_MODE, ST_NLINK, ST_SIZE, ST_BLKSIZE, ST_BLOCKS, ST_ATIME, ST_MTIME, ST_CTIME, NANOSECONDS, S_IFREG, S_IFDIR, S_IFLNK, DEVICE, BLOCK_SIZE, SECTOR_SIZE, STREAM_INODE, STREAM_MODE}
+use Rattle.dt_fcalls.specs.declared.stat.TheConstants.{STAT_LEN, ST_DEV, ST_INO, ST_MODE, ST_NLINK, ST_SIZE, ST_BLKSIZE, ST_BLOCKS, ST_ATIME, ST_MTIME, ST_CTIME, NANOSECONDS, S_IFREG, S_IFDIR, S_IFLNK, DEVICE, BLOCK_SIZE, SECTOR_SIZE, STREAM_INODE, STREAM_MODE, PIPE_MODE}
 use Rattle.dt_fcalls.specs.declared.stat.Status.{Status}
 use Rattle.dt_fcalls.specs.declared.time.TheConstants.{FIRST_SECOND, SECOND_TICKS}
 
@@ -26,9 +26,17 @@ status_of n meta = record {
   stamp = meta.stamp;
 }
 
--- the status of the input and of the output streams: a character device, which nothing changes
+-- the status of what is outside the tree, which nothing changes
+abbrev pub outer_status : ℕ → ℕ → Status
+outer_status inode mode = record { inode = inode; mode = mode; nlink = 1; size = 0; blocks = 0; stamp = 0 }
+
+-- the status of the input and of the output streams: a character device
 abbrev pub stream_status : Status
-stream_status = record { inode = STREAM_INODE; mode = STREAM_MODE; nlink = 1; size = 0; blocks = 0; stamp = 0 }
+stream_status = outer_status STREAM_INODE STREAM_MODE
+
+-- the status of either end of the pipe of this number
+abbrev pub pipe_status : ℕ → Status
+pipe_status q = outer_status (STREAM_INODE + q) PIPE_MODE
 
 -- what tells which node it is
 abbrev pub with_identity : Status → List ℕ → List ℕ
@@ -63,3 +71,7 @@ stat_of n meta = status_bytes (status_of n meta)
 -- the bytes of the status of the input and of the output streams
 abbrev pub stream_stat : List ℕ
 stream_stat = status_bytes stream_status
+
+-- the bytes of the status of either end of a pipe
+abbrev pub pipe_stat : ℕ → List ℕ
+pipe_stat q = status_bytes (pipe_status q)

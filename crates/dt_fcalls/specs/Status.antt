@@ -1,12 +1,12 @@
 -- The calls that tell of a node or a path: getcwd(2), readlinkat(2), fstat(2), newfstatat(2).
 use Rattle.std.specs.Prelude.{ℕ, Bool, true, false, not, ◌&&◌, List, [], ◌∷◌, ◌++◌, length, take, Option, None, Some, Result, Ok, Err, nat_lt, int_le, pos, if◌then◌else◌}
 use Rattle.std.specs.Ordering.{int_eq}
-use Rattle.dt_base.specs.Abi.{low_word, signed_word}
+use Rattle.dt_base.specs.Abi.{has, low_word, signed_word}
 use Rattle.dt_base.specs.declared.abi.TheConstants.{AT_FDCWD, AT_EMPTY_PATH, AT_SYMLINK_NOFOLLOW}
 use Rattle.dt_base.specs.declared.errno.Errno.{Errno}
 use Rattle.dt_base.specs.declared.errno.Errno.TheVariants.{NoEnt, Inval, Range}
 use Rattle.dt_fds.specs.declared.desc.DescKind.{DescKind}
-use Rattle.dt_fds.specs.declared.desc.DescKind.TheVariants.{File, Dir, Input, Stream}
+use Rattle.dt_fds.specs.declared.desc.DescKind.TheVariants.{File, Dir, PipeRead, PipeWrite, Input, Stream}
 use Rattle.dt_host.specs.World.{target_at}
 use Rattle.dt_space.specs.Space.{PageView}
 use Rattle.dt_tree.specs.Above.{path_of}
@@ -15,11 +15,11 @@ use Rattle.dt_tree.specs.Meta.{meta_of}
 use Rattle.dt_fcalls.specs.declared.places.LastLink.{LastLink}
 use Rattle.dt_fcalls.specs.declared.places.LastLink.TheVariants.{Follow, KeepWithoutSlash}
 use Rattle.dt_fcalls.specs.declared.stat.TheConstants.{STAT_FLAGS}
-use Rattle.dt_scene.specs.Arguments.{argument, has_only, has}
+use Rattle.dt_scene.specs.Arguments.{argument, has_only}
 use Rattle.dt_fcalls.specs.Arguments.{text_argument}
 use Rattle.dt_fcalls.specs.Places.{on_path}
 use Rattle.dt_scene.specs.Scene.{Scene, Row, refused, described, on_description}
-use Rattle.dt_fcalls.specs.Stat.{stat_of, stream_stat}
+use Rattle.dt_fcalls.specs.Stat.{stat_of, stream_stat, pipe_stat}
 use Rattle.dt_scene.specs.Filling.{fills, fills_whole}
 
 -- a text goes to a buffer, its NUL included: ERANGE where the buffer is too short
@@ -64,6 +64,8 @@ tells_status buffer n s = fills_status s buffer n (meta_of s.tree n)
 abbrev pub tells_kind : ℕ → DescKind → Scene → Row
 tells_kind buffer (File n) s = tells_status buffer n s
 tells_kind buffer (Dir n) s = tells_status buffer n s
+tells_kind buffer (PipeRead q) s = fills s buffer (pipe_stat q) 0
+tells_kind buffer (PipeWrite q) s = fills s buffer (pipe_stat q) 0
 tells_kind buffer Input s = fills s buffer stream_stat 0
 tells_kind buffer (Stream stream) s = fills s buffer stream_stat 0
 

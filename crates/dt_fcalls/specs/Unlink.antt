@@ -1,6 +1,6 @@
 -- The call that takes a name away: unlinkat(2), which is unlink(2), and rmdir(2) with AT_REMOVEDIR.
 use Rattle.std.specs.Prelude.{ℕ, Bool, true, false, not, List, Option, None, Some, if◌then◌else◌}
-use Rattle.dt_base.specs.Abi.{low_word}
+use Rattle.dt_base.specs.Abi.{has, low_word}
 use Rattle.dt_base.specs.declared.abi.TheConstants.{AT_REMOVEDIR}
 use Rattle.dt_base.specs.declared.errno.Errno.{Errno}
 use Rattle.dt_base.specs.declared.errno.Errno.TheVariants.{Busy, NotDir, IsDir, Inval, NotEmpty}
@@ -10,7 +10,7 @@ use Rattle.dt_tree.specs.Shape.{is_dir, is_bare}
 use Rattle.dt_walk.specs.declared.place.Place.{Place}
 use Rattle.dt_walk.specs.Placed.{is_dot, is_dot_dot, is_special}
 use Rattle.dt_fcalls.specs.declared.places.LastLink.TheVariants.{Keep}
-use Rattle.dt_scene.specs.Arguments.{argument, has_only, has}
+use Rattle.dt_scene.specs.Arguments.{argument, has_only}
 use Rattle.dt_scene.specs.Scene.{by_done}
 use Rattle.dt_fcalls.specs.Names.{unless_refused}
 use Rattle.dt_fcalls.specs.Places.{place_at, on_place, on_node}

@@ -58,7 +58,11 @@ fn dir_described<H: Host>(
     };
     match desc.kind {
         DescKind::Dir(n) => Ok(n),
-        DescKind::File(_) | DescKind::Input | DescKind::Stream(_) => Err(Errno::NotDir),
+        DescKind::File(_)
+        | DescKind::PipeRead(_)
+        | DescKind::PipeWrite(_)
+        | DescKind::Input
+        | DescKind::Stream(_) => Err(Errno::NotDir),
     }
 }
 

@@ -2,7 +2,7 @@
 ghost use Rattle.std.specs.Prelude.{◌≡◌, ◌≤◌, None, false, IfOk, OnOk, IsTrue};
 ghost use Rattle.dt_base.specs.Path.{has_no_nul};
 ghost use Rattle.dt_fds.specs.Backs.{IsIn};
-ghost use Rattle.dt_fds.specs.Descriptions.{IsDesc};
+ghost use Rattle.dt_fds.specs.Descriptions.{IsDesc, pipe_of};
 ghost use Rattle.dt_host.specs.Asks.{Asks};
 ghost use Rattle.dt_base.specs.declared.limits.TheConstants.{MODE_LIMIT as MOST};
 ghost use Rattle.dt_fcalls.specs.inner.Steps.{Steps};
@@ -20,12 +20,12 @@ use crate::names::masked;
 use crate::places::{LastLink, walk_from};
 use dt_base::abi::{
     O_ACCMODE, O_APPEND, O_CLOEXEC, O_CREAT, O_DIRECTORY, O_EXCL, O_LARGEFILE, O_NOCTTY,
-    O_NOFOLLOW, O_NONBLOCK, O_RDWR, O_TRUNC, O_WRONLY, low_word,
+    O_NOFOLLOW, O_NONBLOCK, O_RDWR, O_TRUNC, O_WRONLY, has, low_word,
 };
 use dt_base::{Answer, Blob, Caller, Errno, MODE_LIMIT, What};
 use dt_fds::{Desc, DescKind, Spot};
 use dt_host::{CallErr, Host, HostErr};
-use dt_scene::{Fs, has};
+use dt_scene::Fs;
 use dt_space::Space;
 use dt_tree::Tree;
 use dt_walk::Place;
@@ -99,6 +99,7 @@ fn open_desc<H: Host>(
     requires sound { Sound (stage fs.old (H.view host.now) caller.now space.now) }
     requires good { IsDesc desc }
     requires there { IsIn (shape_of fs.old.tree (H.view host.now).forest) desc.kind }
+    requires no_end { pipe_of desc.kind ≡ None }
     ensures { Ends (opens flags desc) (stage fs.old (H.view host.now) caller.now space.now)
         (stage fs.new (H.view host.now) caller.now space.now) result (H.count host.now) (H.count host.now) }
 {

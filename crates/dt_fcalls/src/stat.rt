@@ -1,8 +1,9 @@
 //! The layout of `struct stat` on 64-bit RISC-V, and what its fields hold (asm-generic/stat.h).
-ghost use Rattle.std.specs.Prelude.{◌≡◌, ◌+◌, ◌≤◌, length, replicate};
+ghost use Rattle.std.specs.Prelude.{◌≡◌, ◌+◌, ◌≤◌, length};
 ghost use Rattle.dt_fcalls.specs.declared.stat.TheConstants.{STAT_LEN as LEN, NANOSECONDS as HALF};
-ghost use Rattle.dt_fcalls.specs.Stat.{type_bits, st_blocks, status_of, stream_status, with_identity, with_size};
-ghost use Rattle.dt_fcalls.specs.Stat.{with_time, with_times, status_bytes, stat_of, stream_stat};
+ghost use Rattle.dt_fcalls.specs.Stat.{type_bits, st_blocks, status_of, outer_status, stream_status, pipe_status};
+ghost use Rattle.dt_fcalls.specs.Stat.{with_identity, with_size, with_time, status_bytes};
+ghost use Rattle.dt_fcalls.specs.Stat.{stat_of, stream_stat, pipe_stat};
 
 use crate::time::{FIRST_SECOND, SECOND_TICKS};
 use dt_base::abi::{AT_EMPTY_PATH, AT_NO_AUTOMOUNT, AT_SYMLINK_NOFOLLOW};
@@ -61,7 +62,10 @@ pub const S_IFLNK: u32 = 0o120_000;
 /// and its group writes.
 pub const STREAM_MODE: u32 = 0o020_620;
 
-/// The inode of the input and of the output streams, past all inodes of a tree.
+/// The type and the mode of either end of a pipe: a FIFO that its owner reads and writes.
+pub const PIPE_MODE: u32 = 0o010_600;
+
+/// The inode of the input and of the output streams, past all inodes of a tree. A pipe's is this plus its number.
 pub const STREAM_INODE: u64 = 0x1_0000_0000;
 
 /// The number of the one device.
@@ -125,18 +129,32 @@ impl Status {
         }
     }
 
-    // The status of the input and of the output streams.
-    fn of_stream() -> Self
-        ensures { result ≡ stream_status }
+    // The status of what is outside the tree.
+    fn of_outer(inode: u64, mode: u32) -> Self
+        ensures { result ≡ outer_status inode mode }
     {
         Status {
-            inode: STREAM_INODE,
-            mode: STREAM_MODE,
+            inode,
+            mode,
             nlink: 1,
             size: 0,
             blocks: 0,
             stamp: 0,
         }
+    }
+
+    // The status of the input and of the output streams.
+    fn of_stream() -> Self
+        ensures { result ≡ stream_status }
+    {
+        Status::of_outer(STREAM_INODE, STREAM_MODE)
+    }
+
+    // The status of either end of the pipe of this number.
+    fn of_pipe(q: u32) -> Self
+        ensures { result ≡ pipe_status q }
+    {
+        Status::of_outer(STREAM_INODE + u64::from(q), PIPE_MODE)
     }
 
     // Puts what tells which node it is.
@@ -200,4 +218,11 @@ pub(crate) fn stream_stat() -> [u8; STAT_LEN]
     ensures { result ≡ stream_stat }
 {
     Status::of_stream().bytes()
+}
+
+/// The bytes of the status of either end of the pipe of this number.
+pub(crate) fn pipe_stat(q: u32) -> [u8; STAT_LEN]
+    ensures { result ≡ pipe_stat q }
+{
+    Status::of_pipe(q).bytes()
 }

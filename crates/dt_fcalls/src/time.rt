@@ -1,10 +1,9 @@
 //! The calls on time (nanosleep(2), clock_gettime(2), clock_nanosleep(2), gettimeofday(2)), and what they count in.
 ghost use Rattle.std.specs.Prelude.{◌≡◌, ◌≤◌, ℕ, IsTrue, length, min, max};
 ghost use Rattle.dt_space.specs.Write.{stored};
-ghost use Rattle.dt_scene.specs.Arguments.{argument};
 ghost use Rattle.dt_scene.specs.Sound.{Sound, Serves, Ends, Reaches, stage, scene};
 ghost use Rattle.dt_fcalls.specs.Time.{is_wall, first_second, time_of, timespec_bytes, timeval_bytes, may_fill};
-ghost use Rattle.dt_fcalls.specs.Time.{with_filled, time_at, ticks_in, ticks_at, is_for_sleep, sleeps_by, told};
+ghost use Rattle.dt_fcalls.specs.Time.{with_filled, time_at, ticks_in, ticks_at, is_for_sleep, told};
 ghost use Rattle.dt_fcalls.specs.Time.{tells_time_of_day, clock_gettime_row, gettimeofday_row, nanosleep_row};
 ghost use Rattle.dt_fcalls.specs.Time.{clock_nanosleep_row};
 

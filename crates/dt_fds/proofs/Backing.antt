@@ -16,11 +16,12 @@ use Rattle.dt_tree.specs.Calls.{KeepsHeld}
 use Rattle.dt_tree.proofs.Holding.{holds-held, shape-held, holds-released, IsFile-released, IsDir-released}
 use Rattle.dt_fds.specs.declared.desc.Desc.{Desc}
 use Rattle.dt_fds.specs.declared.desc.DescKind.{DescKind}
-use Rattle.dt_fds.specs.declared.desc.DescKind.TheVariants.{File, Dir, Input, Stream}
+use Rattle.dt_fds.specs.declared.desc.DescKind.TheVariants.{File, Dir, PipeRead, PipeWrite, Input, Stream}
 use Rattle.dt_fds.specs.declared.desc.Slot.{Slot}
-use Rattle.dt_fds.specs.Descriptions.{Descriptions, Table, inode_of, descriptors_of, table_of, with_slot, with_table, with_new, opened, swept, freed, gone, with_description, forgotten}
-use Rattle.dt_fds.specs.Holding.{Holding, over, with_hold, without_hold, let_go}
-use Rattle.dt_fds.specs.Backs.{named_by, descriptions_of, IsIn, AllIn, Backs, KeepsNodes, KeepsOthers}
+use Rattle.dt_fds.specs.Pipes.{Pipes, without_pipe}
+use Rattle.dt_fds.specs.Descriptions.{Descriptions, Table, inode_of, pipe_of, read_pipe, write_pipe, named_by, readers, writers, descriptors_of, table_of, with_slot, with_table, with_new, opened, swept, freed, gone, with_description, forgotten}
+use Rattle.dt_fds.specs.Holding.{Holding, over, with_hold, without_hold, let_go, without_end, ended, left}
+use Rattle.dt_fds.specs.Backs.{descriptions_of, IsIn, AllIn, AllEnds, Backs, KeepsNodes, KeepsOthers}
 
 -- a node counts itself once
 one_here : (n : ℕ) → one_for n n ≡ 1
@@ -28,6 +29,12 @@ one_here n = grind (arith, nat_tests)
 
 abbrev names_node : ℕ → Desc → ℕ
 names_node n desc = named_by n (inode_of desc.kind)
+
+abbrev pub names_read : ℕ → Desc → ℕ
+names_read q desc = named_by q (read_pipe desc.kind)
+
+abbrev pub names_written : ℕ → Desc → ℕ
+names_written q desc = named_by q (write_pipe desc.kind)
 
 -- a description that is open is counted at its node
 pub named : (f : Descriptions) (k n : ℕ) → weight (names_node n) (get f.descs k) ≤ descriptions_of f n
@@ -53,7 +60,7 @@ open-swept f k q P h =
     ]
 
 -- the node of a description that goes is held
-pub gone-held : (f : Descriptions) (t : FileTree) (k : ℕ) → Backs (over t f) → IfSome (gone f k) (λ desc. IfSome (inode_of desc.kind) (λ n. 0 < holds_of t n))
+pub gone-held : {m : Pipes} (f : Descriptions) (t : FileTree) (k : ℕ) → Backs (over t m f) → IfSome (gone f k) (λ desc. IfSome (inode_of desc.kind) (λ n. 0 < holds_of t n))
 unfolding gone
 gone-held f t k h =
     elim (descriptors_of f k == 0) as (λ b. IfSome (cond b (get f.descs k) None) (λ desc. IfSome (inode_of desc.kind) (λ n. 0 < holds_of t n))) [
@@ -87,6 +94,8 @@ kept-let_go t (Some desc) s kind some is = by_node (inode_of desc.kind) kind som
     by_node None kind some is = is
     by_node (Some m) (File n) some is = IsFile-released t m s n (λ _. some) is
     by_node (Some m) (Dir n) some is = IsDir-released t m s n (λ _. some) is
+    by_node (Some m) (PipeRead q) some is = tt
+    by_node (Some m) (PipeWrite q) some is = tt
     by_node (Some m) Input some is = tt
     by_node (Some m) (Stream stream) some is = tt
 
@@ -104,10 +113,10 @@ in-kept f t u enough kept h = λ k. by_found (get f.descs k) (named f k) (h k)
     by_found (Some desc) c is = kept desc.kind (by_node (inode_of desc.kind) c) is
 
 -- a tree that keeps what is held backs what it backed
-pub backs-held : (f : Descriptions) (t u : FileTree) → KeepsHeld t u → Backs (over t f) → Backs (over u f)
+pub backs-held : {m : Pipes} (f : Descriptions) (t u : FileTree) → KeepsHeld t u → Backs (over t m f) → Backs (over u m f)
 backs-held f t u held h =
     let enough : (n : ℕ) → descriptions_of f n ≤ holds_of u n = λ n. omega (arith, h.enough n, held.holds n) in
-    record { enough = enough; is_in = in-kept f t u enough kept h.is_in }
+    record { enough = enough; is_in = in-kept f t u enough kept h.is_in; ends = h.ends }
   where
     before : (n : ℕ) → 1 ≤ holds_of u n → 1 ≤ holds_of t n
     before n some = omega (arith, held.holds n)
@@ -115,17 +124,72 @@ backs-held f t u held h =
     kept : (kind : DescKind) → IfSome (inode_of kind) (λ n. 1 ≤ holds_of u n) → IsIn t.shape kind → IsIn u.shape kind
     kept (File n) some is = held.files n (before n some) is
     kept (Dir n) some is = held.dirs n (before n some) is
+    kept (PipeRead q) some is = tt
+    kept (PipeWrite q) some is = tt
     kept Input some is = tt
     kept (Stream stream) some is = tt
 
+-- an end that is open is counted at its pipe
+end-counted : (f : Descriptions) (k q : ℕ) → IfSome (get f.descs k) (λ desc. IfSome (pipe_of desc.kind) (λ r. r ≡ q → 0 < readers f q + writers f q))
+unfolding readers writers
+end-counted f k q = by_found (get f.descs k) refl
+  where
+    by_found : (found : Option Desc) → get f.descs k ≡ found → IfSome found (λ desc. IfSome (pipe_of desc.kind) (λ r. r ≡ q → 0 < total (names_read q) f.descs + total (names_written q) f.descs))
+    by_found None e = tt
+    by_found (Some desc) e =
+        let reads = total-remove nat_cmp_total (names_read q) nat_cmp-IsAntisymmetric f.descs k in
+        let writes = total-remove nat_cmp_total (names_written q) nat_cmp-IsAntisymmetric f.descs k in
+        let read = ap (weight (names_read q)) e in
+        let write = ap (weight (names_written q)) e in
+        by_kind desc.kind (omega arith) (omega arith)
+      where
+        by_kind : (kind : DescKind) → named_by q (read_pipe kind) ≤ total (names_read q) f.descs → named_by q (write_pipe kind) ≤ total (names_written q) f.descs
+            → IfSome (pipe_of kind) (λ r. r ≡ q → 0 < total (names_read q) f.descs + total (names_written q) f.descs)
+        by_kind (File n) a b = tt
+        by_kind (Dir n) a b = tt
+        by_kind (PipeRead r) a b = λ is. let one : one_for r q ≡ 1 = subst (λ x. one_for r x ≡ 1) is (one_here r) in omega arith
+        by_kind (PipeWrite r) a b = λ is. let one : one_for r q ≡ 1 = subst (λ x. one_for r x ≡ 1) is (one_here r) in omega arith
+        by_kind Input a b = tt
+        by_kind (Stream stream) a b = tt
+
+-- the pipe of each end is there also after one that has no ends went
+ends-without : (m : Pipes) (f : Descriptions) (q : ℕ) → AllEnds m f → AllEnds (without_end f m q) f
+unfolding without_end
+ends-without m f q h = by_test (readers f q + writers f q == 0) refl
+  where
+    still : readers f q + writers f q ≡ 0 → (kind : DescKind) → IfSome (pipe_of kind) (λ r. r ≡ q → 0 < readers f q + writers f q) → IfSome (pipe_of kind) (λ r. IsSome (get m.contents r)) → IfSome (pipe_of kind) (λ r. IsSome (get (remove m.contents q) r))
+    still none kind counted there = by_pipe (pipe_of kind) counted there
+      where
+        by_pipe : (found : Option ℕ) → IfSome found (λ r. r ≡ q → 0 < readers f q + writers f q) → IfSome found (λ r. IsSome (get m.contents r)) → IfSome found (λ r. IsSome (get (remove m.contents q) r))
+        by_pipe None counted there = tt
+        by_pipe (Some r) counted there = at_remove nat_cmp_total nat_cmp-IsAntisymmetric (λ found. IsSome found) m.contents q r (λ is. absurd (let some = counted is in omega arith)) (λ apart. there)
+
+    by_test : (b : Bool) → (readers f q + writers f q == 0) ≡ b → AllEnds (cond b (without_pipe m q) m) f
+    by_test false e = h
+    by_test true e = let none : readers f q + writers f q ≡ 0 = grind (arith, nat_tests) in λ k. by_found none k (get f.descs k) (end-counted f k q) (h k)
+      where
+        by_found : readers f q + writers f q ≡ 0 → (k : ℕ) (found : Option Desc) → IfSome found (λ desc. IfSome (pipe_of desc.kind) (λ r. r ≡ q → 0 < readers f q + writers f q)) → IfSome found (λ desc. IfSome (pipe_of desc.kind) (λ r. IsSome (get m.contents r)))
+            → IfSome found (λ desc. IfSome (pipe_of desc.kind) (λ r. IsSome (get (remove m.contents q) r)))
+        by_found none k None counted there = tt
+        by_found none k (Some desc) counted there = still none desc.kind counted there
+
+ends-left : (m : Pipes) (f : Descriptions) (lost : Option Desc) → AllEnds m f → AllEnds (left f m lost) f
+ends-left m f None h = h
+ends-left m f (Some desc) h = by_pipe (pipe_of desc.kind)
+  where
+    by_pipe : (found : Option ℕ) → AllEnds (ended f m found) f
+    by_pipe None = h
+    by_pipe (Some q) = ends-without m f q h
+
 -- the tree backs descriptions also after one went and let its node go
-pub backs-swept : (f : Descriptions) (t : FileTree) (k : ℕ) → IsTree t → Backs (over t f) → Backs (over (let_go t (gone f k)) (swept f k))
-backs-swept f t k s h =
+pub backs-swept : (m : Pipes) (f : Descriptions) (t : FileTree) (k : ℕ) → IsTree t → Backs (over t m f) → Backs (over (let_go t (gone f k)) (left (swept f k) m (gone f k)) (swept f k))
+backs-swept m f t k s h =
     let held = gone-held f t k h in
     let enough : (n : ℕ) → descriptions_of (swept f k) n ≤ holds_of (let_go t (gone f k)) n = λ n. omega (arith, h.enough n, nodes-swept f k n, holds-let_go t (gone f k) n held) in
     record {
       enough = enough;
       is_in = in-kept (swept f k) t (let_go t (gone f k)) enough (kept-let_go t (gone f k) s) (λ q. open-swept f k q (λ desc. IsIn t.shape desc.kind) (h.is_in q));
+      ends = ends-left m (swept f k) (gone f k) (λ q. open-swept f k q (λ desc. IfSome (pipe_of desc.kind) (λ r. IsSome (get m.contents r))) (h.ends q));
     }
 
 -- the tables stay
@@ -137,7 +201,7 @@ tables-swept f k = elim (descriptors_of f k == 0) as (λ b. (cond b (record f { 
 ]
 
 -- what others hold stays also then
-pub others-swept : (p : ℕ) (f : Descriptions) (t : FileTree) (k : ℕ) → IsTree t → Backs (over t f) → KeepsOthers p (over t f) (over (let_go t (gone f k)) (swept f k))
+pub others-swept : {m n : Pipes} (p : ℕ) (f : Descriptions) (t : FileTree) (k : ℕ) → IsTree t → Backs (over t m f) → KeepsOthers p (over t m f) (over (let_go t (gone f k)) n (swept f k))
 others-swept p f t k s h =
     let held = gone-held f t k h in
     let holds : (n : ℕ) → holds_of (let_go t (gone f k)) n + descriptions_of f n ≡ holds_of t n + descriptions_of (swept f k) n = λ n. omega (arith, nodes-swept f k n, holds-let_go t (gone f k) n held) in
@@ -150,37 +214,46 @@ others-swept p f t k s h =
 
 -- what a change of descriptions alone leaves
 pub KeepsNodes-same : (p : ℕ) (f : Descriptions) → KeepsNodes p f f
-KeepsNodes-same p f = record { tables = λ q apart. refl; counts = λ n. refl; all_in = λ v h. h }
+KeepsNodes-same p f = record { tables = λ q apart. refl; counts = λ n. refl; reading = λ q. refl; writing = λ q. refl; all_in = λ v h. h; all_ends = λ pipes h. h }
 
 -- a slot is no description
 pub KeepsNodes-with_slot : (f : Descriptions) (p fd : ℕ) (slot : Option Slot) → KeepsNodes p f (with_slot f p fd slot)
-unfolding with_slot descriptions_of
+unfolding with_slot descriptions_of readers writers
 KeepsNodes-with_slot f p fd slot = record {
   tables = λ q apart. get-insert_other nat_cmp_total nat_cmp-IsAntisymmetric f.tables p (slice_set (table_of f p) fd slot) q apart;
   counts = λ n. refl;
+  reading = λ q. refl;
+  writing = λ q. refl;
   all_in = λ v h. h;
+  all_ends = λ pipes h. h;
 }
 
 -- a table is no description
 pub KeepsNodes-forgotten : (f : Descriptions) (p : ℕ) → KeepsNodes p f (forgotten f p)
-unfolding descriptions_of
+unfolding descriptions_of readers writers
 KeepsNodes-forgotten f p = record {
   tables = λ q apart. get-remove_other nat_cmp_total nat_cmp-IsAntisymmetric f.tables p q apart;
   counts = λ n. refl;
+  reading = λ q. refl;
+  writing = λ q. refl;
   all_in = λ v h. h;
+  all_ends = λ pipes h. h;
 }
 
 pub KeepsNodes-with_table : (f : Descriptions) (p : ℕ) (table : Table) → KeepsNodes p f (with_table f p table)
-unfolding descriptions_of
+unfolding descriptions_of readers writers
 KeepsNodes-with_table f p table = record {
   tables = λ q apart. get-insert_other nat_cmp_total nat_cmp-IsAntisymmetric f.tables p table q apart;
   counts = λ n. refl;
+  reading = λ q. refl;
+  writing = λ q. refl;
   all_in = λ v h. h;
+  all_ends = λ pipes h. h;
 }
 
 -- a description of the same kind in the place of one
 pub KeepsNodes-described : (p : ℕ) (f : Descriptions) (change : Desc → Desc) (k : ℕ) → ((desc : Desc) → (let new = change desc in new.kind ≡ desc.kind)) → KeepsNodes p f (with_description f k change)
-unfolding with_description descriptions_of
+unfolding with_description descriptions_of readers writers
 KeepsNodes-described p f change k same = by_found (get f.descs k) refl
   where
     by_found : (found : Option Desc) → get f.descs k ≡ found → KeepsNodes p f (record f { descs = put_back f.descs k (option_map change found) })
@@ -192,16 +265,28 @@ KeepsNodes-described p f change k same = by_found (get f.descs k) refl
           let was = ap (weight (names_node n)) e in
           let as_before = ap (λ kind. named_by n (inode_of kind)) (same desc) in
           omega arith;
+      reading = λ q.
+          let sum = total-insert nat_cmp_total (names_read q) f.descs k (change desc) in
+          let was = ap (weight (names_read q)) e in
+          let as_before = ap (λ kind. named_by q (read_pipe kind)) (same desc) in
+          omega arith;
+      writing = λ q.
+          let sum = total-insert nat_cmp_total (names_written q) f.descs k (change desc) in
+          let was = ap (weight (names_written q)) e in
+          let as_before = ap (λ kind. named_by q (write_pipe kind)) (same desc) in
+          omega arith;
+      all_ends = λ pipes h q. at_insert nat_cmp_total nat_cmp-IsAntisymmetric (λ found. IfSome found (λ desc. IfSome (pipe_of desc.kind) (λ r. IsSome (get pipes.contents r)))) f.descs k (change desc) q
+          (λ is. subst (λ kind. IfSome (pipe_of kind) (λ r. IsSome (get pipes.contents r))) (sym (same desc)) (subst (λ found. IfSome found (λ desc. IfSome (pipe_of desc.kind) (λ r. IsSome (get pipes.contents r)))) e (h k))) (λ apart. h q);
       all_in = λ v h q. at_insert nat_cmp_total nat_cmp-IsAntisymmetric (λ found. IfSome found (λ desc. IsIn v desc.kind)) f.descs k (change desc) q
           (λ is. subst (IsIn v) (sym (same desc)) (subst (λ found. IfSome found (λ desc. IsIn v desc.kind)) e (h k))) (λ apart. h q);
     }
 
 -- with it a tree that backs the descriptions still does
-pub backs-kept : (p : ℕ) (f g : Descriptions) (t : FileTree) → KeepsNodes p f g → Backs (over t f) → Backs (over t g)
-backs-kept p f g t kept h = record { enough = λ n. omega (arith, h.enough n, kept.counts n); is_in = kept.all_in t.shape h.is_in }
+pub backs-kept : {m : Pipes} (p : ℕ) (f g : Descriptions) (t : FileTree) → KeepsNodes p f g → Backs (over t m f) → Backs (over t m g)
+backs-kept {m = m} p f g t kept h = record { enough = λ n. omega (arith, h.enough n, kept.counts n); is_in = kept.all_in t.shape h.is_in; ends = kept.all_ends m h.ends }
 
 -- and what others hold stays
-pub others-kept : (p : ℕ) (f g : Descriptions) (t : FileTree) → KeepsNodes p f g → KeepsOthers p (over t f) (over t g)
+pub others-kept : {m n : Pipes} (p : ℕ) (f g : Descriptions) (t : FileTree) → KeepsNodes p f g → KeepsOthers p (over t m f) (over t n g)
 others-kept p f g t kept = record {
   tables = kept.tables;
   holds = λ n. omega (arith, kept.counts n);
@@ -227,18 +312,19 @@ pub record Kept (defined good kept only : Type 0) (before now : ℕ) : Type 0 wh
   pub later : before ≤ now
 
 -- a descriptor is closed
-pub backs-freed : (f : Descriptions) (t : FileTree) (p fd k : ℕ) → IsTree t → Backs (over t f) → Backs (over (let_go t (gone (with_slot f p fd None) k)) (freed f p fd k))
+pub backs-freed : (m : Pipes) (f : Descriptions) (t : FileTree) (p fd k : ℕ) → IsTree t → Backs (over t m f)
+    → (let lost = gone (with_slot f p fd None) k in Backs (over (let_go t lost) (left (freed f p fd k) m lost) (freed f p fd k)))
 unfolding freed
-backs-freed f t p fd k s h = backs-swept (with_slot f p fd None) t k s (backs-kept p f (with_slot f p fd None) t (KeepsNodes-with_slot f p fd None) h)
+backs-freed m f t p fd k s h = backs-swept m (with_slot f p fd None) t k s (backs-kept p f (with_slot f p fd None) t (KeepsNodes-with_slot f p fd None) h)
 
-pub others-freed : (f : Descriptions) (t : FileTree) (p fd k : ℕ) → IsTree t → Backs (over t f) → KeepsOthers p (over t f) (over (let_go t (gone (with_slot f p fd None) k)) (freed f p fd k))
+pub others-freed : {m n : Pipes} (f : Descriptions) (t : FileTree) (p fd k : ℕ) → IsTree t → Backs (over t m f) → KeepsOthers p (over t m f) (over (let_go t (gone (with_slot f p fd None) k)) n (freed f p fd k))
 unfolding freed
-others-freed f t p fd k s h =
+others-freed {m = m} f t p fd k s h =
     let slot = KeepsNodes-with_slot f p fd None in
-    KeepsOthers-then p (over t f) (over t (with_slot f p fd None)) _ (others-kept p f (with_slot f p fd None) t slot) (others-swept p (with_slot f p fd None) t k s (backs-kept p f (with_slot f p fd None) t slot h))
+    KeepsOthers-then p (over t m f) (over t m (with_slot f p fd None)) _ (others-kept p f (with_slot f p fd None) t slot) (others-swept p (with_slot f p fd None) t k s (backs-kept p f (with_slot f p fd None) t slot h))
 
-pub both : (f g : Descriptions) (t u : FileTree) → f ≡ g → t ≡ u → ◌≡◌ {A = Holding} (over t f) (over u g)
-both f g t u p q = λ i. record { files = p i; tree = q i }
+pub both : {m n : Pipes} (f g : Descriptions) (t u : FileTree) → f ≡ g → m ≡ n → t ≡ u → ◌≡◌ {A = Holding} (over t m f) (over u n g)
+both f g t u p r q = λ i. record { files = p i; pipes = r i; tree = q i }
 
 -- what is there is live
 IsLive-IsFile : (v : Forest) (n : ℕ) → IsFile v n → IsLive v n
@@ -251,6 +337,8 @@ IsLive-IsFile v n is = by_node (node_at v n) is
 pub live-in : (v : Forest) (kind : DescKind) → IsIn v kind → IfSome (inode_of kind) (λ n. IsLive v n)
 live-in v (File n) is = IsLive-IsFile v n is
 live-in v (Dir n) is = IsLive-IsDir v n is
+live-in v (PipeRead q) is = tt
+live-in v (PipeWrite q) is = tt
 live-in v Input is = tt
 live-in v (Stream stream) is = tt
 
@@ -276,12 +364,18 @@ all_in-new : (v : Forest) (f : Descriptions) (desc : Desc) → AllIn v f → IsI
 unfolding with_new
 all_in-new v f desc h is = λ q. at_insert nat_cmp_total nat_cmp-IsAntisymmetric (λ found. IfSome found (λ d. IsIn v d.kind)) f.descs f.next desc q (λ _. is) (λ apart. h q)
 
+-- and so is its pipe
+pub all_ends-new : (m : Pipes) (f : Descriptions) (desc : Desc) → AllEnds m f → IfSome (pipe_of desc.kind) (λ q. IsSome (get m.contents q)) → AllEnds m (with_new f desc)
+unfolding with_new
+all_ends-new m f desc h there = λ q. at_insert nat_cmp_total nat_cmp-IsAntisymmetric (λ found. IfSome found (λ d. IfSome (pipe_of d.kind) (λ r. IsSome (get m.contents r)))) f.descs f.next desc q (λ _. there) (λ apart. h q)
+
 -- a new description holds its node
-pub backs-new : (f : Descriptions) (t : FileTree) (desc : Desc) → IsTree t → Backs (over t f) → get f.descs f.next ≡ None → IsIn t.shape desc.kind
-    → Backs (over (with_hold t (inode_of desc.kind)) (with_new f desc))
-backs-new f t desc s h fresh is = record {
+pub backs-new : {m : Pipes} (f : Descriptions) (t : FileTree) (desc : Desc) → IsTree t → Backs (over t m f) → get f.descs f.next ≡ None → IsIn t.shape desc.kind
+    → IfSome (pipe_of desc.kind) (λ q. IsSome (get m.contents q)) → Backs (over (with_hold t (inode_of desc.kind)) m (with_new f desc))
+backs-new {m = m} f t desc s h fresh is there = record {
   enough = λ n. omega (arith, h.enough n, nodes-new f desc n fresh, holds-with_hold t s n (inode_of desc.kind) (live-in t.shape desc.kind is));
   is_in = subst (λ v. AllIn v (with_new f desc)) (sym (shape-with_hold t (inode_of desc.kind))) (all_in-new t.shape f desc h.is_in is);
+  ends = all_ends-new m f desc h.ends there;
 }
 
 -- the tables stay
@@ -290,8 +384,8 @@ unfolding with_new
 tables-new f desc = refl
 
 -- and what others hold stays
-pub others-new : (p : ℕ) (f : Descriptions) (t : FileTree) (desc : Desc) → IsTree t → get f.descs f.next ≡ None → IsIn t.shape desc.kind
-    → KeepsOthers p (over t f) (over (with_hold t (inode_of desc.kind)) (with_new f desc))
+pub others-new : {m n : Pipes} (p : ℕ) (f : Descriptions) (t : FileTree) (desc : Desc) → IsTree t → get f.descs f.next ≡ None → IsIn t.shape desc.kind
+    → KeepsOthers p (over t m f) (over (with_hold t (inode_of desc.kind)) n (with_new f desc))
 others-new p f t desc s fresh is = record {
   tables = λ q apart. ap (λ tables. get tables q) (tables-new f desc);
   holds = λ n. omega (arith, nodes-new f desc n fresh, holds-with_hold t s n (inode_of desc.kind) (live-in t.shape desc.kind is));
@@ -300,14 +394,14 @@ others-new p f t desc s fresh is = record {
 }
 
 -- under a descriptor
-pub backs-opened : (f : Descriptions) (t : FileTree) (p fd : ℕ) (desc : Desc) (cloexec : Bool) → IsTree t → Backs (over t f) → get f.descs f.next ≡ None → IsIn t.shape desc.kind
-    → Backs (over (with_hold t (inode_of desc.kind)) (opened f p fd desc cloexec))
-backs-opened f t p fd desc cloexec s h fresh is =
-    backs-kept p (with_new f desc) _ (with_hold t (inode_of desc.kind)) (KeepsNodes-with_slot (with_new f desc) p fd (Some (record { number = f.next; cloexec = cloexec }))) (backs-new f t desc s h fresh is)
+pub backs-opened : {m : Pipes} (f : Descriptions) (t : FileTree) (p fd : ℕ) (desc : Desc) (cloexec : Bool) → IsTree t → Backs (over t m f) → get f.descs f.next ≡ None → IsIn t.shape desc.kind
+    → IfSome (pipe_of desc.kind) (λ q. IsSome (get m.contents q)) → Backs (over (with_hold t (inode_of desc.kind)) m (opened f p fd desc cloexec))
+backs-opened f t p fd desc cloexec s h fresh is there =
+    backs-kept p (with_new f desc) _ (with_hold t (inode_of desc.kind)) (KeepsNodes-with_slot (with_new f desc) p fd (Some (record { number = f.next; cloexec = cloexec }))) (backs-new f t desc s h fresh is there)
 
-pub others-opened : (f : Descriptions) (t : FileTree) (p fd : ℕ) (desc : Desc) (cloexec : Bool) → IsTree t → get f.descs f.next ≡ None → IsIn t.shape desc.kind
-    → KeepsOthers p (over t f) (over (with_hold t (inode_of desc.kind)) (opened f p fd desc cloexec))
-others-opened f t p fd desc cloexec s fresh is =
+pub others-opened : {m n : Pipes} (f : Descriptions) (t : FileTree) (p fd : ℕ) (desc : Desc) (cloexec : Bool) → IsTree t → get f.descs f.next ≡ None → IsIn t.shape desc.kind
+    → KeepsOthers p (over t m f) (over (with_hold t (inode_of desc.kind)) n (opened f p fd desc cloexec))
+others-opened {m = m} f t p fd desc cloexec s fresh is =
     let node = inode_of desc.kind in
-    KeepsOthers-then p (over t f) (over (with_hold t node) (with_new f desc)) _ (others-new p f t desc s fresh is)
+    KeepsOthers-then p (over t m f) (over (with_hold t node) m (with_new f desc)) _ (others-new p f t desc s fresh is)
     (others-kept p (with_new f desc) _ (with_hold t node) (KeepsNodes-with_slot (with_new f desc) p fd (Some (record { number = f.next; cloexec = cloexec }))))

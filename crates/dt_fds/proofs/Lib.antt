@@ -4,3 +4,7 @@ pub mod Backing
 pub mod Starting
 pub mod Sharing
 pub mod Tabled
+pub mod Ending
+pub mod Piped
+pub mod Unnamed
+pub mod Piping

@@ -1,19 +1,20 @@
 -- The slots of a table after a change of one.
-use Rattle.std.proofs.Common.{arith, ◌≡◌, ◌≢◌, ℕ, zero, suc, ◌+◌, drop, ◌<◌, ◌==◌, true, false, cond, [], ◌∷◌, Option, None, Some, refl, sym, ap, ◌∙◌}
+use Rattle.std.proofs.Common.{◌≤◌, arith, ◌≡◌, ◌≢◌, ℕ, zero, suc, ◌+◌, drop, ◌<◌, ◌==◌, Bool, true, false, cond, [], ◌∷◌, Option, None, Some, refl, sym, ap, subst, ◌∙◌}
 use Rattle.std.proofs.Common.{inl, inr}
 use Rattle.std.proofs.lemmas.Bool.{cases_eq}
-use Rattle.std.specs.Prelude.{slice_set, slice_get, get_or, unwrap_or, IfSome, option_map}
+use Rattle.std.specs.Prelude.{slice_set, slice_get, get_or, unwrap_or, IfSome, IsSome, option_map}
 use Rattle.std.specs.Option.{option_flatten, is_none}
 use Rattle.std.specs.List.{position}
 use Rattle.std.proofs.lemmas.List.Quantifiers.{position-Some}
 use Rattle.std.specs.Cmp.{nat_cmp_total}
-use Rattle.std.specs.FinMap.{remove, nat_cmp-IsAntisymmetric}
+use Rattle.std.specs.FinMap.{get, remove, nat_cmp-IsAntisymmetric}
 use Rattle.std.proofs.lemmas.Option.{unwrap_or-slice_get}
 use Rattle.std.proofs.lemmas.List.{get_or-set_other, get_or-drop}
 use Rattle.dt_host.proofs.Maps.{get-insert_same}
 use Rattle.dt_fds.specs.declared.desc.Slot.{Slot}
 use Rattle.dt_fds.specs.Holding.{Holding, without, closed_below, without_marked, marked_closed_below}
-use Rattle.dt_fds.specs.Descriptions.{Descriptions, Table, table_of, slot_at, descriptors_of, lowest_free, with_slot, swept, freed}
+use Rattle.dt_fds.specs.declared.desc.Desc.{Desc}
+use Rattle.dt_fds.specs.Descriptions.{Descriptions, Table, table_of, slot_at, descriptors_of, lowest_free, with_slot, with_new, opened, swept, freed}
 
 flat : {X : Type 0} (found : Option (Option X)) → option_flatten found ≡ unwrap_or found None
 flat None = refl
@@ -72,6 +73,15 @@ free-slot table from = by_found (position is_none (drop from table)) refl
     by_found None e = tt
     by_found (Some i) e = sym (get_or-drop from table i None) ∙ none_is _ ((position-Some is_none (drop from table) i None e).1)
 
+-- and it is from there on
+pub lowest-from : (table : Table) (from fd : ℕ) → lowest_free table from ≡ Some fd → from ≤ fd
+unfolding lowest_free
+lowest-from table from fd e = by_found (position is_none (drop from table)) e
+  where
+    by_found : (found : Option ℕ) → option_map (λ i. from + i) found ≡ Some fd → from ≤ fd
+    by_found None e = cc
+    by_found (Some i) e = let same : from + i ≡ fd = cc in omega arith
+
 pub free-slot_at : (f : Descriptions) (p from : ℕ) → IfSome (lowest_free (table_of f p) from) (λ fd. slot_at f p fd ≡ None)
 free-slot_at f p from = by_found (lowest_free (table_of f p) from) (free-slot (table_of f p) from)
   where
@@ -104,3 +114,18 @@ pub slot-closed : (p count : ℕ) (h : Holding) (fd : ℕ) → fd < count → (l
 unfolding closed_below
 slot-closed p zero h fd less = absurd (omega arith)
 slot-closed p (suc count) h fd less = still_free p count (closed_below p count h) fd (λ below. slot-closed p count h fd below) less
+
+-- a descriptor that is opened leaves the others
+pub slot-opened_other : (f : Descriptions) (p fd q : ℕ) (desc : Desc) (cloexec : Bool) → q ≢ fd → slot_at (opened f p fd desc cloexec) p q ≡ slot_at f p q
+unfolding with_new
+slot-opened_other f p fd q desc cloexec apart =
+    let slot : Option Slot = Some (record { number = f.next; cloexec = cloexec }) in
+    slot_is (opened f p fd desc cloexec) p q
+    ∙ ap (λ t. get_or t q None) (table_placed (with_new f desc) p fd slot)
+    ∙ get_or-set_other (table_of f p) fd q slot None apart
+    ∙ sym (slot_is f p q)
+
+-- and there is a table
+pub table-opened : (f : Descriptions) (p fd : ℕ) (desc : Desc) (cloexec : Bool) → (let new = opened f p fd desc cloexec in IsSome (get new.tables p))
+unfolding with_slot with_new
+table-opened f p fd desc cloexec = subst (λ found. IsSome found) (sym (get-insert_same nat_cmp_total nat_cmp-IsAntisymmetric f.tables p _)) refl

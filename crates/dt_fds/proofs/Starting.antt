@@ -1,20 +1,23 @@
 -- The open files of a first process.
 use Rattle.std.proofs.Common.{arith, ◌≡◌, ℕ, zero, suc, ◌<◌, length, Option, None, Some, refl, sym, ap, subst, ◌∙◌}
-use Rattle.std.specs.Prelude.{unwrap_or, is_some, IfSome, replicate}
+use Rattle.std.specs.Prelude.{unwrap_or, is_some, IfSome, IsSome, replicate}
 use Rattle.std.specs.List.{sum_by}
 use Rattle.std.specs.Ordering.{nat_cmp}
 use Rattle.std.specs.Cmp.{nat_cmp_total}
 use Rattle.std.specs.FinMap.{FinMap, empty, get, insert, get-empty, nat_cmp-IsAntisymmetric}
 use Rattle.dt_host.proofs.Maps.{at_insert}
 use Rattle.dt_host.proofs.Totals.{total-insert, total-empty}
-use Rattle.dt_host.specs.Total.{weight}
+use Rattle.dt_host.specs.Total.{total, weight}
 use Rattle.dt_host.specs.World.{Forest}
 use Rattle.dt_fds.specs.declared.desc.TheConstants.{DESCRIPTOR_LIMIT}
 use Rattle.dt_fds.specs.declared.desc.Desc.{Desc}
 use Rattle.dt_fds.specs.declared.desc.Slot.{Slot}
+use Rattle.dt_fds.specs.declared.desc.DescKind.{DescKind}
 use Rattle.dt_fds.specs.declared.desc.DescKind.TheVariants.{Input, Stream}
 use Rattle.dt_fds.specs.Descriptions.{Descriptions, IsDesc, Table, refers, inode_of, first_desc, table_of, lowest_free, with_slot, with_new, none_open, opened_at, opened_lowest, first_files}
-use Rattle.dt_fds.specs.Backs.{named_by, descriptions_of, IsIn, AllIn}
+use Rattle.dt_fds.specs.Descriptions.{pipe_of, read_pipe, write_pipe, named_by, readers, writers}
+use Rattle.dt_fds.specs.Pipes.{Pipes}
+use Rattle.dt_fds.specs.Backs.{descriptions_of, IsIn, AllIn, AllEnds}
 use Rattle.dt_fds.specs.inner.Counts.{Counts}
 
 refers-free : (n k : ℕ) → sum_by (refers k) (replicate n None) ≡ 0
@@ -65,29 +68,56 @@ counts-begun descs counts tables next p none h = record {
       (λ is. free-length DESCRIPTOR_LIMIT) (λ apart. h.sized q);
 }
 
--- no description is of a node
-abbrev pub OfNone : Descriptions → Type 0
-OfNone f = (n : ℕ) → descriptions_of f n ≡ 0
+-- no description names a number in this way
+abbrev NamesNone : (DescKind → Option ℕ) → Descriptions → Type 0
+NamesNone number f = (n : ℕ) → total (λ (desc : Desc). named_by n (number desc.kind)) f.descs ≡ 0
 
-nodes-none : (p : ℕ) → OfNone (none_open p)
-unfolding descriptions_of
-nodes-none p = λ n. total-empty nat_cmp_total (λ desc. named_by n (inode_of desc.kind))
+names-none : (number : DescKind → Option ℕ) (p : ℕ) → NamesNone number (none_open p)
+names-none number p = λ n. total-empty nat_cmp_total (λ (desc : Desc). named_by n (number desc.kind))
 
--- one of no node more
-nodes-lowest : (p : ℕ) (desc : Desc) (f : Descriptions) → inode_of desc.kind ≡ None → OfNone f → OfNone (opened_lowest p desc f)
-unfolding opened_lowest with_slot with_new descriptions_of
-nodes-lowest p desc f of_none h n = by_place (lowest_free (table_of f p) 0)
+-- one that names none more
+names-lowest : (number : DescKind → Option ℕ) (p : ℕ) (desc : Desc) (f : Descriptions) → number desc.kind ≡ None → NamesNone number f → NamesNone number (opened_lowest p desc f)
+unfolding opened_lowest with_slot with_new
+names-lowest number p desc f of_none h n = by_place (lowest_free (table_of f p) 0)
   where
-    by_place : (place : Option ℕ) → descriptions_of (opened_at f p desc place) n ≡ 0
+    by_place : (place : Option ℕ) → (let g = opened_at f p desc place in total (λ (desc : Desc). named_by n (number desc.kind)) g.descs ≡ 0)
     by_place None = h n
     by_place (Some fd) =
-        let sum = total-insert nat_cmp_total (λ (desc : Desc). named_by n (inode_of desc.kind)) f.descs f.next desc in
+        let sum = total-insert nat_cmp_total (λ (desc : Desc). named_by n (number desc.kind)) f.descs f.next desc in
         let none = ap (named_by n) of_none in
         omega (arith, h n)
 
-pub nodes-first_files : (p : ℕ) → OfNone (first_files p)
+names-first_files : (number : DescKind → Option ℕ) (p : ℕ) → number Input ≡ None → number (Stream 1) ≡ None → number (Stream 2) ≡ None → NamesNone number (first_files p)
 unfolding first_files
-nodes-first_files p = nodes-lowest p _ _ refl (nodes-lowest p _ _ refl (nodes-lowest p _ _ refl (nodes-none p)))
+names-first_files number p a b c = names-lowest number p _ _ c (names-lowest number p _ _ b (names-lowest number p _ _ a (names-none number p)))
+
+-- no description is of a node, or of an end of a pipe
+pub nodes-first_files : (p n : ℕ) → descriptions_of (first_files p) n ≡ 0
+unfolding descriptions_of
+nodes-first_files p n = names-first_files inode_of p refl refl refl n
+
+pub reading-first_files : (p q : ℕ) → readers (first_files p) q ≡ 0
+unfolding readers
+reading-first_files p q = names-first_files read_pipe p refl refl refl q
+
+pub writing-first_files : (p q : ℕ) → writers (first_files p) q ≡ 0
+unfolding writers
+writing-first_files p q = names-first_files write_pipe p refl refl refl q
+
+ends-none : (pipes : Pipes) (p : ℕ) → AllEnds pipes (none_open p)
+ends-none pipes p k = subst (λ (found : Option Desc). IfSome found (λ desc. IfSome (pipe_of desc.kind) (λ q. IsSome (get pipes.contents q)))) (sym (get-empty nat_cmp k)) tt
+
+ends-lowest : (pipes : Pipes) (p : ℕ) (desc : Desc) (f : Descriptions) → IfSome (pipe_of desc.kind) (λ q. IsSome (get pipes.contents q)) → AllEnds pipes f → AllEnds pipes (opened_lowest p desc f)
+unfolding opened_lowest with_slot with_new
+ends-lowest pipes p desc f there h = by_place (lowest_free (table_of f p) 0)
+  where
+    by_place : (place : Option ℕ) → AllEnds pipes (opened_at f p desc place)
+    by_place None = h
+    by_place (Some fd) = λ k. at_insert nat_cmp_total nat_cmp-IsAntisymmetric (λ found. IfSome found (λ desc. IfSome (pipe_of desc.kind) (λ q. IsSome (get pipes.contents q)))) f.descs f.next desc k (λ _. there) (λ apart. h k)
+
+pub ends-first_files : (pipes : Pipes) (p : ℕ) → AllEnds pipes (first_files p)
+unfolding first_files
+ends-first_files pipes p = ends-lowest pipes p _ _ tt (ends-lowest pipes p _ _ tt (ends-lowest pipes p _ _ tt (ends-none pipes p)))
 
 in-none : (v : Forest) (p : ℕ) → AllIn v (none_open p)
 in-none v p k = subst (λ (found : Option Desc). IfSome found (λ desc. IsIn v desc.kind)) (sym (get-empty nat_cmp k)) tt

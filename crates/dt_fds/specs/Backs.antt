@@ -1,26 +1,26 @@
--- What holds between calls of open files and their tree: what is open is in the tree, and held.
-use Rattle.std.specs.Prelude.{◌≡◌, ◌≢◌, ℕ, ◌+◌, ◌<◌, ◌≤◌, Option, None, Some, IfSome, Result, Ok, Err, OnOk, IsErrOf}
+-- What holds between calls of open files, their pipes and their tree: what is open is there, and held.
+use Rattle.std.specs.Prelude.{◌≡◌, ◌≢◌, ℕ, ◌+◌, ◌<◌, ◌≤◌, IfSome, IsSome, Result, Ok, Err, OnOk, IsErrOf}
 use Rattle.std.specs.FinMap.{get}
 use Rattle.dt_host.specs.Cause.{HasCause}
 use Rattle.dt_host.specs.Total.{total}
-use Rattle.dt_host.specs.World.{World, Forest, IsFile, IsDir, OnlyForest}
+use Rattle.dt_host.specs.World as host
+use Rattle.dt_host.specs.World.{World, Forest, IsFile, IsDir}
 use Rattle.dt_host.specs.declared.error.HostErr.{HostErr}
 use Rattle.dt_host.specs.declared.error.HostErr.TheVariants.{Failed, NoMemory}
 use Rattle.dt_host.specs.declared.error.CallErr.{CallErr}
 use Rattle.dt_host.specs.declared.error.CallErr.TheVariants.{Errno as is_refused, Host as has_failed}
 use Rattle.dt_tree.specs.FileTree.{holds_of}
-use Rattle.dt_tree.specs.Shape.{one_for}
 use Rattle.dt_tree.specs.Calls.{UnlessFailed}
 use Rattle.dt_tree.specs.Table.{Table, Stands, tree_of}
 use Rattle.dt_fds.specs.declared.desc.DescKind.{DescKind}
-use Rattle.dt_fds.specs.declared.desc.DescKind.TheVariants.{File, Dir, Input, Stream}
-use Rattle.dt_fds.specs.Descriptions.{Descriptions, inode_of}
+use Rattle.dt_fds.specs.declared.desc.DescKind.TheVariants.{File, Dir, PipeRead, PipeWrite, Input, Stream}
+use Rattle.dt_fds.specs.Descriptions.{Descriptions, inode_of, pipe_of, named_by, readers, writers}
+use Rattle.dt_fds.specs.declared.files.Files.{Files}
+use Rattle.dt_fds.specs.Ends.{AreCounted}
+use Rattle.dt_fds.specs.OpenFiles.{pipes_at}
+use Rattle.dt_fds.specs.Pipes.{Pipes}
 use Rattle.dt_fds.specs.Holding.{Holding, Outcome, over}
-
--- whether a node is the one that is named, if one is: 1 or 0
-abbrev pub named_by : ℕ → Option ℕ → ℕ
-named_by n None = 0
-named_by n (Some m) = one_for m n
+use Rattle.dt_pipes.specs.Table as pipes
 
 -- how many open descriptions are of a node
 unfoldable pub descriptions_of : Descriptions → ℕ → ℕ
@@ -30,6 +30,8 @@ descriptions_of f n = total (λ desc. named_by n (inode_of desc.kind)) f.descs
 abbrev pub IsIn : Forest → DescKind → Type 0
 IsIn v (File n) = IsFile v n
 IsIn v (Dir n) = IsDir v n
+IsIn v (PipeRead q) = Unit {0}
+IsIn v (PipeWrite q) = Unit {0}
 IsIn v Input = Unit {0}
 IsIn v (Stream stream) = Unit {0}
 
@@ -37,21 +39,30 @@ IsIn v (Stream stream) = Unit {0}
 abbrev pub AllIn : Forest → Descriptions → Type 0
 AllIn v f = (k : ℕ) → IfSome (get f.descs k) (λ desc. IsIn v desc.kind)
 
--- each node is held at least once for each description of it, and each description's node is there and of its kind
+-- the pipe of each open description that is an end of one is there
+abbrev pub AllEnds : Pipes → Descriptions → Type 0
+AllEnds pipes f = (k : ℕ) → IfSome (get f.descs k) (λ desc. IfSome (pipe_of desc.kind) (λ q. IsSome (get pipes.contents q)))
+
+-- each node is held at least once for each description of it, and each description's node is there and of its kind, or its
+-- pipe is there
 pub record Backs (h : Holding) : Type 0 where
   pub enough : (n : ℕ) → descriptions_of h.files n ≤ holds_of h.tree n
   pub is_in : AllIn h.tree.shape h.files
+  pub ends : AllEnds h.pipes h.files
 
 -- the tables of all processes but one stay
 abbrev pub KeepsTables : ℕ → Descriptions → Descriptions → Type 0
 KeepsTables p old new = (q : ℕ) → q ≢ p → get new.tables q ≡ get old.tables q
 
--- as many descriptions are of each node, each description's node is there and of its kind if that was so before, and the
--- tables of other processes stay
+-- as many descriptions are of each node and of each end of a pipe, each description's node is there and of its kind if that
+-- was so before, and so is its pipe; and the tables of other processes stay
 pub record KeepsNodes (p : ℕ) (old new : Descriptions) : Type 0 where
   pub tables : KeepsTables p old new
   pub counts : (n : ℕ) → descriptions_of new n ≡ descriptions_of old n
+  pub reading : (q : ℕ) → readers new q ≡ readers old q
+  pub writing : (q : ℕ) → writers new q ≡ writers old q
   pub all_in : (v : Forest) → AllIn v old → AllIn v new
+  pub all_ends : (pipes : Pipes) → AllEnds pipes old → AllEnds pipes new
 
 -- what others hold stays: the holds of a node that are of no description are as many as before, and where there are such,
 -- a file stays a file and a directory a directory; and the tables of other processes stay
@@ -61,31 +72,47 @@ pub record KeepsOthers (p : ℕ) (old new : Holding) : Type 0 where
   pub files : (n : ℕ) → descriptions_of old.files n < holds_of old.tree n → IsFile old.tree.shape n → IsFile new.tree.shape n
   pub dirs : (n : ℕ) → descriptions_of old.files n < holds_of old.tree n → IsDir old.tree.shape n → IsDir new.tree.shape n
 
--- where the code stands: its descriptions, its tree's table, and what its host keeps
+-- where the code stands: its open files, its tree's table, and what its host keeps
 pub record At : Type 0 where
-  pub files : Descriptions
+  pub files : Files
   pub table : Table
   pub world : World
 
 -- where it stands, of these parts
-abbrev pub at : Descriptions → Table → World → At
+abbrev pub at : Files → Table → World → At
 at files table world = record { files = files; table = table; world = world }
 
--- the descriptions and the tree of code that stands there
+-- the descriptions, the pipes and the tree of code that stands there
 abbrev pub holding : At → Holding
-holding a = over (tree_of a.table a.world.forest) a.files
+holding a = over (tree_of a.table a.world.forest) (pipes_at a.files a.world.pipes) a.files.descriptors
 
--- the table stands for a tree, and that backs the descriptions
+-- nothing but nodes and pipes may have changed
+abbrev pub OnlyFiles : World → World → Type 0
+OnlyFiles old new = new.pids ≡ old.pids
+
+-- the pipe of each open description that is an end of one is in the table
+abbrev pub HasEnds : Files → Type 0
+HasEnds f = (k : ℕ) → IfSome (get f.descriptors.descs k) (λ desc. IfSome (pipe_of desc.kind) (λ q. IsSome (get f.pipes.pipes q)))
+
+-- the table of the pipes stands for those of the host, its ends are counted, and the pipe of each is there
+pub record IsPiped (f : Files) (host : host.Pipes) : Type 0 where
+  pub stands : pipes.Stands f.pipes host
+  pub counted : AreCounted f.descriptors f.ends
+  pub there : AllEnds (pipes_at f host) f.descriptors
+
+-- the tables stand for a tree and for pipes, and these back the descriptions
 pub record IsBacked (a : At) : Type 0 where
   pub stands : Stands a.table a.world.forest
+  pub pipes : pipes.Stands a.files.pipes a.world.pipes
+  pub ends : AreCounted a.files.descriptors a.files.ends
   pub backs : Backs (holding a)
 
--- descriptions and tree came to this, unless the host failed or memory was wanting
+-- descriptions, pipes and tree came to this, unless the host failed or memory was wanting
 pub record Leaves {A : Type 0} (p : ℕ) (defined : Holding) (old new : At) (result : Result A HostErr) (before now : ℕ) : Type 0 where
   pub made : OnOk result (holding new ≡ defined)
   pub backed : OnOk result (IsBacked new)
   pub others : OnOk result (KeepsOthers p (holding old) (holding new))
-  pub rest : OnlyForest old.world new.world
+  pub rest : OnlyFiles old.world new.world
   pub cause : HasCause before now (IsErrOf result Failed)
 
 -- the host failed
@@ -106,5 +133,5 @@ pub record Makes {A : Type 0} (p : ℕ) (call : Holding → Outcome A) (old new 
   pub made : Does result (holding new) (call (holding old))
   pub backed : UnlessFailed result (IsBacked new)
   pub others : UnlessFailed result (KeepsOthers p (holding old) (holding new))
-  pub rest : OnlyForest old.world new.world
+  pub rest : OnlyFiles old.world new.world
   pub cause : HasCause before now (HasFailed result)

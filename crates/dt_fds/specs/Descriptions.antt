@@ -1,4 +1,4 @@
--- Open file descriptions, and the tables of descriptors that refer to them (open(2), dup(2), close(2), fcntl(2)).
+-- Open file descriptions, and the tables of descriptors that refer to them (open(2), pipe(2), dup(2), close(2), fcntl(2)).
 use Rattle.std.specs.Prelude.{◌≡◌, ℕ, ◌+◌, ◌≤◌, ◌==◌, Bool, true, false, if◌then◌else◌, List, [], drop, replicate, Option, None, Some, option_map, slice_get, slice_set, unwrap_or}
 use Rattle.std.specs.Option.{is_none, option_flatten, option_and_then}
 use Rattle.std.specs.List.{position, sum_by}
@@ -10,7 +10,7 @@ use Rattle.dt_tree.specs.Shape.{one_for}
 use Rattle.dt_fds.specs.declared.desc.TheConstants.{DESCRIPTOR_LIMIT}
 use Rattle.dt_fds.specs.declared.desc.Desc.{Desc}
 use Rattle.dt_fds.specs.declared.desc.DescKind.{DescKind}
-use Rattle.dt_fds.specs.declared.desc.DescKind.TheVariants.{File, Dir, Input, Stream}
+use Rattle.dt_fds.specs.declared.desc.DescKind.TheVariants.{File, Dir, PipeRead, PipeWrite, Input, Stream}
 use Rattle.dt_fds.specs.declared.desc.Spot.{Spot}
 use Rattle.dt_fds.specs.declared.desc.Spot.TheVariants.{At, After}
 use Rattle.dt_fds.specs.declared.desc.Slot.{Slot}
@@ -19,13 +19,49 @@ use Rattle.dt_fds.specs.declared.desc.Slot.{Slot}
 abbrev pub inode_of : DescKind → Option ℕ
 inode_of (File n) = Some n
 inode_of (Dir n) = Some n
+inode_of (PipeRead q) = None
+inode_of (PipeWrite q) = None
 inode_of Input = None
 inode_of (Stream stream) = None
+
+-- the number of a description's pipe, if it is an end of one
+abbrev pub pipe_of : DescKind → Option ℕ
+pipe_of (File n) = None
+pipe_of (Dir n) = None
+pipe_of (PipeRead q) = Some q
+pipe_of (PipeWrite q) = Some q
+pipe_of Input = None
+pipe_of (Stream stream) = None
+
+-- the number of a pipe, if it is the end that is read from
+abbrev pub read_pipe : DescKind → Option ℕ
+read_pipe (File n) = None
+read_pipe (Dir n) = None
+read_pipe (PipeRead q) = Some q
+read_pipe (PipeWrite q) = None
+read_pipe Input = None
+read_pipe (Stream stream) = None
+
+-- the number of a pipe, if it is the end that is written to
+abbrev pub write_pipe : DescKind → Option ℕ
+write_pipe (File n) = None
+write_pipe (Dir n) = None
+write_pipe (PipeRead q) = None
+write_pipe (PipeWrite q) = Some q
+write_pipe Input = None
+write_pipe (Stream stream) = None
+
+-- whether a number is the one that is named, if one is: 1 or 0
+abbrev pub named_by : ℕ → Option ℕ → ℕ
+named_by n None = 0
+named_by n (Some m) = one_for m n
 
 -- it is of a directory
 abbrev pub is_of_dir : DescKind → Bool
 is_of_dir (File n) = false
 is_of_dir (Dir n) = true
+is_of_dir (PipeRead q) = false
+is_of_dir (PipeWrite q) = false
 is_of_dir Input = false
 is_of_dir (Stream stream) = false
 
@@ -38,6 +74,8 @@ is_after (After name) = true
 abbrev pub IsKind : DescKind → Type 0
 IsKind (File n) = Unit {0}
 IsKind (Dir n) = Unit {0}
+IsKind (PipeRead q) = Unit {0}
+IsKind (PipeWrite q) = Unit {0}
 IsKind Input = Unit {0}
 IsKind (Stream stream) = (1 ≤ stream) × (stream ≤ 2)
 
@@ -78,6 +116,14 @@ description_at f p fd = option_and_then (desc_of f) (slot_at f p fd)
 unfoldable pub lowest_free : Table → ℕ → Option ℕ
 lowest_free table from = option_map (λ i. from + i) (position is_none (drop from table))
 
+-- a descriptor, and the lowest free one above it, if there is one
+abbrev pub with_next : Table → ℕ → Option (ℕ × ℕ)
+with_next table fd = option_map (λ other. (fd, other)) (lowest_free table (fd + 1))
+
+-- the two lowest free descriptors, the lower one first, if two are free
+unfoldable pub two_free : Table → Option (ℕ × ℕ)
+two_free table = option_and_then (with_next table) (lowest_free table 0)
+
 -- how often a slot refers to a description
 abbrev pub refers : ℕ → Option Slot → ℕ
 refers k None = 0
@@ -86,6 +132,13 @@ refers k (Some slot) = one_for slot.number k
 -- how many descriptors refer to a description, in all tables
 unfoldable pub descriptors_of : Descriptions → ℕ → ℕ
 descriptors_of f k = total (sum_by (refers k)) f.tables
+
+-- how many open descriptions read from a pipe, and how many write to it
+unfoldable pub readers : Descriptions → ℕ → ℕ
+readers f q = total (λ desc. named_by q (read_pipe desc.kind)) f.descs
+
+unfoldable pub writers : Descriptions → ℕ → ℕ
+writers f q = total (λ desc. named_by q (write_pipe desc.kind)) f.descs
 
 -- with this at a descriptor of a process
 unfoldable pub with_slot : Descriptions → ℕ → ℕ → Option Slot → Descriptions

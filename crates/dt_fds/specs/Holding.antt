@@ -1,7 +1,10 @@
 -- Calls on open files and the file tree together: a description of a file or directory holds its node while it is open
 -- (open(2), dup(2), close(2)). A description goes with the last descriptor that refers to it, and then lets its node go: a
 -- node that has no name and no hold any more goes too.
-use Rattle.std.specs.Prelude.{ℕ, zero, suc, Bool, nat_lt, if◌then◌else◌, Option, None, Some, Result, Ok, Err}
+use Rattle.std.specs.Prelude.{ℕ, zero, suc, ◌+◌, ◌==◌, min, Bool, false, nat_lt, if◌then◌else◌, Option, None, Some, option_map, unwrap_or}
+use Rattle.std.specs.Prelude.{List, [], ◌++◌, length, take, drop, Result, Ok, Err}
+use Rattle.dt_base.specs.Abi.{has}
+use Rattle.dt_base.specs.declared.abi.TheConstants.{O_CLOEXEC, O_NONBLOCK}
 use Rattle.dt_base.specs.declared.errno.Errno.{Errno}
 use Rattle.dt_base.specs.declared.errno.Errno.TheVariants.{BadF, MFile}
 use Rattle.dt_tree.specs.FileTree.{FileTree}
@@ -9,16 +12,23 @@ use Rattle.dt_tree.specs.Changes.{held, released}
 use Rattle.dt_fds.specs.declared.desc.TheConstants.{DESCRIPTOR_LIMIT}
 use Rattle.dt_fds.specs.declared.desc.Desc.{Desc}
 use Rattle.dt_fds.specs.declared.desc.Slot.{Slot}
-use Rattle.dt_fds.specs.Descriptions.{Descriptions, inode_of, table_of, slot_at, lowest_free, with_slot, opened, duplicated, freed, gone, forgotten}
+use Rattle.dt_fds.specs.declared.desc.DescKind.TheVariants.{PipeRead, PipeWrite}
+use Rattle.dt_fds.specs.declared.desc.Spot.TheVariants.{At}
+use Rattle.dt_fds.specs.declared.flow.Flow.{Flow}
+use Rattle.dt_fds.specs.declared.flow.Flow.TheVariants.{Broken, Moved}
+use Rattle.dt_fds.specs.Descriptions.{Descriptions, inode_of, pipe_of, read_pipe, write_pipe, readers, writers, table_of, slot_at}
+use Rattle.dt_fds.specs.Descriptions.{description_at, lowest_free, two_free, with_slot, opened, duplicated, freed, gone, forgotten}
+use Rattle.dt_fds.specs.Pipes.{Pipes, content, holds, with_new_pipe, without_pipe, none_held, goes, write_flow}
 
--- the descriptions, and the tree whose nodes they hold
+-- the descriptions, the pipes of which they are ends, and the tree whose nodes they hold
 pub record Holding : Type 0 where
   pub files : Descriptions
+  pub pipes : Pipes
   pub tree : FileTree
 
--- these descriptions over that tree
-abbrev pub over : FileTree → Descriptions → Holding
-over t f = record { files = f; tree = t }
+-- these descriptions over these pipes and that tree
+abbrev pub over : FileTree → Pipes → Descriptions → Holding
+over t pipes f = record { files = f; pipes = pipes; tree = t }
 
 -- what a call answers, and what it leaves
 pub record Outcome (A : Type 0) : Type 0 where
@@ -48,23 +58,38 @@ abbrev pub let_go : FileTree → Option Desc → FileTree
 let_go t None = t
 let_go t (Some desc) = without_hold t (inode_of desc.kind)
 
+-- a pipe goes where no description is of an end of it
+unfoldable pub without_end : Descriptions → Pipes → ℕ → Pipes
+without_end f pipes q = if readers f q + writers f q == 0 then without_pipe pipes q else pipes
+
+-- an end that went takes its pipe along, if it was the last of that; where it was one
+abbrev pub ended : Descriptions → Pipes → Option ℕ → Pipes
+ended f pipes None = pipes
+ended f pipes (Some q) = without_end f pipes q
+
+-- a description that went, if one did, takes its pipe along, if it was the last end of one
+abbrev pub left : Descriptions → Pipes → Option Desc → Pipes
+left f pipes None = pipes
+left f pipes (Some desc) = ended f pipes (pipe_of desc.kind)
+
 -- a new description under this descriptor, if there is one
 abbrev pub added : Holding → ℕ → Desc → Bool → Option ℕ → Outcome ℕ
 added h p desc cloexec None = refused h MFile
 added h p desc cloexec (Some fd) =
-    done (record { files = opened h.files p fd desc cloexec; tree = with_hold h.tree (inode_of desc.kind) }) fd
+    done (record h { files = opened h.files p fd desc cloexec; tree = with_hold h.tree (inode_of desc.kind) }) fd
 
 -- a new description, under the lowest free descriptor; EMFILE where none is free
 unfoldable pub add_call : ℕ → Desc → Bool → Holding → Outcome ℕ
 add_call p desc cloexec h = added h p desc cloexec (lowest_free (table_of h.files p) 0)
 
--- a descriptor is free, and if it was open and the last of its description, that goes and lets its node go
+-- a descriptor is free, and if it was open and the last of its description, that goes and lets its node go, and its pipe, if
+-- it was the last end of one
 abbrev pub without : Holding → ℕ → ℕ → Option Slot → Holding
 without h p fd None = h
-without h p fd (Some slot) = record {
-  files = freed h.files p fd slot.number;
-  tree = let_go h.tree (gone (with_slot h.files p fd None) slot.number);
-}
+without h p fd (Some slot) =
+    let lost = gone (with_slot h.files p fd None) slot.number in
+    let files = freed h.files p fd slot.number in
+    record { files = files; pipes = left files h.pipes lost; tree = let_go h.tree lost }
 
 -- a descriptor, if it is open, is closed
 abbrev pub closed : Holding → ℕ → ℕ → Option Slot → Outcome (Unit {0})
@@ -133,3 +158,86 @@ unfoldable pub dropped : ℕ → Holding → Holding
 dropped p h =
     let none = closed_below p DESCRIPTOR_LIMIT h in
     record none { files = forgotten none.files p }
+
+-- the end of a pipe that is read from, and the one that is written to, as they begin
+abbrev pub read_end : ℕ → ℕ → Desc
+read_end q flags =
+    record { kind = PipeRead q; spot = At 0; access = 0; append = false; nonblock = has flags O_NONBLOCK }
+
+abbrev pub write_end : ℕ → ℕ → Desc
+write_end q flags =
+    record { kind = PipeWrite q; spot = At 0; access = 1; append = false; nonblock = has flags O_NONBLOCK }
+
+-- a new pipe, whose ends stand under these descriptors
+abbrev pub with_pipe : Holding → ℕ → ℕ → ℕ → ℕ → Holding
+with_pipe h p flags fd other =
+    let q = h.pipes.next in
+    let cloexec = has flags O_CLOEXEC in
+    let one = opened h.files p fd (read_end q flags) cloexec in
+    record h { files = opened one p other (write_end q flags) cloexec; pipes = with_new_pipe h.pipes }
+
+-- the same, if there are two descriptors for them
+abbrev pub with_ends : Holding → ℕ → ℕ → Option (ℕ × ℕ) → Outcome (ℕ × ℕ)
+with_ends h p flags None = refused h MFile
+with_ends h p flags (Some ends) = done (with_pipe h p flags ends.0 ends.1) ends
+
+-- pipe(2): a new pipe, whose ends stand under the two lowest free descriptors, the one that is read from under the lower;
+-- EMFILE where not two are free
+unfoldable pub pipe_call : ℕ → ℕ → Holding → Outcome (ℕ × ℕ)
+pipe_call p flags h = with_ends h p flags (two_free (table_of h.files p))
+
+-- a read of at most so many bytes from a pipe that holds these: those that it answers are gone from the pipe
+abbrev pub read_of : Holding → ℕ → Bool → ℕ → List ℕ → Outcome Flow
+read_of h q nonblock most bytes =
+    let count = min most (length bytes) in
+    if length bytes == 0
+    then record { answer = none_held (writers h.files q) nonblock; next = h }
+    else done (record h { pipes = holds h.pipes q (drop count bytes) }) (Moved count)
+
+-- the same of a pipe, if there is one
+abbrev pub read_from : Holding → Bool → ℕ → Option ℕ → Outcome Flow
+read_from h nonblock most None = refused h BadF
+read_from h nonblock most (Some q) = read_of h q nonblock most (content h.pipes q)
+
+-- the same by what a descriptor refers to
+abbrev pub read_by : Holding → ℕ → Option Desc → Outcome Flow
+read_by h most None = refused h BadF
+read_by h most (Some desc) = read_from h desc.nonblock most (read_pipe desc.kind)
+
+-- read(2) of at most so many bytes from a pipe: EBADF where the descriptor is not of an end that is read from
+unfoldable pub pipe_read_call : ℕ → ℕ → ℕ → Holding → Outcome Flow
+pipe_read_call p fd most h = read_by h most (description_at h.files p fd)
+
+-- what the pipe holds that a descriptor reads from; nothing where it reads from none
+abbrev pub held_by : Holding → Option Desc → List ℕ
+held_by h None = []
+held_by h (Some desc) = unwrap_or (option_map (content h.pipes) (read_pipe desc.kind)) []
+
+-- the bytes that a read of at most so many brings
+unfoldable pub bytes_read : ℕ → ℕ → ℕ → Holding → List ℕ
+bytes_read p fd most h = take most (held_by h (description_at h.files p fd))
+
+-- a write to a pipe that is read, if there is one, of which so many bytes are done: those that it moves now stand at the end
+abbrev pub write_on : Holding → Bool → List ℕ → ℕ → ℕ → Outcome Flow
+write_on h nonblock bytes count q =
+    let old = content h.pipes q in
+    let moved = goes (length old) (length bytes) count in
+    record {
+      answer = write_flow (length bytes) count moved nonblock;
+      next = record h { pipes = holds h.pipes q (old ++ take moved (drop count bytes)) };
+    }
+
+-- the same for a pipe that may have no readers: the write is over then
+abbrev pub write_to : Holding → Bool → List ℕ → ℕ → Option ℕ → Outcome Flow
+write_to h nonblock bytes count None = refused h BadF
+write_to h nonblock bytes count (Some q) =
+    if readers h.files q == 0 then done h (Broken count) else write_on h nonblock bytes count q
+
+-- the same by what a descriptor refers to
+abbrev pub write_by : Holding → List ℕ → ℕ → Option Desc → Outcome Flow
+write_by h bytes count None = refused h BadF
+write_by h bytes count (Some desc) = write_to h desc.nonblock bytes count (write_pipe desc.kind)
+
+-- write(2) of these bytes to a pipe, of which so many are done: EBADF where the descriptor is not of an end that is written to
+unfoldable pub pipe_write_call : ℕ → ℕ → List ℕ → ℕ → Holding → Outcome Flow
+pipe_write_call p fd bytes count h = write_by h bytes count (description_at h.files p fd)

@@ -1,4 +1,7 @@
 pub mod Descriptions
+pub mod Pipes
 pub mod Holding
+pub mod OpenFiles
+pub mod Ends
 pub mod Backs
 pub mod inner

@@ -1,4 +1,4 @@
-// Calls on open files that may change the tree.
+// Calls on open files that may change the tree, or take a pipe along.
 ghost use Rattle.std.specs.Prelude.{◌≡◌, ◌≢◌, ◌<◌, None, Some, IsSome, IfSome, OnOk, IsErrOf};
 ghost use Rattle.std.specs.FinMap.{get};
 ghost use Rattle.dt_host.specs.Cause.{HasCause};
@@ -6,13 +6,15 @@ ghost use Rattle.dt_host.specs.World.{IsLive, OnlyForest};
 ghost use Rattle.dt_tree.specs.FileTree.{holds_of};
 ghost use Rattle.dt_tree.specs.Table.{Stands, shape_of, tree_of};
 ghost use Rattle.dt_fds.specs.declared.desc.TheConstants.{DESCRIPTOR_LIMIT};
-ghost use Rattle.dt_fds.specs.Descriptions.{IsDesc, inode_of, slot_at, opened};
+ghost use Rattle.dt_fds.specs.Descriptions.{IsDesc, inode_of, pipe_of, slot_at, opened};
+ghost use Rattle.dt_fds.specs.OpenFiles.{pipes_at};
 ghost use Rattle.dt_fds.specs.Holding.{over, with_hold, without_hold, let_go, without, add_call, close_call};
 ghost use Rattle.dt_fds.specs.Holding.{dup_within, dup_at_call, closed_below, dropped, without_marked};
 ghost use Rattle.dt_fds.specs.Holding.{marked_closed_below, closed_on_exec};
 ghost use Rattle.dt_fds.specs.Backs.{IsIn, IsBacked, at, holding, Leaves, Makes};
 
 use crate::desc::{DESCRIPTOR_LIMIT, Desc, Slot};
+use crate::ends::{close_end, kind_of, remove_pipe};
 use crate::files::Files;
 use dt_base::{Errno, NoMemory};
 use dt_host::{CallErr, Host, HostErr};
@@ -32,19 +34,21 @@ impl Files {
         requires backed { IsBacked (at self.old tree.old (H.view host.now)) }
         requires good { IsDesc desc }
         requires there { IsIn (shape_of tree.old (H.view host.now).forest) desc.kind }
+        requires no_end { pipe_of desc.kind ≡ None }
         ensures { Makes pid (add_call pid desc cloexec) (at self.old tree.old (H.view host.now))
             (at self.new tree.new (H.view host.now)) result (H.count host.now) (H.count host.now) }
     {
-        match self.free(pid, 0) {
+        match self.descriptors.free(pid, 0) {
             Some(fd) => {
-                self.open(host, tree, pid, fd, desc, cloexec)?;
+                self.open_at(host, tree, pid, fd, desc, cloexec)?;
                 Ok(fd)
             }
             None => Err(CallErr::Errno(Errno::MFile)),
         }
     }
 
-    /// Closes a descriptor; its description goes with the last one that refers to it, and lets its node go (close(2)).
+    /// Closes a descriptor; its description goes with the last one that refers to it, and lets its node go, or its pipe
+    /// where it was the last end of that (close(2)).
     /// EBADF where it is not open.
     #[tactic(auto, unfolding(crate::specs::Holding::close_call))]
     pub fn close<H: Host>(
@@ -59,7 +63,7 @@ impl Files {
             (at self.new tree.new (H.view host.new)) result (H.count host.old) (H.count host.new) }
     {
         let _before = host.faults();
-        match self.slot(pid, fd) {
+        match self.descriptors.slot(pid, fd) {
             Some(slot) => Ok(self.drop_slot(host, tree, pid, fd, slot)?),
             None => Err(CallErr::Errno(Errno::BadF)),
         }
@@ -107,11 +111,11 @@ impl Files {
             (at self.new tree.new (H.view host.new)) result (H.count host.old) (H.count host.new) }
     {
         let _before = host.faults();
-        match self.slot(pid, old) {
+        match self.descriptors.slot(pid, old) {
             Some(slot) => {
                 self.free_slot(host, tree, pid, new)?;
-                self.living(pid, old, slot);
-                self.share(pid, new, slot, cloexec)?;
+                self.descriptors.living(pid, old, slot);
+                self.descriptors.share(pid, new, slot, cloexec)?;
                 Ok(())
             }
             None => Err(CallErr::Errno(Errno::BadF)),
@@ -132,7 +136,7 @@ impl Files {
             result (H.count host.old) (H.count host.new) }
     {
         self.close_all(host, tree, pid)?;
-        self.forget(pid);
+        self.descriptors.forget(pid);
         Ok(())
     }
 
@@ -173,7 +177,7 @@ impl Files {
     }
 
     // Opens a description under a free descriptor.
-    fn open<H: Host>(
+    fn open_at<H: Host>(
         &mut self,
         host: &H,
         tree: &mut Tree,
@@ -185,16 +189,17 @@ impl Files {
         requires backed { IsBacked (at self.old tree.old (H.view host.now)) }
         requires good { IsDesc desc }
         requires there { IsIn (shape_of tree.old (H.view host.now).forest) desc.kind }
-        requires table { IsSome (get self.old.tables pid) }
+        requires no_end { pipe_of desc.kind ≡ None }
+        requires table { IsSome (get self.old.descriptors.tables pid) }
         requires within { fd < DESCRIPTOR_LIMIT }
-        requires free { slot_at self.old pid fd ≡ None }
-        ensures { Leaves pid (over (with_hold (tree_of tree.old (H.view host.now).forest)
-            (inode_of desc.kind)) (opened self.old pid fd desc cloexec))
+        requires free { slot_at self.old.descriptors pid fd ≡ None }
+        ensures { Leaves pid (over (with_hold (tree_of tree.old (H.view host.now).forest) (inode_of desc.kind))
+            (pipes_at self.old (H.view host.now).pipes) (opened self.old.descriptors pid fd desc cloexec))
             (at self.old tree.old (H.view host.now)) (at self.new tree.new (H.view host.now))
             result (H.count host.now) (H.count host.now) }
     {
         hold(host, tree, desc.kind.inode())?;
-        self.enter(pid, fd, desc, cloexec)?;
+        self.descriptors.enter(pid, fd, desc, cloexec)?;
         Ok(())
     }
 
@@ -208,12 +213,12 @@ impl Files {
     ) -> Result<(), HostErr>
         requires { IsBacked (at self.old tree.old (H.view host.old)) }
         ensures { Leaves pid (without (holding (at self.old tree.old (H.view host.old))) pid fd
-            (slot_at self.old pid fd))
+            (slot_at self.old.descriptors pid fd))
             (at self.old tree.old (H.view host.old)) (at self.new tree.new (H.view host.new))
             result (H.count host.old) (H.count host.new) }
     {
         let _before = host.faults();
-        match self.slot(pid, fd) {
+        match self.descriptors.slot(pid, fd) {
             Some(slot) => self.drop_slot(host, tree, pid, fd, slot),
             None => Ok(()),
         }
@@ -229,12 +234,12 @@ impl Files {
     ) -> Result<(), HostErr>
         requires { IsBacked (at self.old tree.old (H.view host.old)) }
         ensures { Leaves pid (without_marked (holding (at self.old tree.old (H.view host.old))) pid fd
-            (slot_at self.old pid fd))
+            (slot_at self.old.descriptors pid fd))
             (at self.old tree.old (H.view host.old)) (at self.new tree.new (H.view host.new))
             result (H.count host.old) (H.count host.new) }
     {
         let _before = host.faults();
-        match self.slot(pid, fd) {
+        match self.descriptors.slot(pid, fd) {
             Some(slot) if slot.cloexec => self.drop_slot(host, tree, pid, fd, slot),
             Some(_) | None => Ok(()),
         }
@@ -250,13 +255,15 @@ impl Files {
         slot: Slot,
     ) -> Result<(), HostErr>
         requires backed { IsBacked (at self.old tree.old (H.view host.old)) }
-        requires here { slot_at self.old pid fd ≡ Some slot }
+        requires here { slot_at self.old.descriptors pid fd ≡ Some slot }
         ensures { Leaves pid (without (holding (at self.old tree.old (H.view host.old))) pid fd
             (Some slot))
             (at self.old tree.old (H.view host.old)) (at self.new tree.new (H.view host.new))
             result (H.count host.old) (H.count host.new) }
     {
-        let gone = self.clear(pid, fd, slot);
+        let gone = self.descriptors.clear(pid, fd, slot);
+        let last = close_end(&mut self.ends, kind_of(&gone));
+        remove_pipe(&mut self.pipes, host, last)?;
         let_go(host, tree, gone)?;
         Ok(())
     }

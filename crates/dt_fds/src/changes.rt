@@ -1,4 +1,4 @@
-// Changes of open files that leave the tree.
+// Changes of descriptors that leave the tree and the pipes.
 ghost use Rattle.std.specs.Prelude.{◌≡◌, ◌<◌, ◌≤◌, None, Some, IsSome, IfSome, OnOk, OnErr, IsErrOf};
 ghost use Rattle.std.specs.FinMap.{get};
 ghost use Rattle.dt_tree.specs.FileTree.{FileTree};
@@ -7,22 +7,29 @@ ghost use Rattle.dt_fds.specs.declared.desc.TheConstants.{DESCRIPTOR_LIMIT};
 ghost use Rattle.dt_fds.specs.Descriptions.{slot_at, description_at, is_after, is_of_dir, changed, at_place};
 ghost use Rattle.dt_fds.specs.Descriptions.{with_flags, marked, duplicated, with_copy, table_of, with_table};
 ghost use Rattle.dt_fds.specs.Descriptions.{shared_all};
+ghost use Rattle.dt_fds.specs.Pipes.{Pipes};
 ghost use Rattle.dt_fds.specs.Holding.{over, dup_call};
 ghost use Rattle.dt_fds.specs.Backs.{KeepsNodes, Does, HasFailed};
 
 use crate::desc::{DESCRIPTOR_LIMIT, Slot, Spot};
-use crate::files::Files;
+use crate::descriptors::Descriptors;
 use dt_base::{Errno, NoMemory};
 use dt_host::{CallErr, HostErr};
 
-impl Files {
+impl Descriptors {
     /// Lets the lowest free descriptor from a given one on refer to the description of an open one (dup(2); fcntl(2),
     /// F_DUPFD). EBADF where that is not open, then EMFILE where none is free.
     #[tactic(auto, unfolding(crate::specs::Holding::dup_call))]
-    pub fn dup(&mut self, pid: u32, fd: u32, from: u32, cloexec: bool) -> Result<u32, CallErr>
+    pub(crate) fn dup(
+        &mut self,
+        pid: u32,
+        fd: u32,
+        from: u32,
+        cloexec: bool,
+    ) -> Result<u32, CallErr>
         requires { from ≤ DESCRIPTOR_LIMIT }
-        ensures call { (t : FileTree) → Does result (over t self.new)
-            (dup_call pid fd from cloexec (over t self.old)) }
+        ensures call { (t : FileTree) (pipes : Pipes) → Does result (over t pipes self.new)
+            (dup_call pid fd from cloexec (over t pipes self.old)) }
         ensures nodes { UnlessFailed result (KeepsNodes pid self.old self.new) }
         ensures quiet { HasFailed result → ⊥ }
     {
@@ -41,7 +48,7 @@ impl Files {
 
     /// Gives the open file description of a descriptor another place (lseek(2)); all that refer to it see that.
     /// Nothing is done where the descriptor is not open.
-    pub fn set_place(&mut self, pid: u32, fd: u32, spot: Spot)
+    pub(crate) fn set_place(&mut self, pid: u32, fd: u32, spot: Spot)
         requires { IfSome (description_at self.old pid fd)
             (λ desc. is_after spot ≡ is_of_dir desc.kind) }
         ensures files { self.new ≡ changed self.old (at_place spot) (slot_at self.old pid fd) }
@@ -58,7 +65,7 @@ impl Files {
 
     /// Gives the open file description of a descriptor other flags (fcntl(2), F_SETFL); all that refer to it see them.
     /// Nothing is done where the descriptor is not open.
-    pub fn set_flags(&mut self, pid: u32, fd: u32, append: bool, nonblock: bool)
+    pub(crate) fn set_flags(&mut self, pid: u32, fd: u32, append: bool, nonblock: bool)
         ensures files { self.new
             ≡ changed self.old (with_flags append nonblock) (slot_at self.old pid fd) }
         ensures nodes { KeepsNodes pid self.old self.new }
@@ -74,7 +81,7 @@ impl Files {
 
     /// Gives a descriptor another close-on-exec bit, which is its own (fcntl(2), F_SETFD). Nothing is done where it is
     /// not open.
-    pub fn set_cloexec(&mut self, pid: u32, fd: u32, cloexec: bool)
+    pub(crate) fn set_cloexec(&mut self, pid: u32, fd: u32, cloexec: bool)
         ensures files { self.new ≡ marked self.old pid fd cloexec (slot_at self.old pid fd) }
         ensures nodes { KeepsNodes pid self.old self.new }
     {
@@ -88,7 +95,7 @@ impl Files {
     /// close-on-exec bits (fork(2); clone(2) without CLONE_FILES). Offsets and flags are shared from then on. A parent
     /// that has no table gives none.
     #[tactic(auto, using(crate::proofs::Sharing::sharing))]
-    pub fn share_all(&mut self, parent: u32, child: u32) -> Result<(), NoMemory>
+    pub(crate) fn share_all(&mut self, parent: u32, child: u32) -> Result<(), NoMemory>
         requires { get self.old.tables child ≡ None }
         ensures files { OnOk result (self.new ≡ shared_all parent child self.old) }
         ensures nodes { KeepsNodes child self.old self.new }

@@ -1,6 +1,6 @@
 // Open file descriptions.
 ghost use Rattle.std.specs.Prelude.{◌≡◌};
-ghost use Rattle.dt_fds.specs.Descriptions.{inode_of};
+ghost use Rattle.dt_fds.specs.Descriptions.{inode_of, pipe_of, read_pipe, write_pipe};
 
 use dt_base::Blob;
 
@@ -14,6 +14,10 @@ pub enum DescKind {
     File(u64),
     /// A directory of the tree, by its inode.
     Dir(u64),
+    /// The end of a pipe that is read from, by the pipe's number (pipe(2)).
+    PipeRead(u32),
+    /// The end of a pipe that is written to, by the pipe's number.
+    PipeWrite(u32),
     /// The input (standard input at the start).
     Input,
     /// An output stream, by its number: 1 or 2.
@@ -27,7 +31,48 @@ impl DescKind {
     {
         match self {
             DescKind::File(n) | DescKind::Dir(n) => Some(n),
-            DescKind::Input | DescKind::Stream(_) => None,
+            DescKind::PipeRead(_)
+            | DescKind::PipeWrite(_)
+            | DescKind::Input
+            | DescKind::Stream(_) => { None }
+        }
+    }
+
+    /// The number of the pipe of which it is an end.
+    pub fn pipe(self) -> Option<u32>
+        ensures { result ≡ pipe_of self }
+    {
+        match self {
+            DescKind::PipeRead(q) | DescKind::PipeWrite(q) => Some(q),
+            DescKind::File(_) | DescKind::Dir(_) | DescKind::Input | DescKind::Stream(_) => None,
+        }
+    }
+
+    /// The number of the pipe of which it is the end that is read from.
+    pub fn read_pipe(self) -> Option<u32>
+        ensures { result ≡ read_pipe self }
+    {
+        match self {
+            DescKind::PipeRead(q) => Some(q),
+            DescKind::File(_)
+            | DescKind::Dir(_)
+            | DescKind::PipeWrite(_)
+            | DescKind::Input
+            | DescKind::Stream(_) => None,
+        }
+    }
+
+    /// The number of the pipe of which it is the end that is written to.
+    pub fn write_pipe(self) -> Option<u32>
+        ensures { result ≡ write_pipe self }
+    {
+        match self {
+            DescKind::PipeWrite(q) => Some(q),
+            DescKind::File(_)
+            | DescKind::Dir(_)
+            | DescKind::PipeRead(_)
+            | DescKind::Input
+            | DescKind::Stream(_) => None,
         }
     }
 }

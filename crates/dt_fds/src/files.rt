@@ -1,386 +1,116 @@
-// The open files of processes.
-ghost use Rattle.std.specs.Prelude.{◌≡◌, ℕ, ◌+◌, ◌-◌, ◌<◌, ◌≤◌, ◌==◌, cond, false, None, Some, IsSome, IfSome, IfOk};
-ghost use Rattle.std.specs.Prelude.{OnOk, OnErr, is_some, unwrap_or, slice_set, length, replicate, []};
+// The open files of processes, with the pipes of which some are ends.
+ghost use Rattle.std.specs.Prelude.{◌≡◌, ◌≤◌, None, IfSome, OnOk, OnErr, IsErrOf, is_some};
 ghost use Rattle.std.specs.Option.{option_copied, is_none};
-ghost use Rattle.std.specs.List.{position};
-ghost use Rattle.std.specs.FinMap.{get, insert, remove};
-ghost use Rattle.dt_fds.specs.Backs.{KeepsNodes};
+ghost use Rattle.std.specs.FinMap.{get};
+ghost use Rattle.dt_tree.specs.FileTree.{FileTree};
+ghost use Rattle.dt_tree.specs.Calls.{UnlessFailed};
 ghost use Rattle.dt_fds.specs.declared.desc.TheConstants.{DESCRIPTOR_LIMIT};
-ghost use Rattle.dt_fds.specs.Descriptions.{IsDesc, none_open, table_of, slot_at, description_at, cloexec_at};
-ghost use Rattle.dt_fds.specs.Descriptions.{lowest_free, with_slot, with_table, with_new, opened, duplicated, freed};
-ghost use Rattle.dt_fds.specs.Descriptions.{swept, gone, with_description, at_place, with_flags, is_after, is_of_dir};
-ghost use Rattle.dt_fds.specs.Descriptions.{forgotten};
+ghost use Rattle.dt_fds.specs.Descriptions.{IsDesc, table_of, slot_at, description_at, cloexec_at, lowest_free};
+ghost use Rattle.dt_fds.specs.Descriptions.{changed, at_place, with_flags, marked, is_after, is_of_dir, shared_all};
+ghost use Rattle.dt_fds.specs.Pipes.{Pipes as PipesView};
+ghost use Rattle.dt_fds.specs.Holding.{over, dup_call};
+ghost use Rattle.dt_fds.specs.Backs.{KeepsNodes, Does, HasFailed};
+ghost use Rattle.dt_fds.specs.OpenFiles.{with_descriptors};
 
-use crate::desc::{DESCRIPTOR_LIMIT, Desc, DescKind, Slot, Spot};
+use crate::desc::{DESCRIPTOR_LIMIT, Desc, Spot};
+use crate::descriptors::Descriptors;
+use crate::ends::Ends;
 use dt_base::NoMemory;
+use dt_host::CallErr;
 use dt_numbered::Numbered;
-use std::alloc::Global;
-use std::marker::Model;
+use dt_pipes::Pipes;
 
-/// The open files of processes: the open file descriptions, and for each process by its pid a table of descriptors that
-/// refer to them. Processes share a description after fork(2), and descriptors of one process after dup(2).
+/// The open files of processes: the open file descriptions, for each process by its pid a table of descriptors that
+/// refer to them, and the pipes of which some are ends. Processes share a description after fork(2), and descriptors
+/// of one process after dup(2).
 #[derive(Drop)]
 pub struct Files {
-    descs: Numbered<Desc>,
-    // How many descriptors refer to each description.
-    counts: Numbered<u64>,
-    tables: Numbered<[Option<Slot>; DESCRIPTOR_LIMIT]>,
-    next: u64,
-}
-
-impl Model for Files {
-    ghost use Rattle.dt_fds.specs.Descriptions.{Descriptions};
-    ghost use Rattle.dt_fds.specs.inner.Codes.{descriptions_code};
-    ghost use Rattle.dt_fds.specs.inner.Counts.{Counts};
-
-    ghost Value = { Descriptions };
-
-    ghost coded = { descriptions_code };
-
-    ghost view = { λ f. record { descs = f.descs; tables = f.tables; next = f.next } };
-
-    ghost invariant = { λ f. Counts f.descs f.counts f.tables f.next };
+    pub descriptors: Descriptors,
+    pub pipes: Pipes,
+    /// Which ends of each pipe are open.
+    pub ends: Numbered<Ends>,
 }
 
 impl Files {
     /// The open file description that a descriptor refers to; none exactly where the process has no such descriptor.
-    #[tactic(auto, unfolding(crate::specs::Descriptions::description_at))]
     pub fn look(&self, pid: u32, fd: u32) -> Option<&Desc>
-        ensures desc { option_copied result ≡ description_at self.now pid fd }
-        ensures open { is_some (option_copied result) ≡ is_some (slot_at self.now pid fd) }
+        ensures desc { option_copied result ≡ description_at self.now.descriptors pid fd }
+        ensures open { is_some (option_copied result) ≡ is_some (slot_at self.now.descriptors pid fd) }
         ensures good { IfSome (option_copied result) IsDesc }
     {
-        match self.slot(pid, fd) {
-            Some(slot) => {
-                self.living(pid, fd, slot);
-                self.desc(slot.number)
-            }
-            None => None,
-        }
+        self.descriptors.look(pid, fd)
     }
 
     /// Whether no descriptor of a process is free.
     pub fn is_full(&self, pid: u32) -> bool
-        ensures { result ≡ is_none (lowest_free (table_of self.now pid) 0) }
+        ensures { result ≡ is_none (lowest_free (table_of self.now.descriptors pid) 0) }
     {
-        self.free(pid, 0).is_none()
-    }
-
-    /// Whether a process has a table of descriptors.
-    pub fn has_table(&self, pid: u32) -> bool
-        ensures { result ≡ is_some (get self.now.tables pid) }
-    {
-        self.tables.contains(u64::from(pid))
+        self.descriptors.is_full(pid)
     }
 
     /// A descriptor's close-on-exec bit; none where the process has no such descriptor (fcntl(2), F_GETFD).
     pub fn is_cloexec(&self, pid: u32, fd: u32) -> Option<bool>
-        ensures { result ≡ cloexec_at self.now pid fd }
+        ensures { result ≡ cloexec_at self.now.descriptors pid fd }
     {
-        match self.slot(pid, fd) {
-            Some(slot) => Some(slot.cloexec),
-            None => None,
-        }
+        self.descriptors.is_cloexec(pid, fd)
     }
 
-    // The slot of a descriptor, if it is open.
-    #[tactic(auto, unfolding(crate::specs::Descriptions::slot_at))]
-    pub(crate) fn slot(&self, pid: u32, fd: u32) -> Option<Slot>
-        ensures slot { result ≡ slot_at self.now pid fd }
-        ensures there { IfSome result (λ _. IsSome (get self.now.tables pid)) }
-        ensures within { IfSome result (λ _. fd < DESCRIPTOR_LIMIT) }
-    {
-        match self.tables.get(u64::from(pid)) {
-            Some(table) => match table.get(fd as usize) {
-                Some(slot) => *slot,
-                None => None,
-            },
-            None => None,
-        }
-    }
-
-    // The description of that number, if it is open.
-    fn desc(&self, number: u64) -> Option<&Desc>
-        ensures desc { option_copied result ≡ get self.now.descs number }
-        ensures good { IfSome (option_copied result) IsDesc }
-    {
-        self.descs.get(number)
-    }
-
-    // What an open descriptor refers to is open: nothing is done.
-    pub(crate) fn living(&self, pid: u32, fd: u32, slot: Slot)
-        requires here { slot_at self.now pid fd ≡ Some slot }
-        ensures { IsSome (get self.now.descs slot.number) }
-    {
-        let _ = &self.descs;
-    }
-
-    // A table has a place for each descriptor that may be open: nothing is done.
-    pub(crate) fn sized(&self, pid: u32)
-        requires { IsSome (get self.now.tables pid) }
-        ensures { length (table_of self.now pid) ≡ DESCRIPTOR_LIMIT }
-    {
-        let _ = &self.tables;
-    }
-
-    // The lowest free descriptor from a given one on, if there is one.
-    #[tactic(auto, unfolding(crate::specs::Descriptions::lowest_free))]
-    pub(crate) fn free(&self, pid: u32, from: u32) -> Option<u32>
+    /// Lets the lowest free descriptor from a given one on refer to the description of an open one (dup(2); fcntl(2),
+    /// F_DUPFD). EBADF where that is not open, then EMFILE where none is free.
+    pub fn dup(&mut self, pid: u32, fd: u32, from: u32, cloexec: bool) -> Result<u32, CallErr>
         requires { from ≤ DESCRIPTOR_LIMIT }
-        ensures value { result ≡ lowest_free (table_of self.now pid) from }
-        ensures there { IfSome result (λ _. IsSome (get self.now.tables pid)) }
-        ensures within { IfSome result (λ fd. fd < DESCRIPTOR_LIMIT) }
-        ensures free { IfSome result (λ fd. slot_at self.now pid fd ≡ None) }
+        ensures call { (t : FileTree) (pipes : PipesView) → Does result (over t pipes self.new.descriptors)
+            (dup_call pid fd from cloexec (over t pipes self.old.descriptors)) }
+        ensures nodes { UnlessFailed result (KeepsNodes pid self.old.descriptors self.new.descriptors) }
+        ensures pipes { self.new.pipes ≡ self.old.pipes }
+        ensures ends { self.new.ends ≡ self.old.ends }
+        ensures quiet { HasFailed result → ⊥ }
     {
-        let found = self.tables.get(u64::from(pid)).copied();
-        match found {
-            Some(table) => first_free(&table, from),
-            None => None,
-        }
+        self.descriptors.dup(pid, fd, from, cloexec)
     }
 
-    // The tables of one process that has nothing open.
-    pub(crate) fn none(alloc: Global, pid: u32) -> Result<Files, NoMemory>
-        ensures { IfOk result (λ files. files ≡ none_open pid) }
-    {
-        let mut tables = Numbered::new(alloc);
-        tables.put(u64::from(pid), [None; DESCRIPTOR_LIMIT])?;
-        Ok(Files {
-            descs: Numbered::new(alloc),
-            counts: Numbered::new(alloc),
-            tables,
-            next: 1,
-        })
-    }
-
-    // Lets a free descriptor refer to a description.
-    #[tactic(auto, unfolding(crate::specs::Descriptions::with_slot))]
-    pub(crate) fn place(&mut self, pid: u32, fd: u32, slot: Slot) -> Result<(), NoMemory>
-        requires table { IsSome (get self.old.tables pid) }
-        requires within { fd < DESCRIPTOR_LIMIT }
-        requires free { slot_at self.old pid fd ≡ None }
-        requires living { IsSome (get self.old.descs slot.number) }
-        ensures ok { OnOk result (self.new ≡ with_slot self.old pid fd (Some slot)) }
-        ensures err { OnErr result (self.new ≡ self.old) }
-    {
-        raise(&mut self.counts, slot.number)?;
-        put_slot(&mut self.tables, pid, fd, Some(slot));
-        Ok(())
-    }
-
-    // Frees a descriptor, and gives the description that goes with it if it was the last that referred to it.
-    #[tactic(auto, unfolding(crate::specs::Descriptions::freed, crate::specs::Descriptions::with_slot, crate::specs::Descriptions::swept, crate::specs::Descriptions::gone))]
-    pub(crate) fn clear(&mut self, pid: u32, fd: u32, slot: Slot) -> Option<Desc>
-        requires here { slot_at self.old pid fd ≡ Some slot }
-        ensures files { self.new ≡ freed self.old pid fd slot.number }
-        ensures gone { result ≡ gone (with_slot self.old pid fd None) slot.number }
-    {
-        put_slot(&mut self.tables, pid, fd, None);
-        lower(&mut self.counts, &mut self.descs, slot.number)
-    }
-
-    // Lets a free descriptor refer to a new description. Want of memory is the answer where the numbers are used up.
-    #[tactic(auto, unfolding(crate::specs::Descriptions::with_slot, crate::specs::Descriptions::with_new))]
-    pub(crate) fn enter(
-        &mut self,
-        pid: u32,
-        fd: u32,
-        desc: Desc,
-        cloexec: bool,
-    ) -> Result<(), NoMemory>
-        requires table { IsSome (get self.old.tables pid) }
-        requires within { fd < DESCRIPTOR_LIMIT }
-        requires free { slot_at self.old pid fd ≡ None }
-        requires good { IsDesc desc }
-        ensures fresh { get self.old.descs self.old.next ≡ None }
-        ensures ok { OnOk result (self.new ≡ opened self.old pid fd desc cloexec) }
-    {
-        let number = self.next;
-        if number == u64::MAX {
-            return Err(NoMemory);
-        }
-        self.descs.put(number, desc)?;
-        match self.counts.put(number, 1) {
-            Ok(()) => {
-                put_slot(&mut self.tables, pid, fd, Some(Slot { number, cloexec }));
-                self.next = number + 1;
-                Ok(())
-            }
-            Err(_) => {
-                self.descs.take(number);
-                Err(NoMemory)
-            }
-        }
-    }
-
-    // Gives an open description another place.
-    #[tactic(auto, unfolding(crate::specs::Descriptions::with_description))]
-    pub(crate) fn move_to(&mut self, number: u64, spot: Spot)
-        requires living { IsSome (get self.old.descs number) }
-        requires kind { IfSome (get self.old.descs number)
+    /// Gives the open file description of a descriptor another place (lseek(2)); all that refer to it see that.
+    /// Nothing is done where the descriptor is not open.
+    pub fn set_place(&mut self, pid: u32, fd: u32, spot: Spot)
+        requires { IfSome (description_at self.old.descriptors pid fd)
             (λ desc. is_after spot ≡ is_of_dir desc.kind) }
-        ensures files { self.new ≡ with_description self.old number (at_place spot) }
-        ensures nodes { (p : ℕ) → KeepsNodes p self.old self.new }
+        ensures files { self.new ≡ with_descriptors self.old
+            (changed self.old.descriptors (at_place spot) (slot_at self.old.descriptors pid fd)) }
+        ensures nodes { KeepsNodes pid self.old.descriptors self.new.descriptors }
     {
-        put_place(&mut self.descs, number, spot);
+        self.descriptors.set_place(pid, fd, spot);
     }
 
-    // Gives an open description other flags.
-    #[tactic(auto, unfolding(crate::specs::Descriptions::with_description))]
-    pub(crate) fn flag(&mut self, number: u64, append: bool, nonblock: bool)
-        requires { IsSome (get self.old.descs number) }
-        ensures files { self.new ≡ with_description self.old number (with_flags append nonblock) }
-        ensures nodes { (p : ℕ) → KeepsNodes p self.old self.new }
+    /// Gives the open file description of a descriptor other flags (fcntl(2), F_SETFL); all that refer to it see them.
+    /// Nothing is done where the descriptor is not open.
+    pub fn set_flags(&mut self, pid: u32, fd: u32, append: bool, nonblock: bool)
+        ensures files { self.new ≡ with_descriptors self.old
+            (changed self.old.descriptors (with_flags append nonblock) (slot_at self.old.descriptors pid fd)) }
+        ensures nodes { KeepsNodes pid self.old.descriptors self.new.descriptors }
     {
-        put_flags(&mut self.descs, number, append, nonblock);
+        self.descriptors.set_flags(pid, fd, append, nonblock);
     }
 
-    // Gives an open descriptor another close-on-exec bit.
-    #[tactic(auto, unfolding(crate::specs::Descriptions::with_slot))]
-    pub(crate) fn mark(&mut self, pid: u32, fd: u32, slot: Slot, cloexec: bool)
-        requires here { slot_at self.old pid fd ≡ Some slot }
-        ensures files { self.new ≡ duplicated self.old pid fd slot cloexec }
-        ensures nodes { KeepsNodes pid self.old self.new }
+    /// Gives a descriptor another close-on-exec bit, which is its own (fcntl(2), F_SETFD). Nothing is done where it is
+    /// not open.
+    pub fn set_cloexec(&mut self, pid: u32, fd: u32, cloexec: bool)
+        ensures files { self.new ≡ with_descriptors self.old
+            (marked self.old.descriptors pid fd cloexec (slot_at self.old.descriptors pid fd)) }
+        ensures nodes { KeepsNodes pid self.old.descriptors self.new.descriptors }
     {
-        let number = slot.number;
-        put_slot(&mut self.tables, pid, fd, Some(Slot { number, cloexec }));
+        self.descriptors.set_cloexec(pid, fd, cloexec);
     }
 
-    // Gives a process that has no table one whose descriptors are free.
-    pub(crate) fn begin(&mut self, pid: u32) -> Result<(), NoMemory>
-        requires { get self.old.tables pid ≡ None }
-        ensures ok { OnOk result
-            (self.new ≡ with_table self.old pid (replicate DESCRIPTOR_LIMIT None)) }
-        ensures err { OnErr result (self.new ≡ self.old) }
+    /// Gives a child a table like its parent's: its descriptors refer to the same descriptions, and have the same
+    /// close-on-exec bits (fork(2); clone(2) without CLONE_FILES). Offsets and flags are shared from then on. A parent
+    /// that has no table gives none.
+    pub fn share_all(&mut self, parent: u32, child: u32) -> Result<(), NoMemory>
+        requires { get self.old.descriptors.tables child ≡ None }
+        ensures files { OnOk result (self.new.descriptors ≡ shared_all parent child self.old.descriptors) }
+        ensures nodes { KeepsNodes child self.old.descriptors self.new.descriptors }
+        ensures pipes { self.new.pipes ≡ self.old.pipes }
+        ensures ends { self.new.ends ≡ self.old.ends }
     {
-        self.tables.put(u64::from(pid), [None; DESCRIPTOR_LIMIT])?;
-        Ok(())
+        self.descriptors.share_all(parent, child)
     }
-
-    // Takes away the table of a process that has nothing open.
-    pub(crate) fn forget(&mut self, pid: u32)
-        requires { (fd : ℕ) → fd < DESCRIPTOR_LIMIT → slot_at self.old pid fd ≡ None }
-        ensures files { self.new ≡ forgotten self.old pid }
-        ensures nodes { KeepsNodes pid self.old self.new }
-    {
-        self.tables.take(u64::from(pid));
-    }
-}
-
-// Puts this at a place of a table.
-fn put_slot(
-    tables: &mut Numbered<[Option<Slot>; DESCRIPTOR_LIMIT]>,
-    pid: u32,
-    fd: u32,
-    slot: Option<Slot>,
-)
-    requires table { IsSome (get tables.old pid) }
-    requires within { fd < DESCRIPTOR_LIMIT }
-    ensures { tables.new ≡ insert tables.old pid
-        (slice_set (unwrap_or (get tables.old pid) []) fd slot) }
-{
-    match tables.get(u64::from(pid)).copied() {
-        Some(mut table) => {
-            table[fd as usize] = slot;
-            tables.set(u64::from(pid), table);
-        }
-        None => {}
-    }
-}
-
-// Gives a description another place.
-fn put_place(descs: &mut Numbered<Desc>, n: u64, spot: Spot)
-    requires { IsSome (get descs.old n) }
-    ensures { IfSome (get descs.old n) (λ old. descs.new ≡ insert descs.old n (at_place spot old)) }
-{
-    let old = descs.swap(n, blank());
-    descs.set(n, Desc { spot, ..old });
-}
-
-// Gives a description other flags.
-fn put_flags(descs: &mut Numbered<Desc>, n: u64, append: bool, nonblock: bool)
-    requires { IsSome (get descs.old n) }
-    ensures { IfSome (get descs.old n)
-        (λ old. descs.new ≡ insert descs.old n (with_flags append nonblock old)) }
-{
-    let old = descs.swap(n, blank());
-    descs.set(
-        n,
-        Desc {
-            append,
-            nonblock,
-            ..old
-        },
-    );
-}
-
-// What stands in the place of a description while that is changed.
-fn blank() -> Desc {
-    Desc {
-        kind: DescKind::Input,
-        spot: Spot::At(0),
-        access: 0,
-        append: false,
-        nonblock: false,
-    }
-}
-
-// Counts one more. Want of memory is the answer where there are as many as can be counted.
-fn raise(counts: &mut Numbered<u64>, n: u64) -> Result<(), NoMemory>
-    requires { IsSome (get counts.old n) }
-    ensures ok { OnOk result
-        (counts.new ≡ insert counts.old n (unwrap_or (get counts.old n) 0 + 1)) }
-    ensures err { OnErr result (counts.new ≡ counts.old) }
-{
-    match counts.get(n).copied() {
-        Some(count) if count < u64::MAX => {
-            counts.set(n, count + 1);
-            Ok(())
-        }
-        Some(_) | None => Err(NoMemory),
-    }
-}
-
-// Counts one less; with the last the description goes.
-fn lower(counts: &mut Numbered<u64>, descs: &mut Numbered<Desc>, n: u64) -> Option<Desc>
-    requires { 0 < unwrap_or (get counts.old n) 0 }
-    ensures gone { result ≡ cond (unwrap_or (get counts.old n) 0 == 1) (get descs.old n) None }
-    ensures descs { descs.new
-        ≡ cond (unwrap_or (get counts.old n) 0 == 1) (remove descs.old n) descs.old }
-    ensures counts { counts.new ≡ cond (unwrap_or (get counts.old n) 0 == 1)
-        (remove counts.old n) (insert counts.old n (unwrap_or (get counts.old n) 0 - 1)) }
-{
-    match counts.get(n).copied() {
-        Some(1) => {
-            counts.take(n);
-            descs.take(n)
-        }
-        Some(count) => {
-            counts.set(n, count - 1);
-            None
-        }
-        None => None,
-    }
-}
-
-// The lowest free index of a table from a given one on.
-#[tactic(auto, unfolding(crate::specs::Descriptions::lowest_free))]
-fn first_free(table: &[Option<Slot>; DESCRIPTOR_LIMIT], from: u32) -> Option<u32>
-    requires { from ≤ DESCRIPTOR_LIMIT }
-    ensures value { result ≡ lowest_free table.now from }
-    ensures within { IfSome result (λ fd. fd < DESCRIPTOR_LIMIT) }
-{
-    let (_, rest) = table.split_at(from as usize);
-    match first_none(rest) {
-        Some(i) => Some(from + i as u32),
-        None => None,
-    }
-}
-
-// The first index at which there is nothing.
-fn first_none(rest: &[Option<Slot>]) -> Option<usize>
-    ensures value { result ≡ position is_none rest.now }
-    ensures within { IfSome result (λ i. i < length rest.now) }
-{
-    rest.iter().position(|slot| slot.is_none())
 }

@@ -1,23 +1,56 @@
 // The open files of a container's first process.
 ghost use Rattle.std.specs.Prelude.{◌≡◌, ℕ, IfOk, OnOk};
+ghost use Rattle.std.specs.FinMap.{empty};
 ghost use Rattle.dt_host.specs.World.{Forest};
-ghost use Rattle.dt_fds.specs.Backs.{AllIn, descriptions_of};
-ghost use Rattle.dt_fds.specs.Descriptions.{IsDesc, first_desc, first_files, opened_lowest};
+ghost use Rattle.dt_host.specs.World.{Pipes as HostPipes};
+ghost use Rattle.dt_pipes.specs.Table.{Stands};
+ghost use Rattle.dt_pipes.specs.declared.pipe.TheConstants.{FIRST_PIPE};
+ghost use Rattle.dt_fds.specs.Ends.{AreCounted};
+ghost use Rattle.dt_fds.specs.Pipes.{Pipes as PipesView};
+ghost use Rattle.dt_fds.specs.Backs.{AllIn, AllEnds, descriptions_of};
+ghost use Rattle.dt_fds.specs.Descriptions.{IsDesc, first_desc, first_files, opened_lowest, readers, writers};
 
 use crate::desc::{Desc, DescKind, Spot};
+use crate::descriptors::Descriptors;
 use crate::files::Files;
 use dt_base::NoMemory;
+use dt_numbered::Numbered;
+use dt_pipes::Pipes;
 use std::alloc::Global;
 
 impl Files {
-    /// The open files of the first process: descriptor 0 is the input, 1 and 2 are the output streams.
-    #[tactic(auto, unfolding(crate::specs::Descriptions::first_files))]
+    /// The open files of the first process: descriptor 0 is the input, 1 and 2 are the output streams. There is no pipe.
     pub fn first(alloc: Global, pid: u32) -> Result<Files, NoMemory>
+        ensures files { IfOk result (λ files. files.descriptors ≡ first_files pid) }
+        ensures nodes { IfOk result (λ files. (n : ℕ) → descriptions_of files.descriptors n ≡ 0) }
+        ensures all_in { IfOk result (λ files. (v : Forest) → AllIn v files.descriptors) }
+        ensures all_ends { IfOk result (λ files. (pipes : PipesView) → AllEnds pipes files.descriptors) }
+        ensures no_pipes { IfOk result (λ files. files.pipes.pipes ≡ empty) }
+        ensures next { IfOk result (λ files. files.pipes.next ≡ FIRST_PIPE) }
+        ensures counted { IfOk result (λ files. AreCounted files.descriptors files.ends) }
+        ensures stands { IfOk result (λ files. (host : HostPipes) → host ≡ empty → Stands files.pipes host) }
+    {
+        let descriptors = Descriptors::first(alloc, pid)?;
+        Ok(Files {
+            descriptors,
+            pipes: Pipes::new(alloc),
+            ends: Numbered::new(alloc),
+        })
+    }
+}
+
+impl Descriptors {
+    // The descriptors of the first process.
+    #[tactic(auto, unfolding(crate::specs::Descriptions::first_files))]
+    fn first(alloc: Global, pid: u32) -> Result<Descriptors, NoMemory>
         ensures files { IfOk result (λ files. files ≡ first_files pid) }
         ensures nodes { IfOk result (λ files. (n : ℕ) → descriptions_of files n ≡ 0) }
         ensures all_in { IfOk result (λ files. (v : Forest) → AllIn v files) }
+        ensures all_ends { IfOk result (λ files. (pipes : PipesView) → AllEnds pipes files) }
+        ensures reading { IfOk result (λ files. (q : ℕ) → readers files q ≡ 0) }
+        ensures writing { IfOk result (λ files. (q : ℕ) → writers files q ≡ 0) }
     {
-        let mut files = Files::none(alloc, pid)?;
+        let mut files = Descriptors::none(alloc, pid)?;
         files.enter_lowest(pid, first_desc(DescKind::Input, 0))?;
         files.enter_lowest(pid, first_desc(DescKind::Stream(1), 1))?;
         files.enter_lowest(pid, first_desc(DescKind::Stream(2), 1))?;

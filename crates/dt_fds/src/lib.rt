@@ -4,8 +4,15 @@
 mod calls;
 mod changes;
 mod desc;
+mod descriptors;
+mod ends;
 mod files;
 mod first;
+mod flow;
+mod pipes;
 
 pub use desc::{DESCRIPTOR_LIMIT, Desc, DescKind, Slot, Spot};
+pub use descriptors::Descriptors;
+pub use ends::Ends;
 pub use files::Files;
+pub use flow::Flow;

@@ -1,4 +1,4 @@
--- What a host keeps: the nodes of a tree by number, which of them is the root, and the pids that are live.
+-- What a host keeps: the nodes of a tree by number, which of them is the root, what each pipe holds, and the pids that are live.
 use Rattle.std.specs.Prelude.{◌≡◌, ◌≢◌, ℕ, ◌^◌, ◌<◌, List, [], length, Option, None, Some, option_and_then, unwrap_or, IsSome}
 use Rattle.std.specs.Ordering.{nat_cmp}
 use Rattle.std.specs.Cmp.Lexicographic.{slice_cmp}
@@ -21,6 +21,10 @@ pub record Forest : Type 0 where
   pub nodes : FinMap nat_cmp Node
   pub root : ℕ
 
+-- the bytes that each pipe holds (pipe(7)), the oldest first, by the pipe's number
+abbrev pub Pipes : Type 0
+Pipes = FinMap nat_cmp (List ℕ)
+
 -- the pids of live processes
 abbrev pub Pids : Type 0
 Pids = FinSet nat_cmp
@@ -28,6 +32,7 @@ Pids = FinSet nat_cmp
 -- all that a host keeps
 pub record World : Type 0 where
   pub forest : Forest
+  pub pipes : Pipes
   pub pids : Pids
 
 -- the node of that number
@@ -90,6 +95,19 @@ pub record IsSized (v : Forest) : Type 0 where
   pub root : v.root < 2 ^ 64
   pub files : (n : ℕ) → length (content v n) < 2 ^ 64
 
+-- the number is one of a pipe
+abbrev pub IsPipe : World → ℕ → Type 0
+IsPipe w n = IsSome (get w.pipes n)
+
+-- what a pipe holds; none where there is no pipe
+abbrev pub held : World → ℕ → List ℕ
+held w n = unwrap_or (get w.pipes n) []
+
+-- the numbers of pipes have 64 bits, and none of them is a node's
+pub record ArePipes (w : World) : Type 0 where
+  pub numbers : (n : ℕ) → IsPipe w n → n < 2 ^ 64
+  pub apart : (n : ℕ) → IsLive w.forest n → get w.pipes n ≡ None
+
 -- the entries of a directory; none where there is no directory
 unfoldable pub names_at : Forest → ℕ → Names
 names_at v d = unwrap_or (dir_at v d) empty
@@ -134,21 +152,31 @@ with_forest w v = record w { forest = v }
 abbrev pub with_pids : World → Pids → World
 with_pids w pids = record w { pids = pids }
 
+-- the world with a pipe of that number that holds these bytes
+abbrev pub with_pipe : World → ℕ → List ℕ → World
+with_pipe w n bytes = record w { pipes = insert w.pipes n bytes }
+
+-- the world without the pipe of that number
+abbrev pub without_pipe : World → ℕ → World
+without_pipe w n = record w { pipes = remove w.pipes n }
+
 -- nothing but the forest may have changed
-abbrev pub OnlyForest : World → World → Type 0
-OnlyForest old new = new.pids ≡ old.pids
+pub record OnlyForest (old new : World) : Type 0 where
+  pub pipes : new.pipes ≡ old.pipes
+  pub pids : new.pids ≡ old.pids
 
 -- nothing but the pids may have changed
-abbrev pub OnlyPids : World → World → Type 0
-OnlyPids old new = new.forest ≡ old.forest
+pub record OnlyPids (old new : World) : Type 0 where
+  pub forest : new.forest ≡ old.forest
+  pub pipes : new.pipes ≡ old.pipes
 
 -- a forest of nothing but a root without entries
 abbrev pub empty_forest : ℕ → Forest
 empty_forest root = record { nodes = insert empty root (dir empty); root = root }
 
--- a world of nothing but a root without entries: no pid is live
+-- a world of nothing but a root without entries: there is no pipe, and no pid is live
 abbrev pub empty_world : ℕ → World
-empty_world root = record { forest = empty_forest root; pids = set.empty }
+empty_world root = record { forest = empty_forest root; pipes = empty; pids = set.empty }
 
 -- nothing is there but a root without entries, and no pid is live
 abbrev pub IsEmptyStart : World → Type 0

@@ -1,21 +1,23 @@
-// What keeps the nodes and the pids of a container, and what each of its calls may answer.
-ghost use Rattle.std.specs.Prelude.{◌≡◌, ◌≢◌, ℕ, ◌+◌, ◌<◌, ◌≤◌, ◌^◌, None, Some, true, length, map, IfOk, IfSome};
+// What keeps the nodes, the pipes and the pids of a container, and what each of its calls may answer.
+ghost use Rattle.std.specs.Prelude.{◌≡◌, ℕ, ◌+◌, ◌<◌, ◌≤◌, ◌^◌, None, Some, true, length, map, IfOk, IfSome};
 ghost use Rattle.std.specs.Prelude.{IsErrOf, IsSome};
 ghost use Rattle.std.specs.List.Sorted.{IsPermutation};
 ghost use Rattle.std.specs.FinMap.{entries};
 ghost use Rattle.std.specs.FinSet.{contains};
 ghost use Rattle.dt_host.specs.Cause.{HasCause};
-ghost use Rattle.dt_host.specs.World.{World, IsLive, IsFile, IsDir, IsLink, IsSized, IsNameless, IsBare, file_at};
-ghost use Rattle.dt_host.specs.World.{target_at, names_at, entry, content};
-ghost use Rattle.dt_host.specs.Legal.{Makes, Binds, Unbinds, Forgets, named, Reads, Writes, Cuts, MakesPid, DropsPid};
+ghost use Rattle.dt_host.specs.World.{World, IsLive, IsFile, IsDir, IsLink, IsPipe, IsSized, ArePipes, file_at};
+ghost use Rattle.dt_host.specs.World.{target_at, names_at, entry, content, held};
+ghost use Rattle.dt_host.specs.Legal.{Makes, Binds, Unbinds, MayGo, Forgets, named, Reads, Writes, Cuts, Takes, Puts};
+ghost use Rattle.dt_host.specs.Legal.{MakesPid, DropsPid};
 
 use crate::entry::HostEntry;
 use crate::error::HostErr;
 use crate::kind::NodeKind;
 use crate::raw::RawStat;
-use dt_base::{Blob, FILE_LIMIT};
+use dt_base::{Blob, FILE_LIMIT, PIPE_LIMIT};
 
-/// The host that keeps the nodes and the pids of a container. Its numbers, orders and lengths are its own choice.
+/// The host that keeps the nodes, the pipes and the pids of a container. Its numbers, orders and lengths are its own
+/// choice.
 pub trait Host {
     ghost view: { Self → World };
 
@@ -25,7 +27,8 @@ pub trait Host {
     fn faults(&self) -> u64
         ensures value { result ≡ count self.now }
         ensures small { count self.now < 2 ^ 64 }
-        ensures sized { IsSized (view self.now).forest };
+        ensures sized { IsSized (view self.now).forest }
+        ensures pipes { ArePipes (view self.now) };
 
     /// The number of the root directory.
     fn root(&mut self) -> Result<u64, HostErr>
@@ -34,7 +37,7 @@ pub trait Host {
         ensures cause { HasCause (count self.old) (count self.new)
             (IsErrOf result HostErr.Failed) };
 
-    /// Makes a node that no directory names, under a number that was not live.
+    /// Makes a node that no directory names, or a pipe, under a number that was not live.
     fn make(&mut self, kind: NodeKind) -> Result<u64, HostErr>
         ensures legal { Makes (view self.old) kind result (view self.new) }
         ensures cause { HasCause (count self.old) (count self.new)
@@ -57,12 +60,9 @@ pub trait Host {
         ensures cause { HasCause (count self.old) (count self.new)
             (IsErrOf result HostErr.Failed) };
 
-    /// Lets a node go that no directory names and that has no entries. It is not the root.
+    /// Lets a pipe go, or a node that no directory names and that has no entries. It is not the root.
     fn forget(&mut self, ino: u64) -> Result<(), HostErr>
-        requires live { IsLive (view self.old).forest ino }
-        requires nameless { IsNameless (view self.old).forest ino }
-        requires not_root { ino ≢ (view self.old).forest.root }
-        requires bare { IsBare (view self.old).forest ino }
+        requires { MayGo (view self.old) ino }
         ensures legal { Forgets (view self.old) ino result (view self.new) }
         ensures cause { HasCause (count self.old) (count self.new)
             (IsErrOf result HostErr.Failed) };
@@ -128,6 +128,24 @@ pub trait Host {
         requires file { IsFile (view self.old).forest ino }
         requires fits { len ≤ FILE_LIMIT }
         ensures legal { Cuts (view self.old) ino len result (view self.new) }
+        ensures cause { HasCause (count self.old) (count self.new)
+            (IsErrOf result HostErr.Failed) };
+
+    /// Takes the oldest bytes that a pipe holds into the start of `buf`, and answers how many.
+    /// It is 0 exactly where the buffer is empty or the pipe holds nothing.
+    fn pipe_take(&mut self, ino: u64, buf: &mut [u8]) -> Result<usize, HostErr>
+        requires { IsPipe (view self.old) ino }
+        ensures legal { Takes (view self.old) ino buf.old buf.new result (view self.new) }
+        ensures cause { HasCause (count self.old) (count self.new)
+            (IsErrOf result HostErr.Failed) };
+
+    /// Puts the first bytes of `bytes` into a pipe, at least one, and answers how many.
+    /// After an error some of them may have been put there.
+    fn pipe_put(&mut self, ino: u64, bytes: &[u8]) -> Result<usize, HostErr>
+        requires pipe { IsPipe (view self.old) ino }
+        requires some { 0 < length bytes.now }
+        requires fits { length (held (view self.old) ino) + length bytes.now ≤ PIPE_LIMIT }
+        ensures legal { Puts (view self.old) ino bytes.now result (view self.new) }
         ensures cause { HasCause (count self.old) (count self.new)
             (IsErrOf result HostErr.Failed) };
 

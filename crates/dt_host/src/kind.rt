@@ -1,13 +1,15 @@
-// The kinds of a new node.
+// The kinds of what a host makes.
 use dt_base::Blob;
 
-/// What kind of node a host makes.
+/// What a host makes.
 #[derive(Debug, Drop)]
 pub enum NodeKind {
     /// An empty file.
     File,
     /// A directory without entries.
     Dir,
+    /// A pipe that holds nothing.
+    Pipe,
     /// A symbolic link with this target.
     Link(Blob),
 }

@@ -5,4 +5,5 @@ pub mod Described
 pub mod Parts
 pub mod Left
 pub mod Records
+pub mod Flows
 pub mod Written

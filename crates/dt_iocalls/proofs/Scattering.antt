@@ -1,7 +1,8 @@
 -- Bytes that are put into ranges: whether they may be does not change while they are.
 use Rattle.std.proofs.Common.{◌≡◌, ℕ, zero, suc, ◌+◌, ◌%◌, ◌^◌, ◌<◌, ◌≤◌, get_or, add-one, List, [], ◌∷◌, length, take, drop, Option, None, Some, is_some, Result, Ok, Err, IsOk, refl, sym, ap, ◌∙◌, subst}
 use Rattle.std.proofs.Math.Seq.{drop-cons}
-use Rattle.std.proofs.lemmas.List.{drop_all}
+use Rattle.std.proofs.lemmas.List.{drop_all, length-take, length-drop}
+use Rattle.std.specs.Prelude.{min, ◌-◌}
 use Rattle.dt_space.specs.declared.access.Miss.{Miss}
 use Rattle.dt_space.specs.declared.access.TheConstants.{WRITE}
 use Rattle.dt_space.specs.Space.{PageView, byte_at, low_byte, load}
@@ -144,3 +145,32 @@ scattered-none pages bytes = refl
 
 pub scattered-end : (pages : List PageView) (all : Result (List PageView) Miss) (ranges : List Range) (i : ℕ) (bytes : List ℕ) → length ranges ≤ i → all ≡ scattered pages (drop i ranges) bytes → all ≡ Ok pages
 scattered-end pages all ranges i bytes end so_far = so_far ∙ ap (λ r. scattered pages r bytes) (drop_all i ranges end) ∙ scattered-none pages bytes
+
+-- whether bytes may be put into ranges is a matter of how many they are
+looked-alike : (pages : List PageView) (ranges : List Range) (a b : List ℕ) → length a ≡ length b → looked pages ranges a ≡ looked pages ranges b
+unfolding looked
+looked-alike pages [] a b same = refl
+looked-alike pages (range ∷ ranges) a b same =
+    let part : length (take range.len a) ≡ length (take range.len b) = length-take range.len a ∙ ap (min range.len) same ∙ sym (length-take range.len b) in
+    let rest : length (drop range.len a) ≡ length (drop range.len b) = length-drop range.len a ∙ ap (λ n. n - range.len) same ∙ sym (length-drop range.len b) in
+    (λ i. then_look (load pages WRITE range.address (part i)) (looked-alike pages ranges (drop range.len a) (drop range.len b) rest i))
+
+by-looks : (found : Result (List ℕ) Miss) (a b : Result (List PageView) Miss) → LikePages found a → LikePages found b → IsOk a → IsOk b
+by-looks (Ok x) a b like_a like_b may = like_b
+by-looks (Err miss) (Ok pages) b like_a like_b may = absurd cc
+by-looks (Err miss) (Err other) b like_a like_b may = absurd cc
+
+pub may-alike : (pages : List PageView) (ranges : List Range) (a b : List ℕ) → length a ≡ length b → IsOk (scattered pages ranges a) → IsOk (scattered pages ranges b)
+may-alike pages ranges a b same may =
+    by-looks (looked pages ranges a) (scattered pages ranges a) (scattered pages ranges b) (scattered-looked pages ranges a)
+    (subst (λ found. LikePages found (scattered pages ranges b)) (sym (looked-alike pages ranges a b same)) (scattered-looked pages ranges b)) may
+
+missed-looks : (found : Result (List ℕ) Miss) (a b : Result (List PageView) Miss) (miss : Miss) → LikePages found a → LikePages found b → a ≡ Err miss → b ≡ Err miss
+missed-looks (Ok x) (Ok pages) b miss like_a like_b is = absurd cc
+missed-looks (Ok x) (Err other) b miss like_a like_b is = absurd cc
+missed-looks (Err other) a b miss like_a like_b is = like_b ∙ sym like_a ∙ is
+
+pub missed-alike : (pages : List PageView) (ranges : List Range) (a b : List ℕ) (miss : Miss) → length a ≡ length b → scattered pages ranges a ≡ Err miss → scattered pages ranges b ≡ Err miss
+missed-alike pages ranges a b miss same is =
+    missed-looks (looked pages ranges a) (scattered pages ranges a) (scattered pages ranges b) miss (scattered-looked pages ranges a)
+    (subst (λ found. LikePages found (scattered pages ranges b)) (sym (looked-alike pages ranges a b same)) (scattered-looked pages ranges b)) is

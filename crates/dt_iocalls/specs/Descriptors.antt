@@ -7,7 +7,8 @@ use Rattle.dt_fds.specs.declared.desc.TheConstants.{DESCRIPTOR_LIMIT}
 use Rattle.dt_fds.specs.declared.desc.Desc.{Desc}
 use Rattle.dt_fds.specs.Descriptions.{Descriptions, slot_at, cloexec_at, marked, changed, with_flags}
 use Rattle.dt_fds.specs.Holding.{close_call, dup_call, dup_at_call}
-use Rattle.dt_scene.specs.Arguments.{argument, has_only, has}
+use Rattle.dt_scene.specs.Arguments.{argument, has_only}
+use Rattle.dt_base.specs.Abi.{has}
 use Rattle.dt_scene.specs.Scene.{Scene, Row, answers, refused, unsupported, holding, by_outcome, described, on_description}
 
 -- close(2)

@@ -6,7 +6,7 @@ use Rattle.dt_base.specs.Bytes.{padded}
 use Rattle.dt_base.specs.Fields.{low_bytes}
 use Rattle.dt_base.specs.declared.errno.Errno.TheVariants.{Inval, NoEnt, NotDir, Fault as BadAddress}
 use Rattle.dt_fds.specs.declared.desc.DescKind.{DescKind}
-use Rattle.dt_fds.specs.declared.desc.DescKind.TheVariants.{File, Dir, Input, Stream}
+use Rattle.dt_fds.specs.declared.desc.DescKind.TheVariants.{File, Dir, PipeRead, PipeWrite, Input, Stream}
 use Rattle.dt_fds.specs.declared.desc.Spot.TheVariants.{After}
 use Rattle.dt_space.specs.declared.access.Miss.{Miss}
 use Rattle.dt_space.specs.Space.{PageView}
@@ -77,6 +77,8 @@ lists fd buffer count n last s =
 abbrev pub lists_kind : ℕ → ℕ → ℕ → DescKind → Option (List ℕ) → Scene → Row
 lists_kind fd buffer count (File n) last s = refused s NotDir
 lists_kind fd buffer count (Dir n) last s = lists fd buffer count n last s
+lists_kind fd buffer count (PipeRead q) last s = refused s NotDir
+lists_kind fd buffer count (PipeWrite q) last s = refused s NotDir
 lists_kind fd buffer count Input last s = refused s NotDir
 lists_kind fd buffer count (Stream stream) last s = refused s NotDir
 

@@ -1,8 +1,10 @@
 pub mod Descriptors
 pub mod Ranges
 pub mod Places
+pub mod Piping
 pub mod Reading
 pub mod Writing
 pub mod Seeking
 pub mod Entries
 pub mod Calls
+pub mod inner

@@ -1,20 +1,23 @@
 -- The calls that read: read(2), readv(2), pread64(2).
-use Rattle.std.specs.Prelude.{ℕ, ◌+◌, ◌^◌, not, List, length, take, drop, Result, Ok, Err, nat_le, if◌then◌else◌}
+use Rattle.std.specs.Prelude.{ℕ, ◌+◌, ◌^◌, ◌==◌, not, List, length, take, drop, Result, Ok, Err, nat_le, if◌then◌else◌}
 use Rattle.dt_base.specs.Abi.{low_word, byte_count}
 use Rattle.dt_base.specs.declared.errno.Errno.TheVariants.{BadF, Inval, IsDir, SPipe, Fault as BadAddress}
 use Rattle.dt_fds.specs.declared.desc.Desc.{Desc}
 use Rattle.dt_fds.specs.declared.desc.DescKind.{DescKind}
-use Rattle.dt_fds.specs.declared.desc.DescKind.TheVariants.{File, Dir, Input, Stream}
+use Rattle.dt_fds.specs.declared.desc.DescKind.TheVariants.{File, Dir, PipeRead, PipeWrite, Input, Stream}
 use Rattle.dt_fds.specs.declared.desc.Spot.TheVariants.{At}
+use Rattle.dt_fds.specs.declared.flow.Flow.{Flow}
+use Rattle.dt_fds.specs.Holding.{Outcome, pipe_read_call, bytes_read}
 use Rattle.dt_host.specs.World.{content}
 use Rattle.dt_space.specs.declared.access.Miss.{Miss}
 use Rattle.dt_space.specs.Space.{PageView}
 use Rattle.dt_iocalls.specs.declared.ranges.Range.{Range}
 use Rattle.dt_iocalls.specs.Places.{is_readable, offset_of, goes_on}
+use Rattle.dt_iocalls.specs.Piping.{by_flow}
 use Rattle.dt_iocalls.specs.Ranges.{one_range, total_len, scattered, ranges_at, on_ranges}
 use Rattle.dt_scene.specs.Arguments.{argument}
 use Rattle.dt_scene.specs.Filling.{filled}
-use Rattle.dt_scene.specs.Scene.{Scene, Row, answers, refused, described, on_description}
+use Rattle.dt_scene.specs.Scene.{Scene, Row, answers, refused, holding, described, on_description}
 
 -- as much of a file as ranges take, from an offset on
 abbrev pub bytes_from : Scene → ℕ → ℕ → List Range → List ℕ
@@ -35,10 +38,25 @@ abbrev pub reads_on : ℕ → ℕ → ℕ → List Range → Scene → Row
 reads_on fd n offset ranges s =
     let bytes = bytes_from s n offset ranges in received s fd offset (length bytes) (scattered s.space ranges bytes)
 
+-- bytes came from a pipe: EFAULT where one of them could not be put into its buffer, and then nothing is read
+abbrev pub pipe_filled : Scene → Outcome Flow → Result (List PageView) Miss → Row
+pipe_filled s o (Err miss) = refused s BadAddress
+pipe_filled s o (Ok pages) = by_flow (record s { space = pages }) o
+
+-- a pipe is read, and with no room for bytes nothing is done
+unfoldable pub reads_pipe : ℕ → List Range → Scene → Row
+reads_pipe fd ranges s =
+    let most = total_len ranges in
+    let p = s.caller.vpid in
+    if most == 0 then answers s 0
+    else pipe_filled s (pipe_read_call p fd most (holding s)) (scattered s.space ranges (bytes_read p fd most (holding s)))
+
 -- a read by what the descriptor refers to: the input is empty
 unfoldable pub reads_kind : ℕ → List Range → DescKind → ℕ → Scene → Row
 reads_kind fd ranges (File n) offset s = reads_on fd n offset ranges s
 reads_kind fd ranges (Dir n) offset s = refused s IsDir
+reads_kind fd ranges (PipeRead q) offset s = reads_pipe fd ranges s
+reads_kind fd ranges (PipeWrite q) offset s = refused s BadF
 reads_kind fd ranges Input offset s = answers s 0
 reads_kind fd ranges (Stream stream) offset s = refused s BadF
 
@@ -61,10 +79,12 @@ readv_row args s =
     on_ranges s (ranges_at s.space (argument args 1) (low_word (argument args 2)))
     (λ ranges. on_description s (described s fd) (λ desc. reads fd ranges desc s))
 
--- a read at an offset by what the descriptor refers to: the input and the streams have no offsets
+-- a read at an offset by what the descriptor refers to: pipes, the input and the streams have no offsets
 abbrev pub reads_kind_at : ℕ → List Range → DescKind → Scene → Row
 reads_kind_at offset ranges (File n) s = reads_at n offset ranges s
 reads_kind_at offset ranges (Dir n) s = refused s IsDir
+reads_kind_at offset ranges (PipeRead q) s = refused s SPipe
+reads_kind_at offset ranges (PipeWrite q) s = refused s SPipe
 reads_kind_at offset ranges Input s = refused s SPipe
 reads_kind_at offset ranges (Stream stream) s = refused s SPipe
 

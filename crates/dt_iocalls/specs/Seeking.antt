@@ -5,7 +5,7 @@ use Rattle.dt_base.specs.declared.abi.TheConstants.{SEEK_SET, SEEK_CUR, SEEK_END
 use Rattle.dt_base.specs.declared.errno.Errno.TheVariants.{Inval, SPipe}
 use Rattle.dt_base.specs.declared.limits.TheConstants.{OFFSET_LIMIT}
 use Rattle.dt_fds.specs.declared.desc.DescKind.{DescKind}
-use Rattle.dt_fds.specs.declared.desc.DescKind.TheVariants.{File, Dir, Input, Stream}
+use Rattle.dt_fds.specs.declared.desc.DescKind.TheVariants.{File, Dir, PipeRead, PipeWrite, Input, Stream}
 use Rattle.dt_fds.specs.declared.desc.Spot.{Spot}
 use Rattle.dt_fds.specs.declared.desc.Spot.TheVariants.{At, After}
 use Rattle.dt_host.specs.World.{content}
@@ -47,6 +47,8 @@ rewinds fd by whence s =
 abbrev pub seeks : ℕ → ℕ → ℕ → DescKind → Spot → Scene → Row
 seeks fd by whence (File n) spot s = seeks_to fd s (sought s.tree n (offset_of spot) by whence)
 seeks fd by whence (Dir n) spot s = rewinds fd by whence s
+seeks fd by whence (PipeRead q) spot s = refused s SPipe
+seeks fd by whence (PipeWrite q) spot s = refused s SPipe
 seeks fd by whence Input spot s = refused s SPipe
 seeks fd by whence (Stream stream) spot s = refused s SPipe
 

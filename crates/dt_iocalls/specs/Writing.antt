@@ -1,22 +1,24 @@
 -- The calls that write or cut a file: write(2), writev(2), pwrite64(2), ftruncate(2).
-use Rattle.std.specs.Prelude.{ℕ, ◌+◌, ◌^◌, Bool, not, List, [], ◌∷◌, length, Result, Ok, Err, nat_le, if◌then◌else◌}
+use Rattle.std.specs.Prelude.{ℕ, ◌+◌, ◌^◌, Bool, not, List, [], ◌∷◌, length, min, Result, Ok, Err, nat_le, if◌then◌else◌}
 use Rattle.dt_base.specs.Abi.{low_word, byte_count}
 use Rattle.dt_base.specs.declared.answer.Answer.TheVariants.{Output}
 use Rattle.dt_base.specs.declared.errno.Errno.{Errno}
 use Rattle.dt_base.specs.declared.errno.Errno.TheVariants.{BadF, Inval, IsDir, SPipe, Fault as BadAddress}
 use Rattle.dt_fds.specs.declared.desc.Desc.{Desc}
 use Rattle.dt_fds.specs.declared.desc.DescKind.{DescKind}
-use Rattle.dt_fds.specs.declared.desc.DescKind.TheVariants.{File, Dir, Input, Stream}
+use Rattle.dt_fds.specs.declared.desc.DescKind.TheVariants.{File, Dir, PipeRead, PipeWrite, Input, Stream}
 use Rattle.dt_fds.specs.declared.desc.Spot.TheVariants.{At}
+use Rattle.dt_fds.specs.Holding.{pipe_write_call}
 use Rattle.dt_host.specs.World.{content}
 use Rattle.dt_space.specs.declared.access.Miss.{Miss}
 use Rattle.dt_tree.specs.Calls.{write_at_of, cut_of}
 use Rattle.dt_tree.specs.FileTree.{FileTree}
 use Rattle.dt_iocalls.specs.declared.ranges.Range.{Range}
 use Rattle.dt_iocalls.specs.Places.{is_writable, offset_of, goes_on}
+use Rattle.dt_iocalls.specs.Piping.{by_flow}
 use Rattle.dt_iocalls.specs.Ranges.{one_range, gathered, ranges_at, on_ranges}
 use Rattle.dt_scene.specs.Arguments.{argument}
-use Rattle.dt_scene.specs.Scene.{Scene, Row, answers, refused, stamp, changed_to, by_done, described, on_description}
+use Rattle.dt_scene.specs.Scene.{Scene, Row, answers, refused, stamp, changed_to, by_done, holding, described, on_description}
 
 -- a row for bytes that were read from memory: EFAULT where one may not be read
 abbrev pub on_bytes : Scene → Result (List ℕ) Miss → (List ℕ → Row) → Row
@@ -45,10 +47,17 @@ writes_on fd n offset bytes s = writes_at n offset bytes (λ next. goes_on next 
 abbrev pub writes_file : ℕ → ℕ → Bool → ℕ → List ℕ → Scene → Row
 writes_file fd n append offset bytes s = writes_on fd n (write_offset s.tree append n offset) bytes s
 
+-- bytes are written to a pipe, of which as many are done as the call has moved so far
+abbrev pub writes_pipe : ℕ → List ℕ → Scene → Row
+writes_pipe fd bytes s =
+    by_flow s (pipe_write_call s.caller.vpid fd bytes (min s.caller.done (length bytes)) (holding s))
+
 -- some bytes are written by what the descriptor refers to: those of a stream go out
 abbrev pub writes_kind : ℕ → Bool → ℕ → DescKind → List ℕ → Scene → Row
 writes_kind fd append offset (File n) bytes s = writes_file fd n append offset bytes s
 writes_kind fd append offset (Dir n) bytes s = refused s IsDir
+writes_kind fd append offset (PipeRead q) bytes s = refused s BadF
+writes_kind fd append offset (PipeWrite q) bytes s = writes_pipe fd bytes s
 writes_kind fd append offset Input bytes s = refused s BadF
 writes_kind fd append offset (Stream stream) bytes s = record { next = s; answer = Output stream bytes }
 
@@ -88,10 +97,12 @@ abbrev pub writes_file_at : ℕ → Bool → ℕ → List Range → Scene → Ro
 writes_file_at n append offset ranges s =
     on_bytes s (gathered s.space ranges) (λ bytes. writes_bytes_at n (write_offset s.tree append n offset) bytes s)
 
--- a write at an offset by what the descriptor refers to: the input and the streams have no offsets
+-- a write at an offset by what the descriptor refers to: pipes, the input and the streams have no offsets
 abbrev pub writes_kind_at : ℕ → List Range → Bool → DescKind → Scene → Row
 writes_kind_at offset ranges append (File n) s = writes_file_at n append offset ranges s
 writes_kind_at offset ranges append (Dir n) s = refused s IsDir
+writes_kind_at offset ranges append (PipeRead q) s = refused s SPipe
+writes_kind_at offset ranges append (PipeWrite q) s = refused s SPipe
 writes_kind_at offset ranges append Input s = refused s SPipe
 writes_kind_at offset ranges append (Stream stream) s = refused s SPipe
 
@@ -111,6 +122,8 @@ pwrite64_row args s =
 abbrev pub cuts_kind : ℕ → DescKind → Scene → Row
 cuts_kind len (File n) s = by_done s (cut_of s.tree n len (stamp s))
 cuts_kind len (Dir n) s = refused s Inval
+cuts_kind len (PipeRead q) s = refused s Inval
+cuts_kind len (PipeWrite q) s = refused s Inval
 cuts_kind len Input s = refused s Inval
 cuts_kind len (Stream stream) s = refused s Inval
 

@@ -5,12 +5,13 @@ ghost use Rattle.dt_scene.specs.Sound.{Sound, Serves, stage};
 
 use crate::descriptors::{close, dup, dup3, fcntl, ioctl};
 use crate::entries::getdents64;
+use crate::piping::pipe2;
 use crate::reading::{pread64, read, readv};
 use crate::seeking::lseek;
 use crate::writing::{ftruncate, pwrite64, write, writev};
 use dt_base::abi::{
-    CLOSE, DUP, DUP3, FCNTL, FTRUNCATE, GETDENTS64, IOCTL, LSEEK, PREAD64, PWRITE64, READ, READV,
-    WRITE, WRITEV,
+    CLOSE, DUP, DUP3, FCNTL, FTRUNCATE, GETDENTS64, IOCTL, LSEEK, PIPE2, PREAD64, PWRITE64, READ,
+    READV, WRITE, WRITEV,
 };
 use dt_base::{Answer, Caller};
 use dt_host::{Host, HostErr};
@@ -29,6 +30,7 @@ pub fn is_io(number: u64) -> bool
             | IOCTL
             | FTRUNCATE
             | CLOSE
+            | PIPE2
             | GETDENTS64
             | LSEEK
             | READ
@@ -64,6 +66,7 @@ pub fn io_call<H: Host>(
         IOCTL => ioctl(fs, host, caller, space, args),
         FTRUNCATE => ftruncate(fs, host, caller, space, args),
         CLOSE => close(fs, host, caller, space, args),
+        PIPE2 => pipe2(fs, host, caller, space, args),
         GETDENTS64 => getdents64(alloc, fs, host, caller, space, args),
         LSEEK => lseek(fs, host, caller, space, args),
         READ => read(alloc, fs, host, caller, space, args),

@@ -5,18 +5,18 @@ ghost use Rattle.dt_fds.specs.Descriptions.{cloexec_at};
 ghost use Rattle.dt_fds.specs.Holding.{dup_call};
 ghost use Rattle.dt_iocalls.specs.Descriptors.{close_row, dup_row, dups_at, dup3_row, is_command, dups_from};
 ghost use Rattle.dt_iocalls.specs.Descriptors.{sets_cloexec, sets_flags, flags_of, commanded, fcntl_row, ioctl_row};
-ghost use Rattle.dt_scene.specs.Arguments.{has};
+ghost use Rattle.dt_base.specs.Abi.{has};
 ghost use Rattle.dt_scene.specs.Scene.{by_outcome, holding};
 ghost use Rattle.dt_scene.specs.Sound.{Sound, Serves, Ends, stage, scene};
 
 use dt_base::abi::{
     F_DUPFD, F_DUPFD_CLOEXEC, F_GETFD, F_GETFL, F_SETFD, F_SETFL, FD_CLOEXEC, O_APPEND, O_CLOEXEC,
-    O_NONBLOCK, low_word,
+    O_NONBLOCK, has, low_word,
 };
 use dt_base::{Answer, Caller, Errno};
 use dt_fds::{DESCRIPTOR_LIMIT, Desc};
 use dt_host::{CallErr, Host, HostErr};
-use dt_scene::{Fs, has};
+use dt_scene::Fs;
 use dt_space::Space;
 
 /// close(2): closes a descriptor, and answers 0. The error is EBADF.
@@ -239,7 +239,7 @@ fn dup_from<H: Host>(
 
 // Whether a descriptor is closed at execve(2).
 fn is_cloexec(fs: &Fs, caller: &Caller, fd: u32) -> bool
-    ensures { result ≡ unwrap_or (cloexec_at fs.now.files caller.now.vpid fd) false }
+    ensures { result ≡ unwrap_or (cloexec_at fs.now.files.descriptors caller.now.vpid fd) false }
 {
     fs.files.is_cloexec(caller.vpid, fd).unwrap_or(false)
 }

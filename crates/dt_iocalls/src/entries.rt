@@ -141,7 +141,7 @@ fn list<H: Host>(
 ) -> Result<Answer, HostErr>
     requires sound { Sound (stage fs.old (H.view host.old) caller.now space.old) }
     requires directory { IsDir (shape_of fs.old.tree (H.view host.old).forest) n }
-    requires of_dir { IfSome (description_at fs.old.files caller.now.vpid (low_word (argument args 0)))
+    requires of_dir { IfSome (description_at fs.old.files.descriptors caller.now.vpid (low_word (argument args 0)))
         (λ desc. true ≡ is_of_dir desc.kind) }
     ensures { Ends (lists (low_word (argument args 0)) (argument args 1) (byte_count (argument args 2)) n last)
         (stage fs.old (H.view host.old) caller.now space.old)
@@ -186,7 +186,7 @@ fn tell_left<H: Host>(
     mut entries: Vec<Listed>,
 ) -> Result<Answer, HostErr>
     requires sound { Sound (stage fs.old (H.view host.now) caller.now space.old) }
-    requires of_dir { IfSome (description_at fs.old.files caller.now.vpid fd)
+    requires of_dir { IfSome (description_at fs.old.files.descriptors caller.now.vpid fd)
         (λ desc. true ≡ is_of_dir desc.kind) }
     ensures { Reaches (tells_left fd buffer count (scene (stage fs.old (H.view host.now) caller.now space.old))
         entries.items)
@@ -214,7 +214,7 @@ fn tell<H: Host>(
     mut entries: Vec<Listed>,
 ) -> Result<Answer, HostErr>
     requires sound { Sound (stage fs.old (H.view host.now) caller.now space.old) }
-    requires of_dir { IfSome (description_at fs.old.files caller.now.vpid fd)
+    requires of_dir { IfSome (description_at fs.old.files.descriptors caller.now.vpid fd)
         (λ desc. true ≡ is_of_dir desc.kind) }
     ensures { Reaches (tells fd buffer (scene (stage fs.old (H.view host.now) caller.now space.old)) entries.items)
         (stage fs.old (H.view host.now) caller.now space.old) (stage fs.new (H.view host.now) caller.now space.new)
@@ -240,7 +240,7 @@ fn go_on<H: Host>(
     last: Blob,
 ) -> Result<Answer, HostErr>
     requires sound { Sound (stage fs.old (H.view host.now) caller.now space.old) }
-    requires of_dir { IfSome (description_at fs.old.files caller.now.vpid fd)
+    requires of_dir { IfSome (description_at fs.old.files.descriptors caller.now.vpid fd)
         (λ desc. true ≡ is_of_dir desc.kind) }
     ensures { Reaches (told (scene (stage fs.old (H.view host.now) caller.now space.old)) fd (Some last)
         (length bytes.now) (stored space.old buffer bytes.now))

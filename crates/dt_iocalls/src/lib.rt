@@ -4,6 +4,7 @@
 mod calls;
 mod descriptors;
 pub mod entries;
+mod piping;
 mod places;
 pub mod ranges;
 mod reading;
@@ -13,6 +14,7 @@ mod writing;
 pub use calls::{io_call, is_io};
 pub use descriptors::{close, dup, dup3, fcntl, ioctl};
 pub use entries::getdents64;
+pub use piping::pipe2;
 pub use reading::{pread64, read, readv};
 pub use seeking::lseek;
 pub use writing::{ftruncate, pwrite64, write, writev};

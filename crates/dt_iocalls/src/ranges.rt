@@ -136,7 +136,7 @@ pub(crate) fn scatter(space: &mut Space, ranges: &[Range], bytes: &[u8]) -> Resu
 }
 
 // Whether bytes may be put into ranges; else the first miss.
-fn may_scatter(space: &Space, ranges: &[Range], bytes: &[u8]) -> Result<(), Miss>
+pub(crate) fn may_scatter(space: &Space, ranges: &[Range], bytes: &[u8]) -> Result<(), Miss>
     ensures { MatchResult result
         (λ _. IsOk (scattered space.now ranges.now bytes.now))
         (λ miss. scattered space.now ranges.now bytes.now ≡ Err miss) }
@@ -153,7 +153,7 @@ fn may_scatter(space: &Space, ranges: &[Range], bytes: &[u8]) -> Result<(), Miss
 }
 
 // Puts bytes into ranges where they may be.
-fn put(space: &mut Space, ranges: &[Range], bytes: &[u8])
+pub(crate) fn put(space: &mut Space, ranges: &[Range], bytes: &[u8])
     requires { IsOk (scattered space.old ranges.now bytes.now) }
     ensures { scattered space.old ranges.now bytes.now ≡ Ok space.new }
 {

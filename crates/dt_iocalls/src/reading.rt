@@ -1,20 +1,24 @@
 //! The calls that read: read(2), readv(2), pread64(2).
-ghost use Rattle.std.specs.Prelude.{◌≡◌, ◌+◌, ◌<◌, ◌^◌, IfOk, IfSome, length, take, drop};
+ghost use Rattle.std.specs.Prelude.{◌≡◌, ◌+◌, ◌<◌, ◌^◌, IfOk, IfSome, None, ◌≢◌, length, min, take, drop};
 ghost use Rattle.dt_base.specs.Abi.{low_word};
 ghost use Rattle.dt_host.specs.Asks.{Asks};
 ghost use Rattle.dt_host.specs.World.{IsFile, content};
 ghost use Rattle.dt_tree.specs.Table.{Stands, shape_of};
 ghost use Rattle.dt_fds.specs.Backs.{IsIn};
-ghost use Rattle.dt_fds.specs.Descriptions.{is_after, is_of_dir};
+ghost use Rattle.dt_fds.specs.OpenFiles.{pipes_at};
+ghost use Rattle.dt_fds.specs.Pipes.{held_at};
+ghost use Rattle.dt_fds.specs.Descriptions.{is_after, is_of_dir, write_pipe};
 ghost use Rattle.dt_iocalls.specs.Ranges.{total_len, scattered};
 ghost use Rattle.dt_iocalls.specs.Reading.{reads_at, received, reads_on, reads_kind, reads, reads_kind_at, read_row};
+ghost use Rattle.dt_iocalls.specs.Reading.{reads_pipe};
 ghost use Rattle.dt_iocalls.specs.Reading.{readv_row, pread64_row};
 ghost use Rattle.dt_scene.specs.Filling.{filled};
 ghost use Rattle.dt_scene.specs.Scene.{described, on_description};
 ghost use Rattle.dt_scene.specs.Sound.{Sound, Serves, Ends, stage, scene};
 
+use crate::piping::answered;
 use crate::places::{is_readable, offset_of};
-use crate::ranges::{Range, ranges_at, scatter, total_len};
+use crate::ranges::{Range, may_scatter, put, ranges_at, scatter, total_len};
 use dt_base::abi::{byte_count, low_word};
 use dt_base::{Answer, Caller, Errno};
 use dt_fds::{DescKind, Spot};
@@ -25,8 +29,10 @@ use dt_tree::Tree;
 use std::alloc::Global;
 
 /// read(2): puts the bytes of a file at the place of its description into a buffer, as many as are left and the buffer
-/// takes, and answers how many these are; the description goes on behind them. The input has none. The errors are EBADF
-/// (the descriptor is not open, or not for reading), EISDIR (it is of a directory), and EFAULT.
+/// takes, and answers how many these are; the description goes on behind them. The input has none. A pipe gives the
+/// oldest bytes that it holds; where it holds none the answer is 0 if nobody writes to it, and else the call waits. The
+/// errors are EBADF (the descriptor is not open, or not for reading), EISDIR (it is of a directory), EFAULT, and EAGAIN
+/// (it would wait, and the description has O_NONBLOCK).
 #[tactic(auto, unfolding(crate::specs::Reading::read_row))]
 pub fn read<H: Host>(
     alloc: Global,
@@ -126,9 +132,71 @@ fn reads_kind<H: Host>(
     match kind {
         DescKind::File(n) => reads_on(alloc, fs, host, caller, space, fd, ranges, n, offset),
         DescKind::Dir(_) => Ok(Answer::Refused(Errno::IsDir)),
+        DescKind::PipeRead(_) => reads_pipe(alloc, fs, host, caller, space, fd, ranges),
         DescKind::Input => Ok(Answer::Value(0)),
-        DescKind::Stream(_) => Ok(Answer::Refused(Errno::BadF)),
+        DescKind::PipeWrite(_) | DescKind::Stream(_) => Ok(Answer::Refused(Errno::BadF)),
     }
+}
+
+// Reads a pipe.
+#[tactic(auto, unfolding(crate::specs::Reading::reads_pipe))]
+fn reads_pipe<H: Host>(
+    alloc: Global,
+    fs: &mut Fs,
+    host: &mut H,
+    caller: &Caller,
+    space: &mut Space,
+    fd: u32,
+    ranges: &[Range],
+) -> Result<Answer, HostErr>
+    requires sound { Sound (stage fs.old (H.view host.old) caller.now space.old) }
+    requires of_pipe { IfSome (described (scene (stage fs.old (H.view host.old) caller.now space.old)) fd)
+        (λ desc. write_pipe desc.kind ≡ None) }
+    ensures { Ends (reads_pipe fd ranges.now)
+        (stage fs.old (H.view host.old) caller.now space.old)
+        (stage fs.new (H.view host.new) caller.now space.new) result
+        (H.count host.old) (H.count host.new) }
+{
+    let _before = host.faults();
+    let most = total_len(ranges);
+    if most == 0 {
+        return Ok(Answer::Value(0));
+    }
+    let held = fs.files.held(caller.vpid, fd) as u64;
+    let mut bytes = vec![in alloc; 0; held.min(most) as usize]?;
+    read_through(fs, host, caller, space, fd, ranges, &mut bytes)
+}
+
+// Reads a pipe into a buffer that takes as much as comes, and puts that into the ranges; where it may not be put there
+// nothing is read.
+fn read_through<H: Host>(
+    fs: &mut Fs,
+    host: &mut H,
+    caller: &Caller,
+    space: &mut Space,
+    fd: u32,
+    ranges: &[Range],
+    buf: &mut [u8],
+) -> Result<Answer, HostErr>
+    requires sound { Sound (stage fs.old (H.view host.old) caller.now space.old) }
+    requires of_pipe { IfSome (described (scene (stage fs.old (H.view host.old) caller.now space.old)) fd)
+        (λ desc. write_pipe desc.kind ≡ None) }
+    requires some { total_len ranges.now ≢ 0 }
+    requires size { length buf.old ≡ min (length (held_at (pipes_at fs.old.files (H.view host.old).pipes)
+        (described (scene (stage fs.old (H.view host.old) caller.now space.old)) fd))) (total_len ranges.now) }
+    ensures { Ends (reads_pipe fd ranges.now)
+        (stage fs.old (H.view host.old) caller.now space.old)
+        (stage fs.new (H.view host.new) caller.now space.new) result
+        (H.count host.old) (H.count host.new) }
+{
+    let _before = host.faults();
+    match may_scatter(space, ranges, buf) {
+        Ok(()) => {}
+        Err(_) => return Ok(Answer::Refused(Errno::Fault)),
+    }
+    let answer = answered(fs.files.pipe_read(host, caller.vpid, fd, buf))?;
+    put(space, ranges, buf);
+    Ok(answer)
 }
 
 // Reads a file where its description stands.
@@ -242,7 +310,8 @@ fn reads_kind_at<H: Host>(
     match kind {
         DescKind::File(n) => reads_at(alloc, fs, host, caller, space, ranges, n, offset),
         DescKind::Dir(_) => Ok(Answer::Refused(Errno::IsDir)),
-        DescKind::Input | DescKind::Stream(_) => Ok(Answer::Refused(Errno::SPipe)),
+        DescKind::PipeRead(_) | DescKind::PipeWrite(_) | DescKind::Input | DescKind::Stream(_) =>
+            Ok(Answer::Refused(Errno::SPipe)),
     }
 }
 

@@ -44,7 +44,8 @@ pub fn lseek<H: Host>(
             seek(fs, host, caller, space, fd, n, offset, by, whence)
         }
         DescKind::Dir(_) => rewind(fs, host, caller, space, fd, by, whence),
-        DescKind::Input | DescKind::Stream(_) => Ok(Answer::Refused(Errno::SPipe)),
+        DescKind::PipeRead(_) | DescKind::PipeWrite(_) | DescKind::Input | DescKind::Stream(_) =>
+            Ok(Answer::Refused(Errno::SPipe)),
     }
 }
 
@@ -63,7 +64,7 @@ fn seek<H: Host>(
 ) -> Result<Answer, HostErr>
     requires sound { Sound (stage fs.old (H.view host.old) caller.now space.now) }
     requires file { IsFile (shape_of fs.old.tree (H.view host.old).forest) n }
-    requires of_file { IfSome (description_at fs.old.files caller.now.vpid fd)
+    requires of_file { IfSome (description_at fs.old.files.descriptors caller.now.vpid fd)
         (λ desc. false ≡ is_of_dir desc.kind) }
     ensures { Ends (λ s. seeks_to fd s (sought s.tree n offset by whence))
         (stage fs.old (H.view host.old) caller.now space.now)
@@ -123,7 +124,7 @@ fn go_to<H: Host>(
     found: Option<u64>,
 ) -> Result<Answer, HostErr>
     requires sound { Sound (stage fs.old (H.view host.now) caller.now space.now) }
-    requires of_file { IfSome (description_at fs.old.files caller.now.vpid fd)
+    requires of_file { IfSome (description_at fs.old.files.descriptors caller.now.vpid fd)
         (λ desc. false ≡ is_of_dir desc.kind) }
     ensures { Reaches (seeks_to fd (scene (stage fs.old (H.view host.now) caller.now space.now)) found)
         (stage fs.old (H.view host.now) caller.now space.now)
@@ -150,7 +151,7 @@ fn rewind<H: Host>(
     whence: u32,
 ) -> Result<Answer, HostErr>
     requires sound { Sound (stage fs.old (H.view host.now) caller.now space.now) }
-    requires of_dir { IfSome (description_at fs.old.files caller.now.vpid fd)
+    requires of_dir { IfSome (description_at fs.old.files.descriptors caller.now.vpid fd)
         (λ desc. true ≡ is_of_dir desc.kind) }
     ensures { Ends (rewinds fd by whence) (stage fs.old (H.view host.now) caller.now space.now)
         (stage fs.new (H.view host.now) caller.now space.now) result

@@ -11,11 +11,12 @@ ghost use Rattle.dt_iocalls.specs.Places.{goes_on};
 ghost use Rattle.dt_iocalls.specs.Ranges.{gathered};
 ghost use Rattle.dt_iocalls.specs.Writing.{write_offset, writes_at, writes_on, writes_file, writes_kind, writes_to};
 ghost use Rattle.dt_iocalls.specs.Writing.{write_row, writev_row, writes_bytes_at, writes_file_at, pwrite64_row};
-ghost use Rattle.dt_iocalls.specs.Writing.{cuts_kind, ftruncate_row};
+ghost use Rattle.dt_iocalls.specs.Writing.{cuts_kind, writes_pipe, ftruncate_row};
 ghost use Rattle.dt_scene.specs.Arguments.{argument};
 ghost use Rattle.dt_scene.specs.Scene.{answers};
 ghost use Rattle.dt_scene.specs.Sound.{Sound, Serves, Ends, Reaches, stage, scene};
 
+use crate::piping::answered;
 use crate::places::{is_writable, offset_of};
 use crate::ranges::{Range, gather, ranges_at};
 use dt_base::abi::{byte_count, low_word};
@@ -28,8 +29,10 @@ use dt_tree::Tree;
 use std::alloc::Global;
 
 /// write(2): writes the bytes of a buffer to where the description stands, or to the end of its file with O_APPEND,
-/// and answers how many these are; those of a stream go out. The errors are EBADF (not open, or not for writing),
-/// EFAULT, EISDIR, EBADF (the input), and EFBIG.
+/// and answers how many these are; those of a stream go out. Those of a pipe stand behind the ones that it holds: where
+/// they have no room the call waits, or goes on where it has moved some. The errors are EBADF (not open, or not for
+/// writing), EFAULT, EISDIR, EBADF (the input), EFBIG, EAGAIN (it would wait, and the description has O_NONBLOCK), and
+/// EPIPE with SIGPIPE (nobody reads the pipe).
 #[tactic(auto, unfolding(crate::specs::Writing::write_row))]
 pub fn write<H: Host>(
     alloc: Global,
@@ -122,7 +125,7 @@ fn write_bytes<H: Host>(
 ) -> Result<Answer, HostErr>
     requires sound { Sound (stage fs.old (H.view host.old) caller.now space.now) }
     requires there { IsIn (shape_of fs.old.tree (H.view host.old).forest) kind }
-    requires is { IfSome (description_at fs.old.files caller.now.vpid fd) (λ desc. desc.kind ≡ kind) }
+    requires is { IfSome (description_at fs.old.files.descriptors caller.now.vpid fd) (λ desc. desc.kind ≡ kind) }
     ensures { Ends (writes_kind fd append offset kind bytes.items)
         (stage fs.old (H.view host.old) caller.now space.now)
         (stage fs.new (H.view host.new) caller.now space.now) result
@@ -132,9 +135,29 @@ fn write_bytes<H: Host>(
     match kind {
         DescKind::File(n) => write_file(fs, host, caller, space, fd, n, append, offset, &bytes),
         DescKind::Dir(_) => Ok(Answer::Refused(Errno::IsDir)),
-        DescKind::Input => Ok(Answer::Refused(Errno::BadF)),
+        DescKind::PipeWrite(_) => write_pipe(fs, host, caller, space, fd, &bytes),
+        DescKind::PipeRead(_) | DescKind::Input => Ok(Answer::Refused(Errno::BadF)),
         DescKind::Stream(stream) => Ok(Answer::Output(stream, Blob::new(bytes))),
     }
+}
+
+// Writes bytes to a pipe, of which the call has moved some before where it goes on.
+#[tactic(auto, using(crate::proofs::Flows::made))]
+fn write_pipe<H: Host>(
+    fs: &mut Fs,
+    host: &mut H,
+    caller: &Caller,
+    space: &Space,
+    fd: u32,
+    bytes: &[u8],
+) -> Result<Answer, HostErr>
+    requires { Sound (stage fs.old (H.view host.old) caller.now space.now) }
+    ensures { Ends (writes_pipe fd bytes.now) (stage fs.old (H.view host.old) caller.now space.now)
+        (stage fs.new (H.view host.new) caller.now space.now) result
+        (H.count host.old) (H.count host.new) }
+{
+    let done = caller.done.min(bytes.len() as u64);
+    answered(fs.files.pipe_write(host, caller.vpid, fd, bytes, done))
 }
 
 // Writes bytes to a file at an offset, or at its end, and moves the place of its description.
@@ -152,7 +175,7 @@ fn write_file<H: Host>(
 ) -> Result<Answer, HostErr>
     requires sound { Sound (stage fs.old (H.view host.old) caller.now space.now) }
     requires file { IsFile (shape_of fs.old.tree (H.view host.old).forest) n }
-    requires of_file { IfSome (description_at fs.old.files caller.now.vpid fd)
+    requires of_file { IfSome (description_at fs.old.files.descriptors caller.now.vpid fd)
         (λ desc. false ≡ is_of_dir desc.kind) }
     ensures { Ends (writes_file fd n append offset bytes.now)
         (stage fs.old (H.view host.old) caller.now space.now)
@@ -200,7 +223,7 @@ fn write_on<H: Host>(
 ) -> Result<Answer, HostErr>
     requires sound { Sound (stage fs.old (H.view host.old) caller.now space.now) }
     requires file { IsFile (shape_of fs.old.tree (H.view host.old).forest) n }
-    requires of_file { IfSome (description_at fs.old.files caller.now.vpid fd)
+    requires of_file { IfSome (description_at fs.old.files.descriptors caller.now.vpid fd)
         (λ desc. false ≡ is_of_dir desc.kind) }
     ensures { Ends (writes_on fd n offset bytes.now)
         (stage fs.old (H.view host.old) caller.now space.now)
@@ -256,7 +279,7 @@ fn go_on<H: Host>(
     count: u64,
 ) -> Result<Answer, HostErr>
     requires sound { Sound (stage fs.old (H.view host.now) caller.now space.now) }
-    requires of_file { IfSome (description_at fs.old.files caller.now.vpid fd)
+    requires of_file { IfSome (description_at fs.old.files.descriptors caller.now.vpid fd)
         (λ desc. false ≡ is_of_dir desc.kind) }
     ensures { Reaches (answers (goes_on (scene (stage fs.old (H.view host.now) caller.now space.now)) fd
         (at_offset offset)) count)
@@ -305,7 +328,8 @@ pub fn pwrite64<H: Host>(
             write_file_at(alloc, fs, host, caller, space, n, append, args[3], &ranges)
         }
         DescKind::Dir(_) => Ok(Answer::Refused(Errno::IsDir)),
-        DescKind::Input | DescKind::Stream(_) => Ok(Answer::Refused(Errno::SPipe)),
+        DescKind::PipeRead(_) | DescKind::PipeWrite(_) | DescKind::Input | DescKind::Stream(_) =>
+            Ok(Answer::Refused(Errno::SPipe)),
     }
 }
 
@@ -369,9 +393,11 @@ pub fn ftruncate<H: Host>(
     }
     match desc.kind {
         DescKind::File(n) => cut(fs, host, caller, space, n, args[1]),
-        DescKind::Dir(_) | DescKind::Input | DescKind::Stream(_) => {
-            Ok(Answer::Refused(Errno::Inval))
-        }
+        DescKind::Dir(_)
+        | DescKind::PipeRead(_)
+        | DescKind::PipeWrite(_)
+        | DescKind::Input
+        | DescKind::Stream(_) => Ok(Answer::Refused(Errno::Inval)),
     }
 }
 

@@ -1,7 +1,7 @@
 -- What a call leaves and answers.
 use Rattle.std.specs.Prelude.{ℕ, List, Bool, true, false}
 use Rattle.dt_base.specs.declared.answer.Answer.{Answer}
-use Rattle.dt_base.specs.declared.answer.Answer.TheVariants.{Value, Refused, Output, Unsupported}
+use Rattle.dt_base.specs.declared.answer.Answer.TheVariants.{Value, Refused, Output, Waits, Part, Pipe, Unsupported}
 use Rattle.dt_base.specs.declared.errno.Errno.{Errno}
 use Rattle.dt_space.specs.Space.{PageView}
 
@@ -18,11 +18,14 @@ done pages value = record { pages = pages; answer = Value value }
 abbrev pub refused : List PageView → Errno → Called
 refused pages errno = record { pages = pages; answer = Refused errno }
 
--- the call was not refused
+-- the call was done
 abbrev pub is_done_answer : Answer → Bool
 is_done_answer (Value value) = true
 is_done_answer (Refused errno) = false
 is_done_answer (Output stream bytes) = true
+is_done_answer Waits = false
+is_done_answer (Part moved) = false
+is_done_answer (Pipe value) = false
 is_done_answer Unsupported = false
 
 abbrev pub is_done : Called → Bool

@@ -1,20 +1,23 @@
--- The nodes of a tree by number, as a forest with its orders: what stands there, and what a change of one makes of all.
-use Rattle.std.proofs.Common.{◌≡◌, ◌≢◌, ℕ, List, [], Option, Some, None, refl, sym, ap, subst, ◌∙◌, inl, inr}
-use Rattle.std.proofs.lemmas.Bool.{cases_eq}
+-- The nodes and pipes of a tree by number, as a forest with its orders: what stands there, and what a change of one makes of all.
+use Rattle.std.proofs.Common.{arith, ◌≡◌, ◌≢◌, ℕ, false, List, [], ◌∷◌, ◌++◌, Option, Some, None, refl, sym, ap, subst, ◌∙◌}
 use Rattle.std.specs.Prelude.{IsSome, IfSome, OnOk, OnErr, Result, Ok, Err, option_map, option_and_then, unwrap_or}
-use Rattle.std.specs.Ordering.{nat_cmp}
+use Rattle.std.specs.Ordering.{nat_cmp, is_eq}
+use Rattle.std.proofs.lemmas.Bool.Decides.{nat_tests}
 use Rattle.std.specs.Cmp.{nat_cmp_total}
 use Rattle.std.specs.BTreeMap as tree
 use Rattle.std.specs.BTreeMap.{BTreeMap}
-use Rattle.std.specs.FinMap.{get, insert, remove, empty, get-empty, same_map, nat_cmp-IsAntisymmetric}
+use Rattle.std.specs.FinMap.{get, insert, remove, empty, get-empty, nat_cmp-IsAntisymmetric}
 use Rattle.std.specs.Cmp.Lexicographic.{slice_cmp}
-use Rattle.dt_host.specs.Entries.{map_of}
-use Rattle.dt_host.specs.World.{Forest, Node, Names, file, dir, file_at, dir_at, target_at, file_bytes, dir_names, link_target, IsFile, IsDir, content, names_at, entry, with_node, without_node, with_bytes, with_entry, without_entry}
-use Rattle.dt_host.proofs.Maps.{at_insert, at_remove}
-use Rattle.dt_host.proofs.MapOf.{get-map_of}
+use Rattle.dt_host.specs.World.{Forest, Node, Names, file, dir, file_at, dir_at, target_at, file_bytes, dir_names, link_target, IsFile, IsDir, IsLive, content, names_at, entry, with_node, with_bytes, with_entry, without_entry}
+use Rattle.dt_host.specs.declared.kind.NodeKind.{NodeKind}
 use Rattle.dt_memhost.specs.declared.node.MemNode.{MemNode}
-use Rattle.dt_memhost.specs.inner.Node.{node_of, node_in, nodes_of, entries_of, order_in, orders_of}
-use Rattle.dt_memhost.specs.Order.{Order, order_at}
+use Rattle.dt_memhost.specs.declared.node.MemNode.TheVariants.{File, Dir, Link, Pipe}
+use Rattle.dt_memhost.specs.inner.Node.{node_of, node_in, nodes_of, entries_of, order_in, orders_of, held_of, held_in, pipes_of, new_node, new_order, new_held}
+use Rattle.dt_memhost.specs.inner.Forest.{Ordered, empty_ordered, made, bound, unbound, forgotten, rewritten, refilled}
+use Rattle.dt_memhost.specs.Order.{Order, order_at, without}
+use Rattle.dt_memhost.specs.inner.Dir.{names_of}
+use Rattle.dt_host.proofs.Maps.{remove_none}
+use Rattle.dt_memhost.proofs.Kept.{get-kept_of, kept_of-nil, kept_of-changed, kept_of-same}
 use Rattle.dt_memhost.proofs.Numbered.{get-nodes_of}
 
 -- what holds on both outcomes
@@ -51,67 +54,96 @@ entry-forest_of nodes root d name =
 
 -- the orders of a tree of nodes
 pub get-orders_of : (nodes : BTreeMap ℕ MemNode) (q : ℕ) → get (orders_of nodes.entries) q ≡ order_in nodes q
-get-orders_of nodes q = get-map_of nat_cmp_total (λ n. n) entries_of q nodes.entries
+get-orders_of nodes q = get-kept_of entries_of nodes q
 
--- a map of what a tree of nodes has by number, where all but one stay
-module _ {Y : Type 0} (value : MemNode → Y) (old new : BTreeMap ℕ MemNode) (n : ℕ) (others : (q : ℕ) → q ≢ n → option_map value (tree.get nat_cmp new q) ≡ option_map value (tree.get nat_cmp old q)) where
-  get_value : (nodes : BTreeMap ℕ MemNode) (q : ℕ) → get (map_of {R = nat_cmp} (λ n. n) value nodes.entries) q ≡ option_map value (tree.get nat_cmp nodes q)
-  get_value nodes q = get-map_of nat_cmp_total (λ n. n) value q nodes.entries
+-- what its pipes hold
+pub get-pipes_of : (nodes : BTreeMap ℕ MemNode) (q : ℕ) → get (pipes_of nodes.entries) q ≡ held_in nodes q
+get-pipes_of nodes q = get-kept_of held_of nodes q
 
-  -- that one was put there
-  pub put_value : (y : Y) → option_map value (tree.get nat_cmp new n) ≡ Some y → map_of {R = nat_cmp} (λ n. n) value new.entries ≡ insert (map_of (λ n. n) value old.entries) n y
-  put_value y here = same_map nat_cmp_total nat_cmp-IsAntisymmetric _ _ (λ q.
-      at_insert nat_cmp_total nat_cmp-IsAntisymmetric (λ found. get (map_of {R = nat_cmp} (λ n. n) value new.entries) q ≡ found) (map_of (λ n. n) value old.entries) n y q
-      (λ is. get_value new q ∙ ap (λ p. option_map value (tree.get nat_cmp new p)) is ∙ here)
-      (λ apart. get_value new q ∙ others q apart ∙ sym (get_value old q)))
-
-  -- that one is gone
-  pub no_value : option_map value (tree.get nat_cmp new n) ≡ None → map_of {R = nat_cmp} (λ n. n) value new.entries ≡ remove (map_of (λ n. n) value old.entries) n
-  no_value gone = same_map nat_cmp_total nat_cmp-IsAntisymmetric _ _ (λ q.
-      at_remove nat_cmp_total nat_cmp-IsAntisymmetric (λ found. get (map_of {R = nat_cmp} (λ n. n) value new.entries) q ≡ found) (map_of (λ n. n) value old.entries) n q
-      (λ is. get_value new q ∙ ap (λ p. option_map value (tree.get nat_cmp new p)) is ∙ gone)
-      (λ apart. get_value new q ∙ others q apart ∙ sym (get_value old q)))
-
-  -- that one stays too
-  pub same_values : option_map value (tree.get nat_cmp new n) ≡ option_map value (tree.get nat_cmp old n) → map_of {R = nat_cmp} (λ n. n) value new.entries ≡ map_of (λ n. n) value old.entries
-  same_values here = same_map nat_cmp_total nat_cmp-IsAntisymmetric _ _ (λ q. get_value new q ∙ by_number q ∙ sym (get_value old q))
-    where
-      by_number : (q : ℕ) → option_map value (tree.get nat_cmp new q) ≡ option_map value (tree.get nat_cmp old q)
-      by_number q =
-          elim (cases_eq q n) as (λ _. option_map value (tree.get nat_cmp new q) ≡ option_map value (tree.get nat_cmp old q)) [ inl is ↦ ap (λ p. option_map value (tree.get nat_cmp new p)) is ∙ here ∙ ap (λ p. option_map value (tree.get nat_cmp old p)) (sym is) | inr apart ↦ others q apart ]
-
--- the order of a directory changes, and the others stay
-pub order_changed : (change : Order → Order) (old new : BTreeMap ℕ MemNode) (n : ℕ) → ((q : ℕ) → q ≢ n → order_in new q ≡ order_in old q) → IsSome (order_in old n) → order_in new n ≡ option_map change (order_in old n) → orders_of new.entries ≡ insert (orders_of old.entries) n (change (order_at (orders_of old.entries) n))
-order_changed change old new n others some here =
-    put_value entries_of old new n others _ (here ∙ in_order (order_in old n) some)
-    ∙ ap (λ found. insert (orders_of old.entries) n (change (unwrap_or found []))) (sym (get-orders_of old n))
-  where
-    in_order : (found : Option Order) → IsSome found → option_map change found ≡ Some (change (unwrap_or found []))
-    in_order None h = cc
-    in_order (Some order) h = refl
+-- a tree's nodes and pipes, with that root
+abbrev pub ordered_of : BTreeMap ℕ MemNode → ℕ → Ordered
+ordered_of nodes root = record { forest = forest_of nodes root; orders = orders_of nodes.entries; pipes = pipes_of nodes.entries }
 
 -- a directory has an order
-pub has_order : (nodes : BTreeMap ℕ MemNode) (d : ℕ) → IsSome (option_and_then dir_names (node_in nodes d)) → IsSome (order_in nodes d)
-has_order nodes d h = of_node (tree.get nat_cmp nodes d) h
-  where
-    of_node : (found : Option MemNode) → IsSome (option_and_then dir_names (option_map node_of found)) → IsSome (option_map entries_of found)
-    of_node None h = cc
-    of_node (Some node) h = refl
+has_order : (found : Option MemNode) → IsSome (option_and_then dir_names (option_and_then node_of found)) → IsSome (option_and_then entries_of found)
+has_order None h = cc
+has_order (Some (File bytes)) h = refl
+has_order (Some (Dir order)) h = refl
+has_order (Some (Link target)) h = refl
+has_order (Some (Pipe bytes)) h = cc
 
-module _ (old new : BTreeMap ℕ MemNode) (root n : ℕ) (others : (q : ℕ) → q ≢ n → node_in new q ≡ node_in old q) where
-  -- where all but one stay, that one was put there
-  pub put_node : (node : Node) → node_in new n ≡ Some node → forest_of new root ≡ with_node (forest_of old root) n node
-  put_node node here = ap (λ nodes. record { nodes = nodes; root = root }) (put_value node_of old new n others node here)
+-- a node's number is no pipe's
+no_pipe : (found : Option MemNode) → IsSome (option_and_then node_of found) → option_and_then held_of found ≡ None
+no_pipe None h = cc
+no_pipe (Some (File bytes)) h = refl
+no_pipe (Some (Dir order)) h = refl
+no_pipe (Some (Link target)) h = refl
+no_pipe (Some (Pipe bytes)) h = cc
+
+pub apart : (nodes : BTreeMap ℕ MemNode) (root n : ℕ) → IsLive (forest_of nodes root) n → get (pipes_of nodes.entries) n ≡ None
+apart nodes root n live = get-pipes_of nodes n ∙ no_pipe (tree.get nat_cmp nodes n) (subst (λ found. IsSome found) (get-nodes_of nodes n) live)
+
+-- what is said of each other number's test is said of each other number
+pub other_numbers : (old new : BTreeMap ℕ MemNode) (n : ℕ) → ((q : ℕ) → is_eq (nat_cmp n q) ≡ false → tree.get nat_cmp new q ≡ tree.get nat_cmp old q) → (q : ℕ) → q ≢ n → tree.get nat_cmp new q ≡ tree.get nat_cmp old q
+other_numbers old new n others q apart = others q (untied n q apart)
+  where
+    untied : (n q : ℕ) → q ≢ n → is_eq (nat_cmp n q) ≡ false
+    untied n q apart = grind (arith, nat_tests)
+
+-- all but one number of a tree stay as they were
+module _ (old new : BTreeMap ℕ MemNode) (root n : ℕ) (others : (q : ℕ) → q ≢ n → tree.get nat_cmp new q ≡ tree.get nat_cmp old q) where
+  put_node : (node : Node) → node_in new n ≡ Some node → forest_of new root ≡ with_node (forest_of old root) n node
+  put_node node here = ap (λ nodes. record { nodes = nodes; root = root }) (kept_of-changed node_of old new n others (Some node) here)
+
+  same_forest : node_in new n ≡ node_in old n → forest_of new root ≡ forest_of old root
+  same_forest here = ap (λ nodes. record { nodes = nodes; root = root }) (kept_of-same node_of old new n others here)
+
+  same_orders : order_in new n ≡ order_in old n → orders_of new.entries ≡ orders_of old.entries
+  same_orders here = kept_of-same entries_of old new n others here
+
+  same_pipes : held_in new n ≡ held_in old n → pipes_of new.entries ≡ pipes_of old.entries
+  same_pipes here = kept_of-same held_of old new n others here
 
   -- where that one stays too, nothing changed
-  pub same_forest : node_in new n ≡ node_in old n → forest_of new root ≡ forest_of old root
-  same_forest here = ap (λ nodes. record { nodes = nodes; root = root }) (same_values node_of old new n others here)
+  pub nothing_changed : node_in new n ≡ node_in old n → order_in new n ≡ order_in old n → held_in new n ≡ held_in old n → ordered_of new root ≡ ordered_of old root
+  nothing_changed node order held i = record { forest = same_forest node i; orders = same_orders order i; pipes = same_pipes held i }
+
+  -- that one was made
+  pub one_made : (kind : NodeKind) → node_in new n ≡ new_node kind → order_in new n ≡ new_order kind → held_in new n ≡ new_held kind → ordered_of new root ≡ made (ordered_of old root) n kind
+  one_made kind node order held i = record {
+    forest = record { nodes = kept_of-changed node_of old new n others (new_node kind) node i; root = root };
+    orders = kept_of-changed entries_of old new n others (new_order kind) order i;
+    pipes = kept_of-changed held_of old new n others (new_held kind) held i;
+  }
+
+  -- that one is a directory without entries, where nothing was before
+  pub first_made : (order : Order) → old.entries ≡ [] → order ≡ [] → n ≡ root → tree.get nat_cmp new n ≡ Some (Dir order) → ordered_of new root ≡ empty_ordered root
+  first_made order none unbound is here =
+      (λ i. record {
+        forest = record { nodes = (kept_of-changed node_of old new n others (Some (dir (names_of order))) (ap (option_and_then node_of) here) ∙ (λ j. insert (kept_of-nil node_of old.entries none j) (is j) (dir (names_of (unbound j))))) i; root = root };
+        orders = (kept_of-changed entries_of old new n others (Some order) (ap (option_and_then entries_of) here) ∙ (λ j. insert (kept_of-nil entries_of old.entries none j) (is j) (unbound j))) i;
+        pipes = (kept_of-changed held_of old new n others None (ap (option_and_then held_of) here) ∙ ap (λ pipes. remove pipes n) (kept_of-nil held_of old.entries none) ∙ remove_none nat_cmp_total nat_cmp-IsAntisymmetric empty n (get-empty nat_cmp n)) i;
+      })
 
   -- that one is gone
-  pub no_node : node_in new n ≡ None → forest_of new root ≡ without_node (forest_of old root) n
-  no_node gone = ap (λ nodes. record { nodes = nodes; root = root }) (no_value node_of old new n others gone)
+  pub one_gone : tree.get nat_cmp new n ≡ None → ordered_of new root ≡ forgotten (ordered_of old root) n
+  one_gone gone i = record {
+    forest = record { nodes = kept_of-changed node_of old new n others None (ap (option_and_then node_of) gone) i; root = root };
+    orders = kept_of-changed entries_of old new n others None (ap (option_and_then entries_of) gone) i;
+    pipes = kept_of-changed held_of old new n others None (ap (option_and_then held_of) gone) i;
+  }
 
-  -- that one's names changed
+  -- the order in a directory changed
+  order_changed : (change : Order → Order) → IsSome (order_in old n) → order_in new n ≡ option_map change (order_in old n) → orders_of new.entries ≡ insert (orders_of old.entries) n (change (order_at (orders_of old.entries) n))
+  order_changed change some here =
+      kept_of-changed entries_of old new n others (Some _) (here ∙ in_order (order_in old n) some)
+      ∙ ap (λ found. insert (orders_of old.entries) n (change (unwrap_or found []))) (sym (get-orders_of old n))
+    where
+      in_order : (found : Option Order) → IsSome found → option_map change found ≡ Some (change (unwrap_or found []))
+      in_order None h = cc
+      in_order (Some order) h = refl
+
+  -- its names changed
   names_changed : (change : Names → Names) → IsDir (forest_of old root) n → IfSome (option_and_then dir_names (node_in old n)) (λ names. node_in new n ≡ Some (dir (change names))) → forest_of new root ≡ with_node (forest_of old root) n (dir (change (names_at (forest_of old root) n)))
   unfolding names_at
   names_changed change is h =
@@ -122,23 +154,52 @@ module _ (old new : BTreeMap ℕ MemNode) (root n : ℕ) (others : (q : ℕ) →
       at_names None some put = cc
       at_names (Some names) some put = put
 
-  -- an entry put into that one's names
-  pub put_entry : (name : List ℕ) (to : ℕ) → IsDir (forest_of old root) n → IfSome (option_and_then dir_names (node_in old n)) (λ names. node_in new n ≡ Some (dir (insert names name to))) → forest_of new root ≡ with_entry (forest_of old root) n name to
-  unfolding with_entry
-  put_entry name to = names_changed (λ names. insert names name to)
+  has_order-at : IsDir (forest_of old root) n → IsSome (order_in old n)
+  has_order-at is = has_order (tree.get nat_cmp old n) (subst (λ found. IsSome found) (dir_at-forest_of old root n) is)
 
-  -- an entry taken out of them
-  pub take_entry : (name : List ℕ) → IsDir (forest_of old root) n → IfSome (option_and_then dir_names (node_in old n)) (λ names. node_in new n ≡ Some (dir (remove names name))) → forest_of new root ≡ without_entry (forest_of old root) n name
+  -- an entry was put into that one's names
+  pub entry_put : (name : List ℕ) (to : ℕ) → IsDir (forest_of old root) n → IfSome (option_and_then dir_names (node_in old n)) (λ names. node_in new n ≡ Some (dir (insert names name to))) → order_in new n ≡ option_map (λ order. order ++ (name, to) ∷ []) (order_in old n) → held_in new n ≡ held_in old n → ordered_of new root ≡ bound (ordered_of old root) n name to
+  unfolding with_entry
+  entry_put name to is put last held i = record {
+    forest = names_changed (λ names. insert names name to) is put i;
+    orders = order_changed (λ order. order ++ (name, to) ∷ []) (has_order-at is) last i;
+    pipes = same_pipes held i;
+  }
+
+  -- an entry was taken out of them
+  pub entry_taken : (name : List ℕ) → IsDir (forest_of old root) n → IfSome (option_and_then dir_names (node_in old n)) (λ names. node_in new n ≡ Some (dir (remove names name))) → order_in new n ≡ option_map (λ order. without order name) (order_in old n) → held_in new n ≡ held_in old n → ordered_of new root ≡ unbound (ordered_of old root) n name
   unfolding without_entry
-  take_entry name = names_changed (λ names. remove names name)
+  entry_taken name is taken order held i = record {
+    forest = names_changed (λ names. remove names name) is taken i;
+    orders = order_changed (λ order. without order name) (has_order-at is) order i;
+    pipes = same_pipes held i;
+  }
 
   -- that one's bytes changed
-  pub bytes_changed : (change : List ℕ → List ℕ) → IsFile (forest_of old root) n → IfSome (option_and_then file_bytes (node_in old n)) (λ bytes. node_in new n ≡ Some (file (change bytes))) → forest_of new root ≡ with_bytes (forest_of old root) n (change (content (forest_of old root) n))
+  pub bytes_changed : (change : List ℕ → List ℕ) → IsFile (forest_of old root) n → IfSome (option_and_then file_bytes (node_in old n)) (λ bytes. node_in new n ≡ Some (file (change bytes))) → order_in new n ≡ order_in old n → held_in new n ≡ held_in old n → ordered_of new root ≡ rewritten (ordered_of old root) n (change (content (forest_of old root) n))
   unfolding with_bytes
-  bytes_changed change is h =
-      put_node _ (at_bytes _ (subst (λ found. IsSome found) (file_at-forest_of old root n) is) h)
-      ∙ ap (λ bytes. with_node (forest_of old root) n (file (change bytes))) (sym (content-forest_of old root n))
+  bytes_changed change is h order held i = record {
+    forest =
+        (put_node _ (at_bytes _ (subst (λ found. IsSome found) (file_at-forest_of old root n) is) h)
+        ∙ ap (λ bytes. with_node (forest_of old root) n (file (change bytes))) (sym (content-forest_of old root n))) i;
+    orders = same_orders order i;
+    pipes = same_pipes held i;
+  }
     where
       at_bytes : (found : Option (List ℕ)) → IsSome found → IfSome found (λ bytes. node_in new n ≡ Some (file (change bytes))) → node_in new n ≡ Some (file (change (unwrap_or found [])))
       at_bytes None some put = cc
       at_bytes (Some bytes) some put = put
+
+  -- what that one holds changed
+  pub held_changed : (change : List ℕ → List ℕ) → IsSome (get (pipes_of old.entries) n) → IfSome (held_in old n) (λ held. held_in new n ≡ Some (change held)) → node_in new n ≡ node_in old n → order_in new n ≡ order_in old n → ordered_of new root ≡ refilled (ordered_of old root) n (change (unwrap_or (get (pipes_of old.entries) n) []))
+  held_changed change is h node order i = record {
+    forest = same_forest node i;
+    orders = same_orders order i;
+    pipes =
+        (kept_of-changed held_of old new n others (Some _) (at_held _ (subst (λ found. IsSome found) (get-pipes_of old n) is) h)
+        ∙ ap (λ found. insert (pipes_of old.entries) n (change (unwrap_or found []))) (sym (get-pipes_of old n))) i;
+  }
+    where
+      at_held : (found : Option (List ℕ)) → IsSome found → IfSome found (λ held. held_in new n ≡ Some (change held)) → held_in new n ≡ Some (change (unwrap_or found []))
+      at_held None some put = cc
+      at_held (Some bytes) some put = put

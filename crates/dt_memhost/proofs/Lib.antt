@@ -1,6 +1,9 @@
 pub mod Named
+pub mod Kept
 pub mod Numbered
 pub mod Forests
+pub mod Sizes
 pub mod Arranged
 pub mod Worded
 pub mod Live
+pub mod Worlds

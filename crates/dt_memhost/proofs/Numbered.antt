@@ -2,33 +2,39 @@
 use Rattle.std.proofs.Common.{◌≡◌, ℕ, zero, suc, ◌+◌, ◌-◌, ◌%◌, ◌<◌, ◌≤◌, List, [], ◌∷◌, map, Bool, true, false, cond, ◌||◌, Option, Some, None, refl, sym, ap, ◌∙◌, arith, eqb, eq-eqb, is_some}
 use Rattle.std.proofs.lemmas.List.{length-map}
 use Rattle.std.proofs.lemmas.Bool.Decides.{nat_tests}
-use Rattle.std.specs.Prelude.{option_map, MatchOption}
+use Rattle.std.specs.Prelude.{option_and_then, MatchOption}
 use Rattle.std.specs.List.{list_any}
 use Rattle.std.specs.Ordering.{nat_cmp, is_eq}
-use Rattle.std.specs.Cmp.{nat_cmp_total}
 use Rattle.std.specs.Map.{lookup}
 use Rattle.std.specs.BTreeMap as tree
 use Rattle.std.specs.BTreeMap.{BTreeMap, btree_map_len}
 use Rattle.std.specs.FinMap.{get, contains_key}
 use Rattle.std.proofs.lemmas.Map.Steps.{le-length_from_below}
-use Rattle.dt_host.proofs.MapOf.{get-map_of}
 use Rattle.dt_memhost.specs.declared.node.MemNode.{MemNode}
-use Rattle.dt_memhost.specs.inner.Node.{node_of, nodes_of, node_in}
+use Rattle.dt_memhost.specs.declared.node.MemNode.TheVariants.{File, Dir, Link, Pipe}
+use Rattle.dt_memhost.specs.inner.Node.{node_of, nodes_of, node_in, held_of, pipes_of}
 use Rattle.dt_memhost.specs.inner.Live.{has}
-use Rattle.dt_memhost.specs.Number.{around, IsLeastAbove, Numbers}
+use Rattle.dt_memhost.proofs.Kept.{get-kept_of}
+use Rattle.dt_memhost.specs.Number.{around, either_has, IsLeastAbove, Numbers}
 
 -- the map has at a number the node in the tree
 pub get-nodes_of : (nodes : BTreeMap ℕ MemNode) (q : ℕ) → get (nodes_of nodes.entries) q ≡ node_in nodes q
-get-nodes_of nodes q = get-map_of nat_cmp_total (λ n. n) node_of q nodes.entries
+get-nodes_of nodes q = get-kept_of node_of nodes q
 
-is_some-map : {X Y : Type 0} (f : X → Y) (found : Option X) → is_some (option_map f found) ≡ is_some found
-is_some-map f None = refl
-is_some-map f (Some x) = refl
+-- what is there is a node or a pipe
+one_of_both : (found : Option MemNode) → (is_some (option_and_then node_of found) || is_some (option_and_then held_of found)) ≡ is_some found
+one_of_both None = refl
+one_of_both (Some (File bytes)) = refl
+one_of_both (Some (Dir order)) = refl
+one_of_both (Some (Link target)) = refl
+one_of_both (Some (Pipe bytes)) = refl
 
--- and so it has the numbers that the tree has
-pub contains_key-nodes_of : (nodes : BTreeMap ℕ MemNode) → contains_key (nodes_of nodes.entries) ≡ has nodes
-contains_key-nodes_of nodes i q =
-    (ap is_some (get-nodes_of nodes q) ∙ is_some-map node_of (tree.get nat_cmp nodes q)) i
+-- and so the tree has the numbers of nodes and of pipes
+pub has-both : (nodes : BTreeMap ℕ MemNode) → either_has (nodes_of nodes.entries) (pipes_of nodes.entries) ≡ has nodes
+has-both nodes i q =
+    (ap (λ found. is_some found || contains_key (pipes_of nodes.entries) q) (get-nodes_of nodes q)
+    ∙ ap (λ found. is_some (option_and_then node_of (tree.get nat_cmp nodes q)) || is_some found) (get-kept_of held_of nodes q)
+    ∙ one_of_both (tree.get nat_cmp nodes q)) i
 
 -- a number that the map hasn't is free
 pub none_if : {X : Type 0} (found : Option X) → is_some found ≡ false → found ≡ None

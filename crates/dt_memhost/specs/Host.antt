@@ -1,19 +1,19 @@
 -- A host in memory, and how it answers: a call that is listed fails and is counted, and any other chooses by words.
 use Rattle.std.specs.Prelude.{◌≡◌, ℕ, ◌-◌, ◌%◌, min, ◌==◌, List, [], ◌++◌, length, take, drop, map, Option, Some, Vec, Ok, Err, Result, MatchBool, MatchResult, if◌then◌else◌}
 use Rattle.dt_host.specs.declared.kind.NodeKind.{NodeKind}
-use Rattle.std.specs.FinMap.{empty, insert, remove, contains_key}
+use Rattle.std.specs.FinMap.{empty, insert, remove}
 use Rattle.std.specs.FinSet as set
 use Rattle.dt_host.specs.declared.entry.HostEntry.{HostEntry}
 use Rattle.dt_host.specs.declared.raw.RawStat.{RawStat}
 use Rattle.dt_host.specs.declared.error.HostErr.{HostErr}
 use Rattle.dt_host.specs.declared.error.HostErr.TheVariants.{Failed, NoMemory}
-use Rattle.dt_host.specs.World.{World, empty_world, with_forest, with_pids, with_node, with_entry, without_entry, without_node, entry, content, target_at}
-use Rattle.dt_host.specs.Legal.{new_node, named, with_write, with_size}
+use Rattle.dt_host.specs.World.{World, empty_world, with_forest, with_pids, with_pipe, with_entry, without_entry, entry, content, target_at, held}
+use Rattle.dt_host.specs.Legal.{with_new, without, named, with_write, with_size, with_put}
 use Rattle.dt_memhost.specs.Picks.{Picks, length_by}
 use Rattle.dt_memhost.specs.Script.{Script, script_of, fails_next, counted, failed, picked, picked_all, restarted, word_of, words_of}
-use Rattle.dt_memhost.specs.Order.{Orders, order_at, with_last, without_name, picked_order}
+use Rattle.dt_memhost.specs.Order.{Orders, order_at, with_new_order, with_last, without_name, picked_order}
 use Rattle.dt_memhost.specs.declared.number.TheConstants.{INODE_NUMBERS, PID_NUMBERS}
-use Rattle.dt_memhost.specs.Number.{Numbers}
+use Rattle.dt_memhost.specs.Number.{Numbers, either_has}
 
 -- what the host keeps, the order of binding in its nodes, and the script
 pub record HostState : Type 0 where
@@ -21,7 +21,7 @@ pub record HostState : Type 0 where
   pub orders : Orders
   pub script : Script
 
--- a host before any call: a root without entries, whose number is 1, no pid, the words and the calls that fail
+-- a host before any call: a root without entries, whose number is 1, no pipe, no pid, the words and the calls that fail
 abbrev pub empty_host : Picks → List ℕ → HostState
 empty_host picks fails = record { view = empty_world 1; orders = insert empty 1 []; script = script_of picks fails }
 
@@ -58,11 +58,11 @@ abbrev pub FindsBy : HostState → ℕ → List ℕ → Result (Option ℕ) Host
 FindsBy old d name result new =
     UnlessListed old result new (Gives old (entry old.view.forest d name) result new)
 
--- a word chooses the number of the new node
+-- a word chooses the number of the new node or pipe, where those of nodes and pipes are live
 pub record MakesNumber (old : HostState) (kind : NodeKind) (new : HostState) (n : ℕ) : Type 0 where
-  pub chosen : Numbers (contains_key old.view.forest.nodes) INODE_NUMBERS (word_of old.script) n
-  pub view : new.view ≡ with_forest old.view (with_node old.view.forest n (new_node kind))
-  pub orders : new.orders ≡ insert old.orders n []
+  pub chosen : Numbers (either_has old.view.forest.nodes old.view.pipes) INODE_NUMBERS (word_of old.script) n
+  pub view : new.view ≡ with_new old.view n kind
+  pub orders : new.orders ≡ with_new_order old.orders n kind
   pub script : new.script ≡ picked (counted old.script)
 
 -- how it answers `make`
@@ -94,16 +94,16 @@ pub record UnbindsEntry {A : Type 0} (old : HostState) (d : ℕ) (name : List �
 abbrev pub UnbindsBy : {A : Type 0} → HostState → ℕ → List ℕ → A → Result A HostErr → HostState → Type 0
 UnbindsBy old d name answer result new = UnlessListed old result new (UnbindsEntry old d name answer result new)
 
--- the node is gone, and so is its order
-pub record ForgetsNode {A : Type 0} (old : HostState) (n : ℕ) (answer : A) (result : Result A HostErr) (new : HostState) : Type 0 where
+-- the node is gone, and so is its order; or the pipe is gone, which has no order
+pub record ForgetsNumber {A : Type 0} (old : HostState) (n : ℕ) (answer : A) (result : Result A HostErr) (new : HostState) : Type 0 where
   pub ok : result ≡ Ok answer
-  pub view : new.view ≡ with_forest old.view (without_node old.view.forest n)
+  pub view : new.view ≡ without old.view n
   pub orders : new.orders ≡ remove old.orders n
   pub script : new.script ≡ counted old.script
 
 -- how it answers `forget`, which takes no memory
 abbrev pub ForgetsBy : {A : Type 0} → HostState → ℕ → A → Result A HostErr → HostState → Type 0
-ForgetsBy old n answer result new = UnlessListed old result new (ForgetsNode old n answer result new)
+ForgetsBy old n answer result new = UnlessListed old result new (ForgetsNumber old n answer result new)
 
 -- a word chooses the pid, which is live
 pub record AddsPid (old new : HostState) (p : ℕ) : Type 0 where
@@ -207,23 +207,23 @@ FillsBy old before after answer result new =
 abbrev pub most_read : List ℕ → ℕ → List ℕ → ℕ
 most_read bytes off buffer = min (length buffer) (length bytes - off)
 
--- how much is read, by a word where there is anything to read
-abbrev pub count_read : ℕ → ℕ → ℕ
-count_read word most = if most == 0 then 0 else length_by word most
+-- how much is moved, by a word where there is anything to move
+abbrev pub count_moved : ℕ → ℕ → ℕ
+count_moved word most = if most == 0 then 0 else length_by word most
 
--- the script after a read, which takes a word where there is anything to read
-abbrev pub script_read : Script → ℕ → Script
-script_read s most = if most == 0 then counted s else picked (counted s)
+-- the script after a transfer, which takes a word where there is anything to move
+abbrev pub script_moved : Script → ℕ → Script
+script_moved s most = if most == 0 then counted s else picked (counted s)
 
 -- so much of a file comes as a word chooses
 pub record ReadsCount (old : HostState) (n off : ℕ) (before after : List ℕ) (result : Result ℕ HostErr) (new : HostState) : Type 0 where
   pub chosen : let most = most_read (content old.view.forest n) off before in
-      result ≡ Ok (count_read (word_of old.script) most)
+      result ≡ Ok (count_moved (word_of old.script) most)
   pub prefix : let bytes = content old.view.forest n in
-      let count = count_read (word_of old.script) (most_read bytes off before) in
+      let count = count_moved (word_of old.script) (most_read bytes off before) in
       after ≡ take count (drop off bytes) ++ drop count before
   pub kept : let most = most_read (content old.view.forest n) off before in
-      new ≡ record old { script = script_read old.script most }
+      new ≡ record old { script = script_moved old.script most }
 
 -- how it answers `read_at`
 abbrev pub ReadsBy : HostState → ℕ → ℕ → List ℕ → List ℕ → Result ℕ HostErr → HostState → Type 0
@@ -242,6 +242,42 @@ abbrev pub WritesBy : HostState → ℕ → ℕ → List ℕ → Result ℕ Host
 WritesBy old n off bytes result new =
     UnlessListed old result new
     (MatchResult result (WritesCount old n off bytes new) (Starves old (picked (counted old.script)) new))
+
+-- the greatest length of a transfer out of a pipe
+abbrev pub most_taken : List ℕ → List ℕ → ℕ
+most_taken bytes buffer = min (length buffer) (length bytes)
+
+-- so much of what a pipe holds comes as a word chooses, the oldest first, and is gone from it
+pub record TakesCount (old : HostState) (n : ℕ) (before after : List ℕ) (result : Result ℕ HostErr) (new : HostState) : Type 0 where
+  pub chosen : let most = most_taken (held old.view n) before in
+      result ≡ Ok (count_moved (word_of old.script) most)
+  pub prefix : let bytes = held old.view n in
+      let count = count_moved (word_of old.script) (most_taken bytes before) in
+      after ≡ take count bytes ++ drop count before
+  pub left : let bytes = held old.view n in
+      let count = count_moved (word_of old.script) (most_taken bytes before) in
+      new.view ≡ with_pipe old.view n (drop count bytes)
+  pub orders : new.orders ≡ old.orders
+  pub script : let most = most_taken (held old.view n) before in
+      new.script ≡ script_moved old.script most
+
+-- how it answers `pipe_take`
+abbrev pub TakesBy : HostState → ℕ → List ℕ → List ℕ → Result ℕ HostErr → HostState → Type 0
+TakesBy old n before after result new =
+    FillsUnlessListed old before after result new (TakesCount old n before after result new)
+
+-- so much is put into a pipe as a word chooses
+pub record PutsCount (old : HostState) (n : ℕ) (bytes : List ℕ) (new : HostState) (count : ℕ) : Type 0 where
+  pub chosen : count ≡ length_by (word_of old.script) (length bytes)
+  pub view : new.view ≡ with_put old.view n (take count bytes)
+  pub orders : new.orders ≡ old.orders
+  pub script : new.script ≡ picked (counted old.script)
+
+-- how it answers `pipe_put`; where memory runs out the pipe stays
+abbrev pub PutsBy : HostState → ℕ → List ℕ → Result ℕ HostErr → HostState → Type 0
+PutsBy old n bytes result new =
+    UnlessListed old result new
+    (MatchResult result (PutsCount old n bytes new) (Starves old (picked (counted old.script)) new))
 
 -- the file has another size
 pub record CutsFile (old : HostState) (n len : ℕ) (new : HostState) : Type 0 where

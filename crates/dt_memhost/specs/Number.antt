@@ -1,5 +1,11 @@
 -- The number that a word chooses out of so many from 1 on: one that isn't live.
-use Rattle.std.specs.Prelude.{◌≡◌, ℕ, zero, suc, ◌+◌, ◌%◌, ◌<◌, Bool, true, false, Option, None, Some, MatchOption, if◌then◌else◌}
+use Rattle.std.specs.Prelude.{◌≡◌, ℕ, zero, suc, ◌+◌, ◌%◌, ◌<◌, Bool, true, false, ◌||◌, Option, None, Some, MatchOption, if◌then◌else◌}
+use Rattle.std.specs.Ordering.{nat_cmp}
+use Rattle.std.specs.FinMap.{FinMap, contains_key}
+
+-- one of these maps has that number
+abbrev pub either_has : {X Y : Type 0} → FinMap nat_cmp X → FinMap nat_cmp Y → ℕ → Bool
+either_has m w n = contains_key m n || contains_key w n
 
 -- the first of so many numbers, from this one on, isn't live, going round
 unfoldable pub around : (ℕ → Bool) → ℕ → ℕ → ℕ → Option ℕ

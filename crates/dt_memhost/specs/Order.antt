@@ -4,6 +4,8 @@ use Rattle.std.specs.Ordering.{nat_cmp}
 use Rattle.std.specs.FinMap.{FinMap, get, insert}
 use Rattle.std.specs.Str.{bytes_eq}
 use Rattle.std.specs.Map.{remove_entry}
+use Rattle.dt_host.specs.declared.kind.NodeKind.{NodeKind}
+use Rattle.dt_host.specs.declared.kind.NodeKind.TheVariants.{File, Dir, Pipe, Link}
 
 -- names with the numbers that they stand for, the one bound first comes first
 abbrev pub Order : Type 0
@@ -20,6 +22,13 @@ order_at orders d = unwrap_or (get orders d) []
 -- the orders with one entry more in that node, which goes last
 abbrev pub with_last : Orders → ℕ → List ℕ → ℕ → Orders
 with_last orders d name n = insert orders d (order_at orders d ++ (name, n) ∷ [])
+
+-- the orders with that of a new node of that kind, which has no entries; a pipe has no order
+abbrev pub with_new_order : Orders → ℕ → NodeKind → Orders
+with_new_order orders n File = insert orders n []
+with_new_order orders n Dir = insert orders n []
+with_new_order orders n Pipe = orders
+with_new_order orders n (Link target) = insert orders n []
 
 -- an order without the entry of that name; the others stay in their order
 abbrev pub without : Order → List ℕ → Order

@@ -1,5 +1,6 @@
 -- Inner words: no public clause cites these.
 pub mod Dir
+pub mod Kept
 pub mod Node
 pub mod Forest
 pub mod Codes

@@ -1,14 +1,14 @@
-// The nodes of a host in memory, and the order of binding in each directory.
-ghost use Rattle.std.specs.Prelude.{◌≡◌, ◌+◌, ◌<◌, ◌≤◌, ◌^◌, None, length, map, option_map, option_copied, vec_items};
-ghost use Rattle.std.specs.Prelude.{IfOk, IfSome, OnOk, OnErr};
+// The nodes and pipes of a host in memory, and the order of binding in each directory.
+ghost use Rattle.std.specs.Prelude.{◌≡◌, ℕ, ◌+◌, ◌<◌, ◌≤◌, ◌^◌, None, [], ◌++◌, length, map, take, drop};
+ghost use Rattle.std.specs.Prelude.{option_map, option_copied, unwrap_or, vec_items, IfOk, IfSome, IsSome, OnOk, OnErr};
 ghost use Rattle.std.specs.List.Sorted.{IsPermutation};
-ghost use Rattle.std.specs.FinMap.{entries, get, contains_key};
-ghost use Rattle.dt_host.specs.World.{IsFile, IsDir, IsSized, file_at, target_at, names_at, content, entry};
+ghost use Rattle.std.specs.FinMap.{entries, get};
+ghost use Rattle.dt_host.specs.World.{IsFile, IsDir, IsLive, IsSized, file_at, target_at, names_at, content, entry};
 ghost use Rattle.dt_base.specs.Bytes.{overwritten, resized};
 ghost use Rattle.dt_host.specs.Legal.{named};
-ghost use Rattle.dt_memhost.specs.Number.{Numbers};
+ghost use Rattle.dt_memhost.specs.Number.{Numbers, either_has};
 ghost use Rattle.dt_memhost.specs.Order.{order_at};
-ghost use Rattle.dt_memhost.specs.inner.Forest.{empty_ordered, made, bound, unbound, forgotten, rewritten};
+ghost use Rattle.dt_memhost.specs.inner.Forest.{empty_ordered, made, bound, unbound, forgotten, rewritten, refilled};
 
 use crate::dir::Entries;
 use crate::node::MemNode;
@@ -23,29 +23,34 @@ use std::marker::Model;
 // The number of the root.
 const ROOT: u64 = 1;
 
-/// The nodes of a host in memory, with their root.
+/// The nodes and pipes of a host in memory, with the root.
 #[derive(Drop)]
 pub(crate) struct MemForest {
     alloc: Global,
+    // One map of both, so that no number is one of a node and one of a pipe.
     nodes: Nodes,
     root: u64,
 }
 
 impl Model for MemForest {
-    ghost use Rattle.dt_host.specs.World.{IsSized};
-    ghost use Rattle.dt_memhost.specs.inner.Forest.{Ordered};
+    ghost use Rattle.dt_memhost.specs.inner.Forest.{Ordered, HasSizes};
     ghost use Rattle.dt_memhost.specs.inner.Codes.{ordered_code};
-    ghost use Rattle.dt_memhost.specs.inner.Node.{nodes_of, orders_of};
+    ghost use Rattle.dt_memhost.specs.inner.Node.{nodes_of, orders_of, pipes_of};
 
     ghost Value = { Ordered };
 
     ghost coded = { ordered_code };
 
-    ghost invariant = { λ f. IsSized (record { nodes = nodes_of f.nodes.entries; root = f.root }) };
+    ghost invariant = { λ f. HasSizes (record {
+      forest = record { nodes = nodes_of f.nodes.entries; root = f.root };
+      orders = orders_of f.nodes.entries;
+      pipes = pipes_of f.nodes.entries;
+    }) };
 
     ghost view = { λ f. record {
       forest = record { nodes = nodes_of f.nodes.entries; root = f.root };
       orders = orders_of f.nodes.entries;
+      pipes = pipes_of f.nodes.entries;
     } };
 }
 
@@ -63,10 +68,12 @@ impl MemForest {
         })
     }
 
-    /// The number of the root. All numbers of the forest have 64 bits.
+    /// The number of the root. All numbers of the forest have 64 bits, and none is one of a node and one of a pipe.
     pub(crate) fn root(&self) -> u64
         ensures root { result ≡ self.now.forest.root }
         ensures sized { IsSized self.now.forest }
+        ensures pipes { (n : ℕ) → IsSome (get self.now.pipes n) → n < 2 ^ 64 }
+        ensures apart { (n : ℕ) → IsLive self.now.forest n → get self.now.pipes n ≡ None }
     {
         self.root
     }
@@ -115,16 +122,18 @@ impl MemForest {
         nodes::list(&self.nodes, dir, self.alloc)
     }
 
-    /// The number of a new node, by a word.
+    /// The number of a new node or pipe, by a word.
     pub(crate) fn number_by(&self, word: u32) -> u64
-        ensures chosen { Numbers (contains_key self.now.forest.nodes) INODE_NUMBERS word result }
+        ensures chosen { Numbers (either_has self.now.forest.nodes self.now.pipes) INODE_NUMBERS word result }
         ensures positive { 1 ≤ result }
         ensures free { get self.now.forest.nodes result ≡ None }
+        ensures no_order { get self.now.orders result ≡ None }
+        ensures no_pipe { get self.now.pipes result ≡ None }
     {
         number::number_by(&self.nodes, INODE_NUMBERS, word)
     }
 
-    /// Puts a new node under a number.
+    /// Puts a new node or pipe under a number.
     pub(crate) fn make(&mut self, number: u64, kind: NodeKind) -> Result<(), NoMemory>
         ensures ok { OnOk result (self.new ≡ made self.old number kind) }
         ensures err { OnErr result (self.new ≡ self.old) }
@@ -166,9 +175,10 @@ impl MemForest {
         nodes::unbind(&mut self.nodes, dir, name);
     }
 
-    /// Lets a node go.
+    /// Lets go what is under a number, a node or a pipe.
     pub(crate) fn forget(&mut self, number: u64)
-        ensures { self.new ≡ forgotten self.old number }
+        ensures gone { self.new ≡ forgotten self.old number }
+        ensures apart { IsLive self.old.forest number → get self.old.pipes number ≡ None }
     {
         self.nodes.remove(&number);
     }
@@ -181,5 +191,35 @@ impl MemForest {
         ensures err { OnErr result (self.new ≡ self.old) }
     {
         nodes::cut(&mut self.nodes, number, len)
+    }
+
+    /// How many bytes the pipe of that number holds.
+    pub(crate) fn held(&self, number: u64) -> usize
+        ensures { result ≡ length (unwrap_or (get self.now.pipes number) []) }
+    {
+        nodes::held(&self.nodes, number)
+    }
+
+    /// Takes the oldest bytes of a pipe, so many, into the start of the buffer.
+    pub(crate) fn take(&mut self, number: u64, count: usize, buf: &mut [u8])
+        requires pipe { IsSome (get self.old.pipes number) }
+        requires there { count ≤ length (unwrap_or (get self.old.pipes number) []) }
+        requires room { count ≤ length buf.old }
+        ensures bytes { buf.new
+            ≡ take count (unwrap_or (get self.old.pipes number) []) ++ drop count buf.old }
+        ensures left { self.new
+            ≡ refilled self.old number (drop count (unwrap_or (get self.old.pipes number) [])) }
+    {
+        nodes::take(&mut self.nodes, number, count, buf);
+    }
+
+    /// Puts bytes behind those that a pipe holds.
+    pub(crate) fn put(&mut self, number: u64, bytes: &[u8]) -> Result<(), NoMemory>
+        requires { IsSome (get self.old.pipes number) }
+        ensures ok { OnOk result (self.new
+            ≡ refilled self.old number (unwrap_or (get self.old.pipes number) [] ++ bytes.now)) }
+        ensures err { OnErr result (self.new ≡ self.old) }
+    {
+        nodes::put(&mut self.nodes, number, bytes)
     }
 }

@@ -31,7 +31,7 @@ impl Model for MemHost {
     ghost coded = { host_code };
 
     ghost view = { λ h. record {
-      view = record { forest = h.forest.forest; pids = h.pids };
+      view = record { forest = h.forest.forest; pipes = h.forest.pipes; pids = h.pids };
       orders = h.forest.orders;
       script = h.script;
     } };

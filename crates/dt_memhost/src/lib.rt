@@ -11,6 +11,7 @@ mod number;
 mod order;
 mod picker;
 mod pids;
+mod pipe;
 mod script;
 mod sink;
 mod store;

@@ -1,13 +1,16 @@
-// The live nodes by number. A change at one number leaves the others.
-ghost use Rattle.std.specs.Prelude.{◌≡◌, ◌≢◌, ℕ, ◌+◌, ◌≤◌, None, Some, [], ◌∷◌, ◌++◌, length, map, unwrap_or};
-ghost use Rattle.std.specs.Prelude.{option_map, option_copied, option_and_then, vec_items, IfOk, OnOk, OnErr, IfSome};
+// The live nodes and pipes by number. A change at one number leaves the others.
+ghost use Rattle.std.specs.Prelude.{◌≡◌, ◌≢◌, ℕ, ◌+◌, ◌≤◌, None, Some, [], ◌∷◌, ◌++◌, length, map, take, drop};
+ghost use Rattle.std.specs.Prelude.{unwrap_or, option_map, option_copied, option_and_then, vec_items};
+ghost use Rattle.std.specs.Prelude.{IfOk, OnOk, OnErr, IfSome};
+ghost use Rattle.std.specs.Ordering.{nat_cmp};
+ghost use Rattle.std.specs.BTreeMap as tree;
 ghost use Rattle.std.specs.List.Sorted.{IsPermutation};
 ghost use Rattle.std.specs.FinMap.{entries, get, insert, remove};
 ghost use Rattle.dt_host.specs.World.{file, dir, file_bytes, dir_names, link_target};
 ghost use Rattle.dt_base.specs.Bytes.{overwritten, resized};
 ghost use Rattle.dt_host.specs.Legal.{named};
 ghost use Rattle.dt_memhost.specs.Order.{without};
-ghost use Rattle.dt_memhost.specs.inner.Node.{node_of, node_in, order_in};
+ghost use Rattle.dt_memhost.specs.inner.Node.{node_in, order_in, held_in};
 
 use crate::node::MemNode;
 use dt_base::{Blob, NoMemory};
@@ -76,8 +79,8 @@ pub(crate) fn write(
         (λ old. node_in nodes.new number ≡ Some (file (overwritten old off piece.now)))) }
     ensures err { OnErr result (node_in nodes.new number ≡ node_in nodes.old number) }
     ensures order { order_in nodes.new number ≡ order_in nodes.old number }
-    ensures others { (q : ℕ) → q ≢ number → node_in nodes.new q ≡ node_in nodes.old q }
-    ensures other_orders { (q : ℕ) → q ≢ number → order_in nodes.new q ≡ order_in nodes.old q }
+    ensures held { held_in nodes.new number ≡ held_in nodes.old number }
+    ensures others { (q : ℕ) → q ≢ number → tree.get nat_cmp nodes.new q ≡ tree.get nat_cmp nodes.old q }
 {
     match nodes.get_mut(&number) {
         Some(node) => node.write(off, piece),
@@ -99,8 +102,8 @@ pub(crate) fn bind(nodes: &mut Nodes, number: u64, name: Vec<u8>, to: u64) -> Re
         ≡ option_map (λ order. order ++ (name.items, to) ∷ []) (order_in nodes.old number))) }
     ensures err { OnErr result (node_in nodes.new number ≡ node_in nodes.old number) }
     ensures order { OnErr result (order_in nodes.new number ≡ order_in nodes.old number) }
-    ensures others { (q : ℕ) → q ≢ number → node_in nodes.new q ≡ node_in nodes.old q }
-    ensures other_orders { (q : ℕ) → q ≢ number → order_in nodes.new q ≡ order_in nodes.old q }
+    ensures held { held_in nodes.new number ≡ held_in nodes.old number }
+    ensures others { (q : ℕ) → q ≢ number → tree.get nat_cmp nodes.new q ≡ tree.get nat_cmp nodes.old q }
 {
     match nodes.get_mut(&number) {
         Some(node) => node.bind(name, to),
@@ -114,8 +117,8 @@ pub(crate) fn unbind(nodes: &mut Nodes, number: u64, name: &[u8])
         (λ old. node_in nodes.new number ≡ Some (dir (remove old name.now))) }
     ensures order { order_in nodes.new number
         ≡ option_map (λ order. without order name.now) (order_in nodes.old number) }
-    ensures others { (q : ℕ) → q ≢ number → node_in nodes.new q ≡ node_in nodes.old q }
-    ensures other_orders { (q : ℕ) → q ≢ number → order_in nodes.new q ≡ order_in nodes.old q }
+    ensures held { held_in nodes.new number ≡ held_in nodes.old number }
+    ensures others { (q : ℕ) → q ≢ number → tree.get nat_cmp nodes.new q ≡ tree.get nat_cmp nodes.old q }
 {
     match nodes.get_mut(&number) {
         Some(node) => node.unbind(name),
@@ -130,11 +133,55 @@ pub(crate) fn cut(nodes: &mut Nodes, number: u64, len: usize) -> Result<(), NoMe
         (λ old. node_in nodes.new number ≡ Some (file (resized old len)))) }
     ensures err { OnErr result (node_in nodes.new number ≡ node_in nodes.old number) }
     ensures order { order_in nodes.new number ≡ order_in nodes.old number }
-    ensures others { (q : ℕ) → q ≢ number → node_in nodes.new q ≡ node_in nodes.old q }
-    ensures other_orders { (q : ℕ) → q ≢ number → order_in nodes.new q ≡ order_in nodes.old q }
+    ensures held { held_in nodes.new number ≡ held_in nodes.old number }
+    ensures others { (q : ℕ) → q ≢ number → tree.get nat_cmp nodes.new q ≡ tree.get nat_cmp nodes.old q }
 {
     match nodes.get_mut(&number) {
         Some(node) => node.cut(len),
+        None => Ok(()),
+    }
+}
+
+/// How many bytes the pipe of that number holds; none where there is no pipe.
+pub(crate) fn held(nodes: &Nodes, number: u64) -> usize
+    ensures { result ≡ length (unwrap_or (held_in nodes.now number) []) }
+{
+    match nodes.get(&number) {
+        Some(node) => node.held(),
+        None => 0,
+    }
+}
+
+/// Takes the oldest bytes of the pipe of that number, so many, into the start of the buffer.
+pub(crate) fn take(nodes: &mut Nodes, number: u64, count: usize, buf: &mut [u8])
+    requires there { count ≤ length (unwrap_or (held_in nodes.old number) []) }
+    requires room { count ≤ length buf.old }
+    ensures bytes { IfSome (held_in nodes.old number)
+        (λ held. buf.new ≡ take count held ++ drop count buf.old) }
+    ensures left { IfSome (held_in nodes.old number)
+        (λ held. held_in nodes.new number ≡ Some (drop count held)) }
+    ensures node { node_in nodes.new number ≡ node_in nodes.old number }
+    ensures order { order_in nodes.new number ≡ order_in nodes.old number }
+    ensures others { (q : ℕ) → q ≢ number → tree.get nat_cmp nodes.new q ≡ tree.get nat_cmp nodes.old q }
+{
+    match nodes.get_mut(&number) {
+        Some(node) => node.take(count, buf),
+        None => (),
+    }
+}
+
+/// Puts bytes behind those that the pipe of that number holds.
+pub(crate) fn put(nodes: &mut Nodes, number: u64, bytes: &[u8]) -> Result<(), NoMemory>
+    ensures ok { OnOk result
+        (IfSome (held_in nodes.old number)
+        (λ held. held_in nodes.new number ≡ Some (held ++ bytes.now))) }
+    ensures err { OnErr result (held_in nodes.new number ≡ held_in nodes.old number) }
+    ensures node { node_in nodes.new number ≡ node_in nodes.old number }
+    ensures order { order_in nodes.new number ≡ order_in nodes.old number }
+    ensures others { (q : ℕ) → q ≢ number → tree.get nat_cmp nodes.new q ≡ tree.get nat_cmp nodes.old q }
+{
+    match nodes.get_mut(&number) {
+        Some(node) => node.put(bytes),
         None => Ok(()),
     }
 }

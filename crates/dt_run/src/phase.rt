@@ -8,6 +8,6 @@ pub enum Phase {
     Owes,
     /// Its segment was run, and its stop waits to be served.
     Ran(Seg),
-    /// Its call is tried again.
+    /// Its call waits or goes on, and is tried again.
     Waits,
 }

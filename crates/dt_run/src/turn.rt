@@ -4,7 +4,7 @@ ghost use Rattle.std.specs.FinMap.{get};
 ghost use Rattle.dt_host.specs.Cause.{HasCause};
 ghost use Rattle.dt_sched.specs.Core.{head, IsCore};
 ghost use Rattle.dt_sched.specs.declared.settled.Head.TheVariants.{Ready};
-ghost use Rattle.dt_calls.specs.declared.container.Served.TheVariants.{Blocked as blocked};
+ghost use Rattle.dt_calls.specs.declared.container.Served.TheVariants.{Blocked as blocked, Moved as moved};
 ghost use Rattle.dt_calls.specs.InCode.{container_of, home_of, turned_as};
 ghost use Rattle.dt_calls.specs.Settle.{serve};
 ghost use Rattle.dt_calls.specs.Sound.{IsSoundContainer};
@@ -51,7 +51,7 @@ impl State {
     }
 }
 
-// Serves the stop of the segment that a process ran, or its waiting call again.
+// Serves the stop of the segment that a process ran, or again its call that waits or goes on.
 fn serve<H: Host>(
     alloc: Global,
     host: &mut H,
@@ -75,14 +75,15 @@ fn serve<H: Host>(
 
 // Notes where a process stands after its stop was served.
 fn note(phases: &mut Numbered<Phase>, vpid: u32, served: Served)
-    requires { served ≡ blocked → IsSome (get phases.old vpid) }
+    requires blocked { served ≡ blocked → IsSome (get phases.old vpid) }
+    requires moved { served ≡ moved → IsSome (get phases.old vpid) }
     ensures { phases.new ≡ noted phases.old vpid served }
 {
     match served {
         Served::Done | Served::Child(_) | Served::LastChild(_) | Served::Ended => {
             phases.take(u64::from(vpid));
         }
-        Served::Blocked => phases.set(u64::from(vpid), Phase::Waits),
+        Served::Blocked | Served::Moved => phases.set(u64::from(vpid), Phase::Waits),
         Served::Unsupported(_) => {}
     }
 }
@@ -96,6 +97,7 @@ fn told(served: Served) -> Settled
         Served::Child(vpid) => Settled::Child(vpid),
         Served::LastChild(vpid) => Settled::LastChild(vpid),
         Served::Blocked => Settled::Waits,
+        Served::Moved => Settled::Moved,
         Served::Ended => Settled::Gone,
         Served::Unsupported(number) => Settled::Stopped(number),
     }

@@ -7,10 +7,18 @@ use Rattle.dt_base.specs.declared.answer.Answer.TheVariants.{Value}
 use Rattle.dt_base.specs.declared.caller.Caller.{Caller}
 use Rattle.dt_fds.specs.declared.desc.Desc.{Desc}
 use Rattle.dt_fds.specs.declared.desc.DescKind.{DescKind}
-use Rattle.dt_fds.specs.declared.desc.DescKind.TheVariants.{File, Dir, Input, Stream}
-use Rattle.dt_fds.specs.Descriptions.{Descriptions, inode_of}
-use Rattle.dt_fds.specs.Backs.{IsIn, AllIn, IsBacked, KeepsNodes, KeepsOthers as KeepsHolds, at, descriptions_of, named_by}
-use Rattle.dt_fds.specs.Holding.{Outcome, over}
+use Rattle.dt_fds.specs.declared.desc.DescKind.TheVariants.{File, Dir, PipeRead, PipeWrite, Input, Stream}
+use Rattle.dt_fds.specs.Descriptions.{Descriptions, inode_of, named_by}
+use Rattle.dt_fds.specs.Backs.{IsIn, AllIn, IsBacked, KeepsNodes, KeepsOthers as KeepsHolds, OnlyFiles, IsPiped, at, descriptions_of}
+use Rattle.dt_fds.specs.declared.files.Files.{Files}
+use Rattle.dt_fds.specs.Ends.{AreCounted}
+use Rattle.dt_fds.specs.OpenFiles.{pipes_at}
+use Rattle.dt_fds.specs.Backs as holds
+use Rattle.dt_fds.specs.Backs.{AllEnds}
+use Rattle.dt_fds.proofs.Ending.{counted-kept}
+use Rattle.dt_pipes.specs.Table as table
+use Rattle.dt_host.specs.World.{Pipes}
+use Rattle.dt_fds.specs.Holding.{Outcome}
 use Rattle.dt_base.specs.declared.errno.Errno.{Errno}
 use Rattle.dt_fds.proofs.Backing.{named}
 use Rattle.dt_host.specs.Cause.{Rose}
@@ -32,14 +40,16 @@ pub cwd_held : (fs : Fs) (w : World) (caller : Caller) (space : List PageView) �
 cwd_held fs w caller space sound = omega (arith, sound.enough caller.cwd, one_for-same caller.cwd)
 
 -- more than what descriptions hold
-pub cwd_more : (fs : Fs) (w : World) (caller : Caller) (space : List PageView) → Sound (stage fs w caller space) → descriptions_of fs.files caller.cwd < holds_of (tree_of fs.tree w.forest) caller.cwd
+pub cwd_more : (fs : Fs) (w : World) (caller : Caller) (space : List PageView) → Sound (stage fs w caller space) → descriptions_of fs.files.descriptors caller.cwd < holds_of (tree_of fs.tree w.forest) caller.cwd
 cwd_more fs w caller space sound = omega (arith, sound.enough caller.cwd, one_for-same caller.cwd)
 
 -- the tree backs the descriptions
 pub backed_sound : (fs : Fs) (w : World) (caller : Caller) (space : List PageView) → Sound (stage fs w caller space) → IsBacked (at fs.files fs.tree w)
 backed_sound fs w caller space sound = record {
   stands = sound.stands;
-  backs = record { enough = λ n. omega (arith, sound.enough n); is_in = sound.all_in };
+  pipes = sound.piped.stands;
+  ends = sound.piped.counted;
+  backs = record { enough = λ n. omega (arith, sound.enough n); is_in = sound.all_in; ends = sound.piped.there };
 }
 
 -- what is open is in another tree too, where nodes that are open stay files and directories
@@ -49,6 +59,8 @@ all_in-through f v w files dirs all k = by_found (get f.descs k) (λ n. named f 
     by_kind : (kind : DescKind) → ((n : ℕ) → named_by n (inode_of kind) ≤ descriptions_of f n) → IsIn v kind → IsIn w kind
     by_kind (File n) named is = files n (omega (arith, named n, one_for-same n)) is
     by_kind (Dir n) named is = dirs n (omega (arith, named n, one_for-same n)) is
+    by_kind (PipeRead q) named is = tt
+    by_kind (PipeWrite q) named is = tt
     by_kind Input named is = tt
     by_kind (Stream stream) named is = tt
 
@@ -57,14 +69,15 @@ all_in-through f v w files dirs all k = by_found (get f.descs k) (λ n. named f 
     by_found (Some desc) named is = by_kind desc.kind named is
 
 -- a change of the tree that leaves what is held
-pub sound_kept : (old new : Fs) (w v : World) (caller : Caller) (space pages : List PageView) → Sound (stage old w caller space) → Stands new.tree v.forest → KeepsHeld (tree_of old.tree w.forest) (tree_of new.tree v.forest) → new.files ≡ old.files → Sound (stage new v caller pages)
-sound_kept old new w v caller space pages sound stands kept same = record {
+pub sound_kept : (old new : Fs) (w v : World) (caller : Caller) (space pages : List PageView) → Sound (stage old w caller space) → Stands new.tree v.forest → KeepsHeld (tree_of old.tree w.forest) (tree_of new.tree v.forest) → new.files ≡ old.files → v.pipes ≡ w.pipes → Sound (stage new v caller pages)
+sound_kept old new w v caller space pages sound stands kept same piped = record {
   stands = stands;
   is_dir = kept.dirs caller.cwd (cwd_held old w caller space sound) sound.is_dir;
-  all_in = subst (AllIn (shape_of new.tree v.forest)) (sym same)
-      (all_in-through old.files (shape_of old.tree w.forest) (shape_of new.tree v.forest)
+  all_in = subst (λ (f : Files). AllIn (shape_of new.tree v.forest) f.descriptors) (sym same)
+      (all_in-through old.files.descriptors (shape_of old.tree w.forest) (shape_of new.tree v.forest)
       (λ n named_one. kept.files n (omega (arith, sound.enough n))) (λ n named_one. kept.dirs n (omega (arith, sound.enough n))) sound.all_in);
-  enough = λ n. let files = ap (λ f. descriptions_of f n) same in omega (arith, sound.enough n, kept.holds n);
+  enough = λ n. let files = ap (λ (f : Files). descriptions_of f.descriptors n) same in omega (arith, sound.enough n, kept.holds n);
+  piped = subst (λ f. IsPiped f v.pipes) (sym same) (subst (IsPiped old.files) (sym piped) sound.piped);
 }
 
 pub others_kept : (old new : Scene) → old.caller ≡ new.caller → new.files ≡ old.files → KeepsHeld old.tree new.tree → KeepsOthers old new
@@ -79,13 +92,22 @@ others_kept old new same files kept = record {
   dirs = λ n held. kept.dirs n (omega arith);
 }
 
+-- the table of pipes stands for the host's also then
+pub piped_nodes : (p : ℕ) (old new : Files) (host : Pipes) → KeepsNodes p old.descriptors new.descriptors → new.pipes ≡ old.pipes → new.ends ≡ old.ends → IsPiped old host → IsPiped new host
+piped_nodes p old new host nodes pipes ends piped = record {
+  stands = subst (λ t. table.Stands t host) (sym pipes) piped.stands;
+  counted = subst (λ e. AreCounted new.descriptors e) (sym ends) (counted-kept p old.descriptors new.descriptors old.ends nodes piped.counted);
+  there = subst (λ (t : table.Table). AllEnds (record { contents = table.pipes_of t host; next = t.next }) new.descriptors) (sym pipes) (nodes.all_ends (pipes_at old host) piped.there);
+}
+
 -- a change of open files that leaves the nodes that they are of
-pub sound_nodes : (old new : Fs) (w : World) (caller : Caller) (space pages : List PageView) → Sound (stage old w caller space) → KeepsNodes caller.vpid old.files new.files → new.tree ≡ old.tree → Sound (stage new w caller pages)
-sound_nodes old new w caller space pages sound nodes same = record {
+pub sound_nodes : (old new : Fs) (w : World) (caller : Caller) (space pages : List PageView) → Sound (stage old w caller space) → KeepsNodes caller.vpid old.files.descriptors new.files.descriptors → new.files.pipes ≡ old.files.pipes → new.files.ends ≡ old.files.ends → new.tree ≡ old.tree → Sound (stage new w caller pages)
+sound_nodes old new w caller space pages sound nodes pipes ends same = record {
   stands = subst (λ t. Stands t w.forest) (sym same) sound.stands;
   is_dir = subst (λ t. IsDir (shape_of t w.forest) caller.cwd) (sym same) sound.is_dir;
-  all_in = subst (λ t. AllIn (shape_of t w.forest) new.files) (sym same) (nodes.all_in (shape_of old.tree w.forest) sound.all_in);
+  all_in = subst (λ t. AllIn (shape_of t w.forest) new.files.descriptors) (sym same) (nodes.all_in (shape_of old.tree w.forest) sound.all_in);
   enough = λ n. let tree = ap (λ t. holds_of (tree_of t w.forest) n) same in omega (arith, sound.enough n, nodes.counts n);
+  piped = piped_nodes caller.vpid old.files new.files w.pipes nodes pipes ends sound.piped;
 }
 
 pub others_nodes : (old new : Scene) → old.caller ≡ new.caller → old.tree ≡ new.tree → KeepsNodes old.caller.vpid old.files new.files → KeepsOthers old new
@@ -107,6 +129,7 @@ sound_held old new w v caller space pages sound backed kept = record {
   is_dir = kept.dirs caller.cwd (cwd_more old w caller space sound) sound.is_dir;
   all_in = backed.backs.is_in;
   enough = λ n. omega (arith, sound.enough n, kept.holds n);
+  piped = record { stands = backed.pipes; counted = backed.ends; there = backed.backs.ends };
 }
 
 pub others_held : (old new : Scene) → old.caller ≡ new.caller → KeepsHolds old.caller.vpid (holding old) (holding new) → KeepsOthers old new
@@ -139,10 +162,10 @@ pub reaches_kept : (defined : Row) (old : Fs) (tree : Table) (clock : ℕ) (w v 
 reaches_kept defined old tree clock w v caller space answer before now sound stands kept rest later is =
     let new : Fs = record { tree = tree; files = old.files; clock = clock; rand = old.rand } in
     record {
-      served = is;
-      sound = sound_kept old new w v caller space space sound stands kept refl;
+      served = is ∙ ap (λ host. record { next = record (scene (stage new v caller space)) { pipes = pipes_at old.files host }; answer = answer }) (sym rest.pipes);
+      sound = sound_kept old new w v caller space space sound stands kept refl rest.pipes;
       others = others_kept (scene (stage old w caller space)) (scene (stage new v caller space)) refl refl kept;
-      rest = rest;
+      rest = rest.pids;
       cause = record { later = later; rose = λ failed. cc };
     }
 
@@ -157,9 +180,9 @@ reaches_done d old tree clock w v caller space value before now sound stands kep
     (ap (by_done s) is ∙ ap (λ ticks. answers (record s { tree = tree_of tree v.forest; clock = ticks }) 0) (sym at))
 
 -- a call on open files came to this
-pub reaches_held : {A : Type 0} (number : A → ℕ) (o : Outcome A) (old : Fs) (tree : Table) (files : Descriptions) (w v : World) (caller : Caller) (space : List PageView) (found : Result A Errno) (before now : ℕ)
-    → Sound (stage old w caller space) → IsBacked (at files tree v) → KeepsHolds caller.vpid (over (tree_of old.tree w.forest) old.files) (over (tree_of tree v.forest) files) → OnlyForest w v → before ≤ now
-    → o ≡ record { answer = found; next = over (tree_of tree v.forest) files }
+pub reaches_held : {A : Type 0} (number : A → ℕ) (o : Outcome A) (old : Fs) (tree : Table) (files : Files) (w v : World) (caller : Caller) (space : List PageView) (found : Result A Errno) (before now : ℕ)
+    → Sound (stage old w caller space) → IsBacked (at files tree v) → KeepsHolds caller.vpid (holds.holding (at old.files old.tree w)) (holds.holding (at files tree v)) → OnlyFiles w v → before ≤ now
+    → o ≡ record { answer = found; next = holds.holding (at files tree v) }
     → Reaches (by_outcome number (scene (stage old w caller space)) o) (stage old w caller space) (stage (record { tree = tree; files = files; clock = old.clock; rand = old.rand }) v caller space) (Ok (answer_of number found)) before now
 reaches_held number o old tree files w v caller space found before now sound backed kept rest later is =
     let new : Fs = record { tree = tree; files = files; clock = old.clock; rand = old.rand } in
@@ -172,15 +195,15 @@ reaches_held number o old tree files w v caller space found before now sound bac
     }
 
 -- a call changed open files alone, and left the nodes that they are of
-pub reaches_nodes : (defined : Row) (old : Fs) (files : Descriptions) (w : World) (caller : Caller) (space pages : List PageView) (answer : Answer) (before now : ℕ)
-    → Sound (stage old w caller space) → KeepsNodes caller.vpid old.files files → before ≤ now
-    → defined ≡ record { next = record (scene (stage old w caller space)) { files = files; space = pages }; answer = answer }
+pub reaches_nodes : (defined : Row) (old : Fs) (files : Files) (w : World) (caller : Caller) (space pages : List PageView) (answer : Answer) (before now : ℕ)
+    → Sound (stage old w caller space) → KeepsNodes caller.vpid old.files.descriptors files.descriptors → files.pipes ≡ old.files.pipes → files.ends ≡ old.files.ends → before ≤ now
+    → defined ≡ record { next = record (scene (stage old w caller space)) { files = files.descriptors; space = pages }; answer = answer }
     → Reaches defined (stage old w caller space) (stage (record { tree = old.tree; files = files; clock = old.clock; rand = old.rand }) w caller pages) (Ok answer) before now
-reaches_nodes defined old files w caller space pages answer before now sound nodes later is =
+reaches_nodes defined old files w caller space pages answer before now sound nodes pipes ends later is =
     let new : Fs = record { tree = old.tree; files = files; clock = old.clock; rand = old.rand } in
     record {
-      served = is;
-      sound = sound_nodes old new w caller space pages sound nodes refl;
+      served = is ∙ ap (λ (t : table.Table). record { next = record (scene (stage new w caller pages)) { pipes = record { contents = table.pipes_of t w.pipes; next = t.next } }; answer = answer }) (sym pipes);
+      sound = sound_nodes old new w caller space pages sound nodes pipes ends refl;
       others = others_nodes (scene (stage old w caller space)) (scene (stage new w caller pages)) refl refl nodes;
       rest = refl;
       cause = record { later = later; rose = λ failed. cc };
@@ -197,7 +220,7 @@ others_both old mid new first second = record {
 }
 
 -- what is reached after a first step
-pub reaches_next : (defined rest : Row) (old mid new : Stage) (result : Result Answer HostErr) (before between now : ℕ) → KeepsOthers (scene old) (scene mid) → OnlyForest old.world mid.world → before ≤ between → defined ≡ rest → Reaches rest mid new result between now → Reaches defined old new result before now
+pub reaches_next : (defined rest : Row) (old mid new : Stage) (result : Result Answer HostErr) (before between now : ℕ) → KeepsOthers (scene old) (scene mid) → OnlyFiles old.world mid.world → before ≤ between → defined ≡ rest → Reaches rest mid new result between now → Reaches defined old new result before now
 reaches_next defined rest old mid new result before between now first only later same s = record {
   served = by_result result s.served;
   sound = s.sound;
@@ -244,6 +267,7 @@ reaches_caller defined fs w old new space answer count sound same vpid is = reco
     is_dir = subst (IsDir (shape_of fs.tree w.forest)) (sym same) sound.is_dir;
     all_in = sound.all_in;
     enough = λ n. let cwd = ap (one_for n) same in omega (arith, sound.enough n);
+    piped = sound.piped;
   };
   others = record {
     vpid = vpid;

@@ -1,5 +1,5 @@
 -- The arguments of a call, and flags (syscall(2)).
-use Rattle.std.specs.Prelude.{ℕ, List, ◌==◌, Bool, bit_and, bit_or, slice_index}
+use Rattle.std.specs.Prelude.{ℕ, List, ◌==◌, Bool, bit_or, slice_index}
 
 -- an argument, by its index
 abbrev pub argument : List ℕ → ℕ → ℕ
@@ -8,7 +8,3 @@ argument args index = slice_index args index
 -- the flags have none but these
 abbrev pub has_only : ℕ → ℕ → Bool
 has_only flags known = bit_or flags known == known
-
--- the flag is among these
-abbrev pub has : ℕ → ℕ → Bool
-has flags flag = bit_and flags flag == flag

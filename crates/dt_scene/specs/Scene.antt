@@ -7,6 +7,7 @@ use Rattle.dt_base.specs.declared.errno.Errno.{Errno}
 use Rattle.dt_base.specs.declared.errno.Errno.TheVariants.{BadF}
 use Rattle.dt_fds.specs.declared.desc.Desc.{Desc}
 use Rattle.dt_fds.specs.Descriptions.{Descriptions, description_at}
+use Rattle.dt_fds.specs.Pipes.{Pipes}
 use Rattle.dt_fds.specs.Holding.{Holding, Outcome, over}
 use Rattle.dt_space.specs.Space.{PageView}
 use Rattle.dt_tree.specs.Calls.{Done}
@@ -15,10 +16,11 @@ use Rattle.dt_virt.specs.declared.clock.TheConstants.{READING_TICKS}
 use Rattle.dt_virt.specs.Clock.{later}
 use Rattle.dt_virt.specs.Words.{Seeded}
 
--- the file tree, the open files, the logical time, the seed's words, the process that calls, and its pages
+-- the file tree, the open files and their pipes, the logical time, the seed's words, the process that calls, and its pages
 pub record Scene : Type 0 where
   pub tree : FileTree
   pub files : Descriptions
+  pub pipes : Pipes
   pub clock : ℕ
   pub rand : Seeded
   pub caller : Caller
@@ -62,13 +64,13 @@ by_answer s (Err errno) d = refused s errno
 abbrev pub by_done : {A : Type 0} → Scene → Done A → Row
 by_done s d = by_answer s d.answer d
 
--- the open files and the tree
+-- the open files, their pipes and the tree
 abbrev pub holding : Scene → Holding
-holding s = over s.tree s.files
+holding s = over s.tree s.pipes s.files
 
--- the same scene with other open files, or another tree
+-- the same scene with other open files, other pipes, or another tree
 abbrev pub with_holding : Holding → Scene → Scene
-with_holding h s = record s { tree = h.tree; files = h.files }
+with_holding h s = record s { tree = h.tree; files = h.files; pipes = h.pipes }
 
 -- the answer of a call on open files, where a value answers a number
 abbrev pub answer_of : {A : Type 0} → (A → ℕ) → Result A Errno → Answer

@@ -2,11 +2,12 @@
 use Rattle.std.specs.Prelude.{◌≡◌, ℕ, ◌+◌, ◌<◌, ◌≤◌, List, Result, IfOk, OnOk, IsErrOf}
 use Rattle.dt_base.specs.declared.answer.Answer.{Answer}
 use Rattle.dt_base.specs.declared.caller.Caller.{Caller}
-use Rattle.dt_fds.specs.Backs.{AllIn, KeepsTables, descriptions_of}
+use Rattle.dt_fds.specs.OpenFiles.{pipes_at}
+use Rattle.dt_fds.specs.Backs.{AllIn, IsPiped, KeepsTables, OnlyFiles, descriptions_of}
 use Rattle.dt_host.specs.Cause.{HasCause}
 use Rattle.dt_host.specs.declared.error.HostErr.{HostErr}
 use Rattle.dt_host.specs.declared.error.HostErr.TheVariants.{Failed}
-use Rattle.dt_host.specs.World.{World, IsFile, IsDir, OnlyForest}
+use Rattle.dt_host.specs.World.{World, IsFile, IsDir}
 use Rattle.dt_space.specs.Space.{PageView}
 use Rattle.dt_tree.specs.Table.{Stands, shape_of, tree_of}
 use Rattle.dt_tree.specs.FileTree.{holds_of}
@@ -29,7 +30,8 @@ stage fs world caller space = record { fs = fs; world = world; caller = caller; 
 abbrev pub scene : Stage → Scene
 scene g = record {
   tree = tree_of g.fs.tree g.world.forest;
-  files = g.fs.files;
+  files = g.fs.files.descriptors;
+  pipes = pipes_at g.fs.files g.world.pipes;
   clock = g.fs.clock;
   rand = g.fs.rand;
   caller = g.caller;
@@ -41,12 +43,13 @@ abbrev pub named_in : Scene → ℕ → ℕ
 named_in s n = descriptions_of s.files n + one_for n s.caller.cwd
 
 -- the table stands for a tree with the host's nodes, the working directory is a directory of it, what is open is in it, and
--- each node is held at least once for each of these that names it
+-- each node is held at least once for each of these that names it; and the table of pipes stands for the host's
 pub record Sound (g : Stage) : Type 0 where
   pub stands : Stands g.fs.tree g.world.forest
   pub is_dir : IsDir (shape_of g.fs.tree g.world.forest) g.caller.cwd
-  pub all_in : AllIn (shape_of g.fs.tree g.world.forest) g.fs.files
+  pub all_in : AllIn (shape_of g.fs.tree g.world.forest) g.fs.files.descriptors
   pub enough : (n : ℕ) → named_in (scene g) n ≤ holds_of (tree_of g.fs.tree g.world.forest) n
+  pub piped : IsPiped g.fs.files g.world.pipes
 
 -- a call leaves what others hold: the process is the same; the holds of a node that are neither of an open file nor of the
 -- process's working directory are as many as before; where there are such, a file stays a file and a directory one; and the
@@ -63,7 +66,7 @@ pub record Reaches (defined : Row) (old new : Stage) (result : Result Answer Hos
   pub served : IfOk result (λ answer. defined ≡ record { next = scene new; answer = answer })
   pub sound : OnOk result (Sound new)
   pub others : OnOk result (KeepsOthers (scene old) (scene new))
-  pub rest : OnlyForest old.world new.world
+  pub rest : OnlyFiles old.world new.world
   pub cause : HasCause before now (IsErrOf result Failed)
 
 -- the code serves a row of these arguments

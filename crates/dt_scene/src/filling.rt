@@ -1,6 +1,5 @@
-// Flags, and buffers that are filled.
+// Buffers that are filled.
 ghost use Rattle.std.specs.Prelude.{◌≡◌};
-ghost use Rattle.dt_scene.specs.Arguments.{has};
 ghost use Rattle.dt_scene.specs.Filling.{fills};
 ghost use Rattle.dt_scene.specs.Sound.{Sound, Reaches, stage, scene};
 
@@ -8,13 +7,6 @@ use crate::fs::Fs;
 use dt_base::{Answer, Caller, Errno};
 use dt_host::{Host, HostErr};
 use dt_space::Space;
-
-/// Whether all of a flag is among these.
-pub fn has(flags: u32, flag: u32) -> bool
-    ensures { result ≡ has flags flag }
-{
-    flags & flag == flag
-}
 
 /// Fills a buffer, and answers this value: EFAULT where one of its bytes may not be written.
 pub fn fill<H: Host>(

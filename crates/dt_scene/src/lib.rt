@@ -4,5 +4,5 @@
 mod filling;
 mod fs;
 
-pub use filling::{fill, has};
+pub use filling::fill;
 pub use fs::Fs;

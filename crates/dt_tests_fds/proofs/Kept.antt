@@ -1,15 +1,19 @@
--- What is there in the tree.
-use Rattle.std.proofs.Common.{◌≡◌, ℕ, false, List, Option, Some, None, refl}
+-- What is there: in the tree, and of the pipes.
+use Rattle.std.proofs.Common.{◌≡◌, ℕ, false, List, Option, Some, None, refl, sym, ◌∙◌}
 use Rattle.std.specs.Prelude.{IfSome, IsSome, is_some, option_and_then}
-use Rattle.dt_host.specs.World.{Forest, Node, file, dir, link, node_at, file_bytes, dir_names, link_target, entry, IsFile, IsLive}
+use Rattle.std.specs.FinMap.{get}
+use Rattle.dt_host.specs.World.{World, Forest, Node, file, dir, link, node_at, file_bytes, dir_names, link_target, entry, IsFile, IsLive}
 use Rattle.dt_tree.specs.Shape.{is_dir, is_link}
 use Rattle.dt_tree.specs.Table.{Table, Stands, shape_of}
 use Rattle.dt_tree.proofs.Namings.{named}
 use Rattle.dt_fds.specs.declared.desc.Desc.{Desc}
 use Rattle.dt_fds.specs.declared.desc.Slot.{Slot}
-use Rattle.dt_fds.specs.Descriptions.{Descriptions, inode_of, desc_of, slot_at, description_at}
-use Rattle.dt_fds.specs.Backs.{AllIn, IsIn}
+use Rattle.dt_fds.specs.declared.files.Files.{Files}
+use Rattle.dt_fds.specs.Descriptions.{Descriptions, inode_of, pipe_of, desc_of, slot_at, description_at}
+use Rattle.dt_fds.specs.Backs.{AllIn, HasEnds, IsBacked, IsIn, at}
 use Rattle.dt_fds.proofs.Backing.{live-in}
+use Rattle.dt_pipes.specs.Table.{pipes_of}
+use Rattle.dt_pipes.proofs.Held.{has-pipes_of}
 
 -- what is named is there
 pub live : (t : Table) (v : Forest) → Stands t v → (d n : ℕ) (name : List ℕ) → entry (shape_of t v) d name ≡ Some n → IsLive (shape_of t v) n
@@ -37,3 +41,15 @@ live-described v f p fd h = by_slot (slot_at f p fd)
     by_slot : (slot : Option Slot) → IfSome (option_and_then (desc_of f) slot) (λ desc. IfSome (inode_of desc.kind) (λ n. IsLive v n))
     by_slot None = tt
     by_slot (Some slot) = by_desc (desc_of f slot) (h slot.number)
+
+-- the pipe of each end that is open is in the table
+pub has_ends : (f : Files) (t : Table) (w : World) → IsBacked (at f t w) → HasEnds f
+has_ends f t w backed k = by_found (get f.descriptors.descs k) (backed.backs.ends k)
+  where
+    by_pipe : (pipe : Option ℕ) → IfSome pipe (λ q. IsSome (get (pipes_of f.pipes w.pipes) q)) → IfSome pipe (λ q. IsSome (get f.pipes.pipes q))
+    by_pipe None there = tt
+    by_pipe (Some q) there = sym (has-pipes_of f.pipes w.pipes q) ∙ there
+
+    by_found : (found : Option Desc) → IfSome found (λ desc. IfSome (pipe_of desc.kind) (λ q. IsSome (get (pipes_of f.pipes w.pipes) q))) → IfSome found (λ desc. IfSome (pipe_of desc.kind) (λ q. IsSome (get f.pipes.pipes q)))
+    by_found None there = tt
+    by_found (Some desc) there = by_pipe (pipe_of desc.kind) there

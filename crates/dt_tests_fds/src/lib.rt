@@ -10,6 +10,8 @@ mod image;
 #[cfg(test)]
 mod nodes;
 #[cfg(test)]
+mod pipes;
+#[cfg(test)]
 mod scene;
 #[cfg(test)]
 mod sharing;

@@ -77,7 +77,7 @@ fn all_nodes_go_with_their_process(rt: HostRuntime) -> Result<(), Fail> {
 fn a_node_goes_with_the_last_of_the_processes_that_share_it(rt: HostRuntime) -> Result<(), Fail> {
     let mut scene = Scene::new(rt.alloc())?;
     assert_eq!(rt; scene.open(b"d")?, Ok(3));
-    assert!(rt; scene.share_all()?);
+    scene.share_all()?;
     assert_eq!(rt; scene.unlink(b"d")?, Ok(()));
     scene.drop_all(PID)?;
     assert!(rt; scene.files.look(PID, 3).is_none());
@@ -94,7 +94,7 @@ fn a_node_stays_while_the_parent_has_it_open(rt: HostRuntime) -> Result<(), Fail
     let mut scene = Scene::new(rt.alloc())?;
     assert_eq!(rt; scene.open(b"d")?, Ok(3));
     assert_eq!(rt; scene.unlink(b"d")?, Ok(()));
-    assert!(rt; scene.share_all()?);
+    scene.share_all()?;
     scene.drop_all(CHILD)?;
     assert!(rt; scene.tree.is_dir(DIR));
     assert_eq!(rt; scene.close(3)?, Ok(()));
@@ -109,7 +109,7 @@ fn execve_closes_what_is_marked(rt: HostRuntime) -> Result<(), Fail> {
     assert_eq!(rt; scene.open(b"f")?, Ok(4));
     assert_eq!(rt; scene.dup(4, 63, true)?, Ok(63));
     assert_eq!(rt; scene.unlink(b"d")?, Ok(()));
-    scene.files.set_cloexec(PID, 3, true);
+    scene.set_cloexec(PID, 3, true);
     scene.close_exec()?;
     assert!(rt; scene.files.look(PID, 3).is_none());
     assert!(rt; scene.files.look(PID, 63).is_none());

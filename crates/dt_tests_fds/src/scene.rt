@@ -1,17 +1,18 @@
 // The open files of a first process, over the tree of a small image at a host in memory.
-ghost use Rattle.std.specs.Prelude.{◌≡◌, ◌≢◌, ◌≤◌, IfOk, OnOk};
+ghost use Rattle.std.specs.Prelude.{◌≡◌, ◌≢◌, ◌≤◌, None, IfOk, OnOk, length};
 ghost use Rattle.dt_tree.specs.declared.limits.TheConstants.{ROOT};
 ghost use Rattle.dt_tree.specs.Calls.{MayDrop};
 ghost use Rattle.dt_tree.specs.Table.{shape_of};
 ghost use Rattle.dt_fds.specs.declared.desc.TheConstants.{DESCRIPTOR_LIMIT};
-ghost use Rattle.dt_fds.specs.Descriptions.{IsKind, IsDesc};
+ghost use Rattle.dt_fds.specs.Descriptions.{IsKind, IsDesc, pipe_of};
 ghost use Rattle.dt_fds.specs.Backs.{IsBacked, IsIn, at};
 
 use crate::image::image;
 use dt_base::Errno;
-use dt_fds::{Desc, DescKind, Files, Spot};
+use dt_fds::{Desc, DescKind, Files, Flow, Spot};
 use dt_host::{CallErr, Host, HostErr, NodeKind};
 use dt_memhost::{MemHost, Picker};
+use dt_pipes::PIPE_NUMBER_LIMIT;
 use dt_tree::{ROOT, Tree};
 use std::alloc::Global;
 
@@ -50,6 +51,7 @@ impl Scene {
         requires backed { IsBacked (at self.old.files self.old.tree self.old.host.view) }
         requires good { IsKind kind }
         requires there { IsIn (shape_of self.old.tree self.old.host.view.forest) kind }
+        requires no_end { pipe_of kind ≡ None }
         ensures { OnOk result (IsBacked (at self.new.files self.new.tree self.new.host.view)) }
     {
         let desc = desc(kind);
@@ -101,16 +103,49 @@ impl Scene {
         }
     }
 
-    /// Gives a child a table like that of the process; whether that was done.
-    pub fn share_all(&mut self) -> Result<bool, HostErr>
+    /// Gives a child a table like that of the process; a child that was there before ends first.
+    pub fn share_all(&mut self) -> Result<(), HostErr>
         requires { IsBacked (at self.old.files self.old.tree self.old.host.view) }
         ensures { OnOk result (IsBacked (at self.new.files self.new.tree self.new.host.view)) }
     {
-        if !self.files.has_table(PID) || self.files.has_table(CHILD) {
-            return Ok(false);
-        }
+        self.files.drop_all(&mut self.host, &mut self.tree, CHILD)?;
         self.files.share_all(PID, CHILD)?;
-        Ok(true)
+        Ok(())
+    }
+
+    /// Goes to an offset, where a descriptor is open and is of no directory.
+    pub fn seek(&mut self, pid: u32, fd: u32, offset: u64)
+        requires { IsBacked (at self.old.files self.old.tree self.old.host.view) }
+        ensures { IsBacked (at self.new.files self.new.tree self.new.host.view) }
+    {
+        let kind = match self.files.look(pid, fd) {
+            Some(desc) => desc.kind,
+            None => DescKind::Dir(0),
+        };
+        match kind {
+            DescKind::Dir(_) => {}
+            DescKind::File(_)
+            | DescKind::PipeRead(_)
+            | DescKind::PipeWrite(_)
+            | DescKind::Input
+            | DescKind::Stream(_) => self.files.set_place(pid, fd, Spot::At(offset)),
+        }
+    }
+
+    /// Sets the flags of an open descriptor.
+    pub fn set_flags(&mut self, pid: u32, fd: u32, append: bool, nonblock: bool)
+        requires { IsBacked (at self.old.files self.old.tree self.old.host.view) }
+        ensures { IsBacked (at self.new.files self.new.tree self.new.host.view) }
+    {
+        self.files.set_flags(pid, fd, append, nonblock);
+    }
+
+    /// Sets the close-on-exec bit of an open descriptor.
+    pub fn set_cloexec(&mut self, pid: u32, fd: u32, cloexec: bool)
+        requires { IsBacked (at self.old.files self.old.tree self.old.host.view) }
+        ensures { IsBacked (at self.new.files self.new.tree self.new.host.view) }
+    {
+        self.files.set_cloexec(pid, fd, cloexec);
     }
 
     /// Closes the descriptors whose close-on-exec bit is set.
@@ -127,6 +162,58 @@ impl Scene {
         ensures { OnOk result (IsBacked (at self.new.files self.new.tree self.new.host.view)) }
     {
         self.files.drop_all(&mut self.host, &mut self.tree, pid)
+    }
+
+    /// Makes a pipe, and tells the descriptors of its ends.
+    pub fn pipe(&mut self, flags: u32) -> Result<Result<(u32, u32), Errno>, HostErr>
+        requires { IsBacked (at self.old.files self.old.tree self.old.host.view) }
+        ensures { OnOk result (IsBacked (at self.new.files self.new.tree self.new.host.view)) }
+    {
+        if self.files.pipes.next() >= PIPE_NUMBER_LIMIT {
+            return Err(HostErr::NoMemory);
+        }
+        match self.files.pipe(&mut self.host, PID, flags) {
+            Ok(ends) => Ok(Ok(ends)),
+            Err(CallErr::Errno(errno)) => Ok(Err(errno)),
+            Err(CallErr::Host(error)) => Err(error),
+        }
+    }
+
+    /// Reads from a pipe.
+    pub fn read(&mut self, fd: u32, buf: &mut [u8]) -> Result<Result<Flow, Errno>, HostErr>
+        requires { IsBacked (at self.old.files self.old.tree self.old.host.view) }
+        ensures { OnOk result (IsBacked (at self.new.files self.new.tree self.new.host.view)) }
+    {
+        match self.files.pipe_read(&mut self.host, PID, fd, buf) {
+            Ok(flow) => Ok(Ok(flow)),
+            Err(CallErr::Errno(errno)) => Ok(Err(errno)),
+            Err(CallErr::Host(error)) => Err(error),
+        }
+    }
+
+    /// Writes bytes to a pipe, of which so many are done.
+    pub fn write(
+        &mut self,
+        fd: u32,
+        bytes: &[u8],
+        done: u64,
+    ) -> Result<Result<Flow, Errno>, HostErr>
+        requires backed { IsBacked (at self.old.files self.old.tree self.old.host.view) }
+        requires within { done ≤ length bytes.now }
+        ensures { OnOk result (IsBacked (at self.new.files self.new.tree self.new.host.view)) }
+    {
+        match self.files.pipe_write(&mut self.host, PID, fd, bytes, done) {
+            Ok(flow) => Ok(Ok(flow)),
+            Err(CallErr::Errno(errno)) => Ok(Err(errno)),
+            Err(CallErr::Host(error)) => Err(error),
+        }
+    }
+
+    /// How many bytes a pipe holds.
+    pub fn held(&self, fd: u32) -> usize
+        requires { IsBacked (at self.now.files self.now.tree self.now.host.view) }
+    {
+        self.files.held(PID, fd)
     }
 
     /// Opens what has a name in the root.
@@ -206,7 +293,11 @@ fn desc(kind: DescKind) -> Desc
 {
     let spot = match kind {
         DescKind::Dir(_) => Spot::After(None),
-        DescKind::File(_) | DescKind::Input | DescKind::Stream(_) => Spot::At(0),
+        DescKind::File(_)
+        | DescKind::PipeRead(_)
+        | DescKind::PipeWrite(_)
+        | DescKind::Input
+        | DescKind::Stream(_) => Spot::At(0),
     };
     Desc {
         kind,

@@ -1,6 +1,6 @@
 -- What is live at the start of a host, and after its first calls.
 use Rattle.std.proofs.Common.{◌≡◌, ◌≢◌, ℕ, ◌||◌, true, List, [], Option, Some, None, refl, sym, ap, subst, ◌∙◌}
-use Rattle.std.specs.Prelude.{IsSome, OnOk, Result, Ok, Err, option_and_then, unwrap_or}
+use Rattle.std.specs.Prelude.{IsSome, MatchOption, OnOk, Result, Ok, Err, option_and_then, unwrap_or}
 use Rattle.std.proofs.lemmas.Cmp.{tied_itself}
 use Rattle.std.specs.Ordering.{nat_cmp, is_eq}
 use Rattle.std.specs.Cmp.{nat_cmp_total}
@@ -9,8 +9,8 @@ use Rattle.std.specs.FinMap.{get, empty, get-empty, nat_cmp-IsAntisymmetric}
 use Rattle.std.specs.FinSet.{contains, contains-insert}
 use Rattle.dt_host.specs.declared.kind.NodeKind.TheVariants.{File}
 use Rattle.dt_host.specs.World.{World, Forest, Node, file, dir, IsLive, IsFile, IsDir, IsNameless, IsBare, IsEmptyStart, node_at, entry, names_at, file_bytes, dir_names}
-use Rattle.dt_host.specs.Legal.{Binds, Unbinds, Cuts, MadeAt, MadePid}
-use Rattle.dt_host.proofs.Changes.{IsDir-start, IsDir-bound, node_at-start, root-made}
+use Rattle.dt_host.specs.Legal.{Binds, Unbinds, Cuts, MadeAt, MadePid, MayGo, NodeMayGo}
+use Rattle.dt_host.proofs.Changes.{IsDir-start, IsDir-bound, IsLive-made, node_at-start, root-made}
 use Rattle.dt_host.proofs.Maps.{at_insert}
 use Rattle.dt_host.proofs.Worlds.{IsFile-with_bytes}
 use Rattle.dt_host.proofs.Gone.{IsDir-without_entry}
@@ -66,16 +66,23 @@ module _ (old new : World) (n : ℕ) (start : IsEmptyStart old) (made : MadeAt o
       (at_insert nat_cmp_total nat_cmp-IsAntisymmetric Empty empty old.forest.root (dir empty) d (λ _. none)
       (λ _. subst Empty (sym (get-empty nat_cmp d)) none))))
 
-  pub IsNameless-made : IsNameless new.forest n
+  IsNameless-made : IsNameless new.forest n
   IsNameless-made d name is = let none = entry-none d name in cc
 
-  pub IsBare-made : IsBare new.forest n
+  IsBare-made : IsBare new.forest n
   IsBare-made = entry-none n
 
-  pub not_root-made : n ≢ new.forest.root
+  not_root-made : n ≢ new.forest.root
   not_root-made is =
-      let there = ap (node_at old.forest) (is ∙ root-made old new n made) ∙ node_at-start old start in
+      let there = ap (node_at old.forest) (is ∙ root-made (file []) old new n made.free made.made) ∙ node_at-start old start in
       let free = made.free in cc
+
+  -- and so it may go
+  pub MayGo-file : MayGo new n
+  MayGo-file =
+      let none = ap (λ (w : World). get w.pipes n) made.made ∙ made.no_pipe in
+      subst (λ found. MatchOption found (NodeMayGo new.forest n) (λ _. Unit {0})) (sym none)
+      (record { live = IsLive-made (file []) old new n made.free made.made; nameless = IsNameless-made; not_root = not_root-made; bare = IsBare-made })
 
 -- a pid that was made is live
 pub live-pid : (old new : World) (p : ℕ) → MadePid old new p → contains new.pids p ≡ true

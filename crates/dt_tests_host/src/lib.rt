@@ -7,3 +7,5 @@ mod hosts;
 mod outputs;
 #[cfg(test)]
 mod pids;
+#[cfg(test)]
+mod pipes;

@@ -15,6 +15,8 @@ pub enum Outcome {
     Done,
     /// Its call waits, and is tried again in its next turn.
     Blocked,
+    /// Its call has moved some bytes, and goes on in its next turn.
+    Moved,
     /// It ends.
     Ends(End),
     /// Its call, by its number, isn't supported.

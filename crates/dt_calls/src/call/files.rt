@@ -1,7 +1,7 @@
 // Calls on files, on time and on random bytes.
 ghost use Rattle.std.specs.Prelude.{◌≡◌};
 ghost use Rattle.dt_scene.specs.Sound.{Sound, Serves, stage};
-ghost use Rattle.dt_calls.specs.FileCalls.{arguments, row_of, file_call};
+ghost use Rattle.dt_calls.specs.FileCalls.{arguments, done_after, row_of, file_call};
 ghost use Rattle.dt_calls.specs.InCode.{shared_of};
 ghost use Rattle.dt_calls.specs.Sound.{IsSoundHand, Serves as Served, hand};
 
@@ -43,6 +43,7 @@ pub fn call<H: Host>(
         number,
         args,
     )?;
+    own.caller.done = done_after(own.caller.done, &answer);
     Ok(answered(alloc, machine, number, answer)?)
 }
 
@@ -66,6 +67,21 @@ fn serve_row<H: Host>(
         io_call(alloc, fs, host, caller, space, number, args)
     } else {
         file_call(alloc, fs, host, caller, space, number, args)
+    }
+}
+
+// How many bytes a call has moved that answers so, where it had moved so many before.
+fn done_after(count: u64, answer: &Answer) -> u64
+    ensures { result ≡ done_after count answer.now }
+{
+    match answer {
+        Answer::Waits => count,
+        Answer::Part(moved) => *moved,
+        Answer::Value(_)
+        | Answer::Refused(_)
+        | Answer::Output(_, _)
+        | Answer::Pipe(_)
+        | Answer::Unsupported => 0,
     }
 }
 

@@ -1,11 +1,11 @@
 // The status of a node.
 ghost use Rattle.std.specs.Prelude.{◌≡◌, IfOk, Some, true, false};
-ghost use Rattle.dt_base.specs.Abi.{low_word};
+ghost use Rattle.dt_base.specs.Abi.{has, low_word};
 ghost use Rattle.dt_host.specs.World.{IsLive};
 ghost use Rattle.dt_tree.specs.Meta.{meta_of};
 ghost use Rattle.dt_tree.specs.Table.{shape_of, tree_of};
 ghost use Rattle.dt_walk.specs.Placed.{IsPlaceIn};
-ghost use Rattle.dt_scene.specs.Arguments.{argument, has, has_only};
+ghost use Rattle.dt_scene.specs.Arguments.{argument, has_only};
 ghost use Rattle.dt_fcalls.specs.Places.{place_at};
 ghost use Rattle.dt_scene.specs.Sound.{Sound, Serves, Ends, stage, scene};
 ghost use Rattle.dt_fcalls.specs.Status.{tells_status, tells_descriptor, is_of_dirfd, status_rule, fstat_row};
@@ -13,12 +13,12 @@ ghost use Rattle.dt_fcalls.specs.Status.{newfstatat_row};
 
 use crate::arguments::text_argument;
 use crate::places::{LastLink, place_at};
-use crate::stat::{STAT_FLAGS, stat_of, stream_stat};
-use dt_base::abi::{AT_EMPTY_PATH, AT_FDCWD, AT_SYMLINK_NOFOLLOW, low_word, signed_word};
+use crate::stat::{STAT_FLAGS, pipe_stat, stat_of, stream_stat};
+use dt_base::abi::{AT_EMPTY_PATH, AT_FDCWD, AT_SYMLINK_NOFOLLOW, has, low_word, signed_word};
 use dt_base::{Answer, Caller, Errno, NoMemory};
 use dt_fds::DescKind;
 use dt_host::{Host, HostErr};
-use dt_scene::{Fs, fill, has};
+use dt_scene::{Fs, fill};
 use dt_space::Space;
 use dt_tree::Meta;
 use dt_walk::Place;
@@ -141,6 +141,9 @@ fn tell_descriptor<H: Host>(
     };
     match desc.kind {
         DescKind::File(n) | DescKind::Dir(n) => tell_status(fs, host, caller, space, buffer, n),
+        DescKind::PipeRead(q) | DescKind::PipeWrite(q) => {
+            fill(fs, host, caller, space, buffer, &pipe_stat(q), 0)
+        }
         DescKind::Input | DescKind::Stream(_) => {
             fill(fs, host, caller, space, buffer, &stream_stat(), 0)
         }

@@ -2,9 +2,9 @@
 use Rattle.std.specs.Prelude.{ℕ, List, refl}
 use Rattle.std.specs.Coded.{Coded, code_by, coded×, coded_ℕ, coded_list}
 use Rattle.std.specs.FinMap.{code}
-use Rattle.dt_host.specs.inner.Codes.{files_code, forest_code, world_code}
+use Rattle.dt_host.specs.inner.Codes.{files_code, forest_code, pipes_code, world_code}
 use Rattle.dt_host.specs.Store.{Files}
-use Rattle.dt_host.specs.World.{World, Forest}
+use Rattle.dt_host.specs.World.{World, Forest, Pipes}
 use Rattle.rand_chacha.specs.ChaCha.{ChaCha}
 use Rattle.dt_memhost.specs.Picks.{Picks}
 use Rattle.dt_memhost.specs.Script.{Script}
@@ -41,10 +41,10 @@ order_code = coded_list (coded× (coded_list coded_ℕ) coded_ℕ)
 abbrev pub orders_code : Coded Orders
 orders_code = code coded_ℕ order_code
 
--- a forest with its orders, as the pair
+-- a forest with its orders and the pipes, as the three
 abbrev pub ordered_code : Coded Ordered
 ordered_code =
-    code_by (Forest × Orders) (coded× forest_code orders_code) (λ o. (o.forest, o.orders)) (λ p. record { forest = p.0; orders = p.1 }) (λ _. refl)
+    code_by (Forest × (Orders × Pipes)) (coded× forest_code (coded× orders_code pipes_code)) (λ o. (o.forest, (o.orders, o.pipes))) (λ p. record { forest = p.0; orders = p.1.0; pipes = p.1.1 }) (λ _. refl)
 
 -- a host, as what it keeps and its script
 abbrev pub host_code : Coded HostState

@@ -1,36 +1,62 @@
--- What a host in memory keeps: the forest, and the order of binding in its nodes.
-use Rattle.std.specs.Prelude.{ℕ, List, []}
-use Rattle.std.specs.FinMap.{empty, insert, remove}
+-- What a host in memory keeps: the forest, the order of binding in its nodes, and the pipes.
+use Rattle.std.specs.Prelude.{ℕ, ◌^◌, ◌<◌, List, [], IsSome}
+use Rattle.std.specs.FinMap.{empty, get, insert, remove}
 use Rattle.dt_host.specs.declared.kind.NodeKind.{NodeKind}
-use Rattle.dt_host.specs.World.{Forest, with_node, with_entry, without_entry, without_node, with_bytes, empty_forest}
-use Rattle.dt_host.specs.Legal.{new_node}
+use Rattle.dt_host.specs.World.{World, Forest, Pipes, Pids, with_entry, without_entry, without_node, with_bytes}
+use Rattle.dt_host.specs.World.{empty_forest, IsSized}
 use Rattle.dt_memhost.specs.Order.{Orders, with_last, without_name}
+use Rattle.dt_memhost.specs.inner.Kept.{with_value}
+use Rattle.dt_memhost.specs.inner.Node.{new_node, new_order, new_held}
 
--- the forest, and the order of binding in each node
+-- the forest, the order of binding in each node, and what each pipe holds
 pub record Ordered : Type 0 where
   pub forest : Forest
   pub orders : Orders
+  pub pipes : Pipes
+
+-- its numbers have 64 bits
+pub record HasSizes (o : Ordered) : Type 0 where
+  pub forest : IsSized o.forest
+  pub pipes : (n : ℕ) → IsSome (get o.pipes n) → n < 2 ^ 64
+
+-- the world of these nodes and pipes, with these pids
+abbrev pub world_of : Ordered → Pids → World
+world_of o pids = record { forest = o.forest; pipes = o.pipes; pids = pids }
 
 -- nothing but a root without entries
 abbrev pub empty_ordered : ℕ → Ordered
-empty_ordered root = record { forest = empty_forest root; orders = insert empty root [] }
+empty_ordered root = record { forest = empty_forest root; orders = insert empty root []; pipes = empty }
 
--- with a new node, which has no entries
+-- with something new of that kind under a number, and nothing else there
 abbrev pub made : Ordered → ℕ → NodeKind → Ordered
-made o n kind = record { forest = with_node o.forest n (new_node kind); orders = insert o.orders n [] }
+made o n kind = record {
+  forest = record o.forest { nodes = with_value o.forest.nodes n (new_node kind) };
+  orders = with_value o.orders n (new_order kind);
+  pipes = with_value o.pipes n (new_held kind);
+}
 
 -- with one entry more in a directory
 abbrev pub bound : Ordered → ℕ → List ℕ → ℕ → Ordered
-bound o d name n = record { forest = with_entry o.forest d name n; orders = with_last o.orders d name n }
+bound o d name n =
+    record o { forest = with_entry o.forest d name n; orders = with_last o.orders d name n }
 
 -- with one entry fewer in a directory
 abbrev pub unbound : Ordered → ℕ → List ℕ → Ordered
-unbound o d name = record { forest = without_entry o.forest d name; orders = without_name o.orders d name }
+unbound o d name =
+    record o { forest = without_entry o.forest d name; orders = without_name o.orders d name }
 
--- without a node
+-- with neither a node nor a pipe under that number
 abbrev pub forgotten : Ordered → ℕ → Ordered
-forgotten o n = record { forest = without_node o.forest n; orders = remove o.orders n }
+forgotten o n = record {
+  forest = without_node o.forest n;
+  orders = remove o.orders n;
+  pipes = remove o.pipes n;
+}
 
 -- with these bytes as the file of that number
 abbrev pub rewritten : Ordered → ℕ → List ℕ → Ordered
 rewritten o n bytes = record o { forest = with_bytes o.forest n bytes }
+
+-- with a pipe of that number that holds these bytes
+abbrev pub refilled : Ordered → ℕ → List ℕ → Ordered
+refilled o n bytes = record o { pipes = insert o.pipes n bytes }

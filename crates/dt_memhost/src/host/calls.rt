@@ -1,21 +1,22 @@
 // The calls of a host in memory.
-ghost use Rattle.std.specs.Prelude.{◌≡◌, ◌≢◌, ◌+◌, ◌<◌, ◌≤◌, None, Some, true, length, map, IfOk, IfSome, IsErrOf};
+ghost use Rattle.std.specs.Prelude.{◌≡◌, ◌+◌, ◌<◌, ◌≤◌, None, Some, true, length, map, IfOk, IfSome, IsErrOf};
 ghost use Rattle.std.specs.Prelude.{IsSome};
 ghost use Rattle.std.specs.List.Sorted.{IsPermutation};
 ghost use Rattle.std.specs.FinMap.{entries};
 ghost use Rattle.std.specs.FinSet.{contains};
 ghost use Rattle.dt_host.specs.Cause.{HasCause};
-ghost use Rattle.dt_host.specs.World.{IsLive, IsFile, IsDir, IsLink, file_at, target_at, names_at, IsNameless, IsBare};
-ghost use Rattle.dt_host.specs.World.{entry, content};
-ghost use Rattle.dt_host.specs.Legal.{Makes, Binds, Unbinds, Forgets, named, Reads, Writes, Cuts, MakesPid, DropsPid};
+ghost use Rattle.dt_host.specs.World.{IsLive, IsFile, IsDir, IsLink, IsPipe, file_at, target_at, names_at};
+ghost use Rattle.dt_host.specs.World.{entry, content, held};
+ghost use Rattle.dt_host.specs.Legal.{Makes, Binds, Unbinds, MayGo, Forgets, named, Reads, Writes, Cuts};
+ghost use Rattle.dt_host.specs.Legal.{Takes, Puts, MakesPid, DropsPid};
 ghost use Rattle.dt_memhost.specs.Host.{RootsBy, FindsBy, MakesBy, BindsBy, UnbindsBy, ForgetsBy, NamesBy, RawBy};
 ghost use Rattle.dt_memhost.specs.Host.{TargetBy, ReadsBy, WritesBy, CutsBy, MakesPidBy, DropsPidBy, StopsBy, WordBy};
-ghost use Rattle.dt_memhost.specs.Host.{FillsBy, DisturbsBy};
+ghost use Rattle.dt_memhost.specs.Host.{TakesBy, PutsBy, FillsBy, DisturbsBy};
 
 use super::MemHost;
 use crate::order::arrange;
 use crate::transfer::copy_into;
-use dt_base::{Blob, FILE_LIMIT};
+use dt_base::{Blob, FILE_LIMIT, PIPE_LIMIT};
 use dt_host::{Host, HostEntry, HostErr, NodeKind, RawStat};
 
 impl Host for MemHost {
@@ -24,7 +25,7 @@ impl Host for MemHost {
     ghost count = { λ h. h.script.faults };
 
     fn faults(&self) -> u64 {
-        // A proof learns here that the forest's numbers have 64 bits.
+        // A proof learns here that the forest's numbers have 64 bits, and that those of pipes are others.
         let _root = self.forest.root();
         self.script.faults()
     }
@@ -80,10 +81,7 @@ impl Host for MemHost {
     }
 
     fn forget(&mut self, ino: u64) -> Result<(), HostErr>
-        requires live { IsLive self.old.view.forest ino }
-        requires nameless { IsNameless self.old.view.forest ino }
-        requires not_root { ino ≢ self.old.view.forest.root }
-        requires bare { IsBare self.old.view.forest ino }
+        requires { MayGo self.old.view ino }
         ensures exact { ForgetsBy self.old ino tt result self.new }
         ensures legal { Forgets self.old.view ino result self.new.view }
         ensures cause { HasCause self.old.script.faults self.new.script.faults
@@ -204,6 +202,39 @@ impl Host for MemHost {
         self.script.begin(false)?;
         self.forest.cut(ino, len as usize)?;
         Ok(())
+    }
+
+    fn pipe_take(&mut self, ino: u64, buf: &mut [u8]) -> Result<usize, HostErr>
+        requires { IsPipe self.old.view ino }
+        ensures exact { TakesBy self.old ino buf.old buf.new result self.new }
+        ensures legal { Takes self.old.view ino buf.old buf.new result self.new.view }
+        ensures cause { HasCause self.old.script.faults self.new.script.faults
+            (IsErrOf result HostErr.Failed) }
+    {
+        self.script.begin(false)?;
+        let most = buf.len().min(self.forest.held(ino));
+        if most == 0 {
+            return Ok(0);
+        }
+        let count = self.script.length(most);
+        self.forest.take(ino, count, buf);
+        Ok(count)
+    }
+
+    fn pipe_put(&mut self, ino: u64, bytes: &[u8]) -> Result<usize, HostErr>
+        requires pipe { IsPipe self.old.view ino }
+        requires some { 0 < length bytes.now }
+        requires fits { length (held self.old.view ino) + length bytes.now ≤ PIPE_LIMIT }
+        ensures exact { PutsBy self.old ino bytes.now result self.new }
+        ensures legal { Puts self.old.view ino bytes.now result self.new.view }
+        ensures cause { HasCause self.old.script.faults self.new.script.faults
+            (IsErrOf result HostErr.Failed) }
+    {
+        self.script.begin(false)?;
+        let count = self.script.length(bytes.len());
+        let (prefix, _) = bytes.split_at(count);
+        self.forest.put(ino, prefix)?;
+        Ok(count)
     }
 
     fn new_pid(&mut self) -> Result<u64, HostErr>

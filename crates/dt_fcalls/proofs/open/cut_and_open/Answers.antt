@@ -12,7 +12,7 @@ returns-in-Ok g c =
     let mid = stage c.cut_file.new.fs (g.H.Host.view c.cut_file.new.host) c.args.caller.now c.args.space.now in
     let step = c.in_ok-cut_file.ensures.step in
     let next = subst (λ (r : Result (Unit {0}) Errno). GoesOn (scene old) (cuts_file c.args.n (scene old)) (scene mid) r) c.in-Ok.is step.next in
-    reaches_next _ _ old mid _ _ _ _ _ step.others step.rest step.cause.later
+    reaches_next _ _ old mid _ _ _ _ _ step.others step.rest.pids step.cause.later
     (next (λ done s. opens c.args.flags (file_desc c.args.flags c.args.n) s)) c.open_file.ensures
 
 pub returns-in-Err : goal.returns-in-Err
@@ -25,6 +25,6 @@ returns-in-Err g c =
       served = next (λ done s. opens c.args.flags (file_desc c.args.flags c.args.n) s);
       sound = step.sound;
       others = step.others;
-      rest = step.rest;
+      rest = step.rest.pids;
       cause = record { later = step.cause.later; rose = λ failed. cc };
     }

@@ -1,17 +1,15 @@
-use Rattle.std.proofs.Common.{refl, arith}
-use Rattle.std.proofs.lemmas.Grind.{common_steps}
+use Rattle.std.proofs.Common.{ap, sym, ◌∙◌, arith}
 use Rattle.dt_tree.specs.Calls.{cut_of}
 use Rattle.dt_tree.specs.Table.{tree_of}
+use Rattle.dt_scene.specs.Scene.{stamp}
 use Rattle.dt_scene.specs.Sound.{stage, scene}
-use Rattle.dt_scene.proofs.Kept.{sound_kept, others_kept}
-use Rattle.dt_iocalls.proofs.Written.{done_so}
+use Rattle.dt_scene.proofs.Kept.{reaches_done}
 use Rattle.dt_iocalls.proofs.writing.cut.Goals as goal
 
 pub returns-in-Ok : goal.returns-in-Ok
-returns-in-Ok g c = record {
-  served = done_so (scene (stage c.args.fs.now (g.H.Host.view c.args.host.now) c.args.caller.now c.args.space.now)) (tree_of c.cut.new.self (g.H.Host.view c.cut.new.host).forest) c.stamp.new.self c.next_stamp-stamp.result c.in-Ok.field-0 (cut_of (tree_of c.args.fs.now.tree (g.H.Host.view c.args.host.now).forest) c.args.n c.args.len) c.next_stamp-stamp.ensures c.stamp.ensures.rest c.in-Ok.ensures.done;
-  sound = sound_kept c.args.fs.now _ _ _ _ _ _ c.requires.sound c.in-Ok.ensures.stands c.in-Ok.ensures.held refl;
-  others = others_kept _ _ refl refl c.in-Ok.ensures.held;
-  rest = c.cut.ensures.rest;
-  cause = grind (arith, common_steps);
-}
+returns-in-Ok g c =
+    let w = g.H.Host.view c.args.host.now in
+    let call = cut_of (tree_of c.args.fs.now.tree w.forest) c.args.n c.args.len in
+    reaches_done (call (stamp (scene (stage c.args.fs.now w c.args.caller.now c.args.space.now)))) c.args.fs.now c.cut.new.self c.stamp.new.self w (g.H.Host.view c.cut.new.host) c.args.caller.now c.args.space.now c.in-Ok.field-0 (g.H.Host.count c.args.host.now) (g.H.Host.count c.cut.new.host)
+    c.requires.sound c.in-Ok.ensures.stands c.in-Ok.ensures.held c.cut.ensures.rest (omega (arith, c.cut.ensures.cause.later)) c.stamp.ensures.rest
+    (ap call (sym c.next_stamp-stamp.ensures) ∙ c.in-Ok.ensures.done)

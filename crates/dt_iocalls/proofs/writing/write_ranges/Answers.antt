@@ -5,4 +5,4 @@ use Rattle.dt_iocalls.proofs.writing.write_ranges.Goals as goal
 
 pub write_bytes-requires-clause-there : goal.write_bytes-requires-clause-there
 write_bytes-requires-clause-there g c =
-    kind_in (shape_of c.args.fs.now.tree (g.H.Host.view c.args.host.now).forest) c.args.fs.now.files c.args.caller.now.vpid c.args.fd c.in-Some.desc.now c.requires.all_in (sym c.in-Some.ensures.desc)
+    kind_in (shape_of c.args.fs.now.tree (g.H.Host.view c.args.host.now).forest) c.args.fs.now.files.descriptors c.args.caller.now.vpid c.args.fd c.in-Some.desc.now c.requires.all_in (sym c.in-Some.ensures.desc)

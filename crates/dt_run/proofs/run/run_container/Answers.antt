@@ -6,7 +6,7 @@ use Rattle.dt_run.proofs.Ending.{launched-home}
 use Rattle.dt_run.proofs.run.run_container.Goals as goal
 
 pub run_from-requires-clause-home : goal.run_from-requires-clause-home
-run_from-requires-clause-home g c = launched-home _ _ _ (g.H.Host.view c.launch.new.host) _ c.in_ok-launch.ensures.ok
+run_from-requires-clause-home g c = launched-home _ _ c.launch.new.self (g.H.Host.view c.launch.new.host) _ c.in_ok-launch.ensures.ok
 
 pub returns-clause-completed : goal.returns-clause-completed
 returns-clause-completed g c =

@@ -1,8 +1,8 @@
 use Rattle.std.specs.Prelude.{codes}
 use Rattle.dt_host.specs.declared.kind.NodeKind.TheVariants.{File}
 use Rattle.dt_host.specs.Legal.{MadeAt}
-use Rattle.std.proofs.Common.{◌≡◌, ℕ, None, sym, ap, subst, ◌∙◌}
-use Rattle.dt_host.specs.World.{World, IsDir, IsEmptyStart, entry}
+use Rattle.std.proofs.Common.{◌≡◌, ℕ, [], None, sym, ap, subst, ◌∙◌}
+use Rattle.dt_host.specs.World.{World, file, IsDir, IsEmptyStart, entry}
 use Rattle.dt_host.proofs.Changes.{IsDir-start, entry-start, IsDir-made, entry-made, IsFile-made, IsLive-made, IsDir-bound, IsFile-bound}
 use Rattle.dt_host.proofs.Worlds.{IsFile-with_write}
 use Rattle.dt_tests_host.proofs.hosts.host_keeps_what_was_written.Goals as goal
@@ -12,7 +12,7 @@ root_made : (start before made : World) (root n : ℕ) → IsEmptyStart start �
 root_made start before made root n empty stays is at =
     let still = subst (λ w. IsEmptyStart w) (sym stays) empty in
     let same = is ∙ ap (λ (w : World). w.forest.root) (sym stays) in
-    subst (λ d. IsDir made.forest d) (sym same) (IsDir-made before made n at before.forest.root (IsDir-start before still))
+    subst (λ d. IsDir made.forest d) (sym same) (IsDir-made (file []) before made n at.free at.made before.forest.root (IsDir-start before still))
 
 pub bind-requires-clause-directory : goal.bind-requires-clause-directory
 bind-requires-clause-directory g c =
@@ -23,10 +23,10 @@ bind-requires-clause-unnamed g c =
     let before = c.root.new.self.view in
     let start = subst (λ w. IsEmptyStart w) (sym c.in_ok-root.ensures.stays) c.in_ok-host.ensures.start in
     let root = c.in_ok-root.ensures.ok ∙ ap (λ (w : World). w.forest.root) (sym c.in_ok-root.ensures.stays) in
-    subst (λ n. entry c.make.new.self.view.forest n _ ≡ None) (sym root) (entry-made before _ _ c.in_ok-file.ensures.legal before.forest.root _ (IsDir-start before start) ∙ entry-start before start _)
+    subst (λ n. entry c.make.new.self.view.forest n _ ≡ None) (sym root) (entry-made (file []) before _ _ c.in_ok-file.ensures.legal.free c.in_ok-file.ensures.legal.made before.forest.root _ (IsDir-start before start) ∙ entry-start before start _)
 
 pub bind-requires-clause-live : goal.bind-requires-clause-live
-bind-requires-clause-live g c = IsLive-made _ _ _ c.in_ok-file.ensures.legal
+bind-requires-clause-live g c = IsLive-made (file []) _ _ _ c.in_ok-file.ensures.legal.free c.in_ok-file.ensures.legal.made
 
 pub find-requires : goal.find-requires
 find-requires g c = rw c.in_ok-bind.ensures.legal (IsDir-bound c.make.new.self.view.forest c.in_ok-root.root _ c.in_ok-file.file)

@@ -1,8 +1,11 @@
-use Rattle.std.proofs.Common.{rules, sym, ap, subst, ◌∙◌}
+use Rattle.std.proofs.Common.{rules, ◌≡◌, sym, ap, subst, ◌∙◌}
 use Rattle.dt_calls.proofs.Held.{sound-scene, keeps-called}
+use Rattle.dt_calls.specs.declared.shared.Process.{Process}
+use Rattle.dt_calls.specs.Effect.{answers}
 use Rattle.dt_calls.specs.FileCalls.{left, row_of, scene_of, file_call}
 use Rattle.dt_calls.specs.InCode.{shared_of}
 use Rattle.dt_calls.specs.Sound.{hand, Keeps}
+use Rattle.dt_scene.specs.Sound.{Sound, KeepsOthers, stage, scene}
 use Rattle.dt_calls.proofs.call.files.call.Goals as goal
 
 pub serve_row-requires : goal.serve_row-requires
@@ -15,12 +18,32 @@ returns g c =
     let own = c.args.own.now in
     let m = c.args.machine.now in
     let world = g.H.Host.view c.args.host.now in
+    let v = g.H.Host.view c.serve_row.new.host in
+    let fs = c.serve_row.new.fs in
+    let pages = c.serve_row.new.space in
     let row = c.in_ok-answer.ensures in
-    let kept = keeps-called shared own world c.requires c.serve_row.new.fs (record own { caller = c.serve_row.new.caller }) (g.H.Host.view c.serve_row.new.host) m.space c.serve_row.new.space row.sound row.others c.serve_row.ensures.rest in
+    let now : Process = record own { caller = record c.serve_row.new.caller { done = c.done_after-own.result } } in
+    let left_so = record shared { fs = fs } in
+    let sound : Sound (stage fs v now.caller pages) = record {
+      stands = row.sound.stands;
+      is_dir = row.sound.is_dir;
+      all_in = row.sound.all_in;
+      enough = row.sound.enough;
+      piped = row.sound.piped;
+    } in
+    let others : KeepsOthers (scene (stage shared.fs world own.caller m.space)) (scene (stage fs v now.caller pages)) = record {
+      vpid = row.others.vpid;
+      tables = row.others.tables;
+      holds = row.others.holds;
+      files = row.others.files;
+      dirs = row.others.dirs;
+    } in
+    let kept = keeps-called shared own world c.requires fs now v m.space pages sound others c.serve_row.ensures.rest in
     record {
       served = ap (λ args. left (shared_of shared world) own m c.args.number (row_of c.args.number args (scene_of (shared_of shared world) own m))) (sym c.arguments-args.ensures)
           ∙ ap (left (shared_of shared world) own m c.args.number) row.served
-          ∙ c.in_ok-answered.ensures.served (shared_of (record shared { fs = c.serve_row.new.fs }) (g.H.Host.view c.serve_row.new.host)) (record own { caller = c.serve_row.new.caller });
-      kept = subst (Keeps (hand shared own world) (hand (record shared { fs = c.serve_row.new.fs }) (record own { caller = c.serve_row.new.caller }) (g.H.Host.view c.serve_row.new.host))) (sym c.in_ok-answered.ensures.child) kept;
+          ∙ ap (λ count. answers (shared_of left_so v) (record own { caller = record c.serve_row.new.caller { done = count } }) (record m { space = pages }) c.args.number c.in_ok-answer.answer) (sym c.done_after-own.ensures)
+          ∙ c.in_ok-answered.ensures.served (shared_of left_so v) now;
+      kept = subst (Keeps (hand shared own world) (hand left_so now v)) (sym c.in_ok-answered.ensures.child) kept;
       cause = search rules;
     }

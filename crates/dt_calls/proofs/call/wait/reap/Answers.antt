@@ -1,6 +1,6 @@
 use Rattle.std.proofs.Common.{rules, ◌≡◌, ◌&&◌, true, sym, ap, subst, refl, ◌∙◌, None, List}
 use Rattle.dt_base.specs.declared.abi.TheConstants.{A1, A3}
-use Rattle.dt_host.specs.World.{Forest}
+use Rattle.dt_fds.specs.OpenFiles.{pipes_at}
 use Rattle.dt_procs.specs.declared.member.Member.{Member}
 use Rattle.dt_procs.specs.declared.member.Reaped.{Reaped}
 use Rattle.dt_procs.specs.declared.member.Reaped.TheVariants.{Got}
@@ -37,9 +37,10 @@ returns g c =
     let found : c.in_ok-wait_for.field-0 ≡ Got c.args.vpid c.args.end = c.in_ok-wait_for.ensures.found ∙ c.requires.found in
     let members : members_of c.wait_for.new.self ≡ without (members_of shared.pids) c.args.vpid = c.in_ok-wait_for.ensures.members ∙ ap (λ (r : Reaped). reaped (members_of shared.pids) r) found in
     let left : Shared = record shared { pids = c.wait_for.new.self } in
-    let tree = ap (λ (f : Forest). record (shared_of left world) { tree = tree_of shared.fs.tree f }) (sym c.wait_for.ensures.rest) in
+    let only = c.wait_for.ensures.rest in
+    let tree : shared_of left world ≡ shared_of left after = λ i. record (shared_of left world) { tree = tree_of shared.fs.tree (sym only.forest i); pipes = pipes_at shared.fs.files (sym only.pipes i) } in
     let all = ap (λ (ms : List Member). record (shared_of shared world) { members = ms }) (sym members) in
-    let kept = keeps-reaped shared own world c.requires.sound c.wait_for.new.self after own.caller.vpid c.args.which c.args.vpid c.args.end c.next-next.ensures.sound.rising c.requires.found c.wait_for.ensures.rest c.in_ok-wait_for.ensures.stands members c.in_ok-wait_for.ensures.next in
+    let kept = keeps-reaped shared own world c.requires.sound c.wait_for.new.self after own.caller.vpid c.args.which c.args.vpid c.args.end c.next-next.ensures.sound.rising c.requires.found only c.in_ok-wait_for.ensures.stands members c.in_ok-wait_for.ensures.next in
     let first : c.give.new.space ≡ with_bytes m.space (register m A1) (status_bytes c.args.end) = search rules in
     let both_written = with_bytes (with_bytes m.space (register m A1) (status_bytes c.args.end)) (register m A3) usage_bytes in
     let second : c.give-2.new.space ≡ both_written = search rules in

@@ -16,7 +16,7 @@ hold-requires-clause-live g c =
     let world = g.H.Host.view c.args.host.now in
     let tree = c.args.self.now.fs.tree in
     let cwd = c.args.own.now.caller.cwd in
-    subst (λ f. IsLive (shape_of tree f) cwd) (sym c.child.ensures.rest) (IsLive-IsDir (shape_of tree world.forest) cwd (own-dir c.args.self.now c.args.own.now world c.requires.sound))
+    subst (λ f. IsLive (shape_of tree f) cwd) (sym c.child.ensures.rest.forest) (IsLive-IsDir (shape_of tree world.forest) cwd (own-dir c.args.self.now c.args.own.now world c.requires.sound))
 
 pub returns-in-Ok-clause-sound : goal.returns-in-Ok-clause-sound
 returns-in-Ok-clause-sound g c =
@@ -30,7 +30,8 @@ returns-in-Ok-clause-sound g c =
     let key : c.from.result ≡ next = c.from.ensures ∙ vpid in
     sound-child shared own world c.requires.sound new c.copy_as.result after own.caller.vpid
     c.child.ensures.rest c.in_ok-hold.ensures.stands c.in_ok-hold.ensures.tree
-    (subst (λ q. KeepsNodes q shared.fs.files c.share_all.new.self) vpid c.share_all.ensures.nodes)
+    (subst (λ q. KeepsNodes q shared.fs.files.descriptors c.share_all.new.self.descriptors) vpid c.share_all.ensures.nodes)
+    c.share_all.ensures.pipes c.share_all.ensures.ends
     c.in_ok-vpid.ensures.stands
     (subst (λ q. members_of c.child.new.self ≡ with_child (members_of shared.pids) q own.caller.vpid) vpid c.in_ok-vpid.ensures.members)
     c.in_ok-vpid.ensures.next

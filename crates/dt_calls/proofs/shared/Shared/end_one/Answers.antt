@@ -21,4 +21,5 @@ returns-clause-sound g c =
     refl (c.take.ensures.map ∙ ap (remove c.args.self.now.processes) c.from.ensures) c.ended.ensures.members c.ended.ensures.next
     c.in_ok-release.ensures.stands c.in_ok-release.ensures.tree
     (c.ended.ensures.stands (g.H.Host.view c.release.new.host).pids
-    (subst (λ pids. procs.Stands old.pids pids) (sym (c.release.ensures.rest ∙ c.drop_all.ensures.rest)) c.requires.sound.pids))
+    (subst (λ pids. procs.Stands old.pids pids) (sym (c.release.ensures.rest.pids ∙ c.drop_all.ensures.rest)) c.requires.sound.pids))
+    c.release.ensures.rest.pipes

@@ -1,14 +1,15 @@
-use Rattle.std.proofs.Common.{◌≡◌, sym, subst}
-use Rattle.dt_fds.specs.Backs.{AllIn, descriptions_of}
-use Rattle.dt_fds.proofs.Starting.{first_files-opened, nodes-first_files, in-first_files}
+use Rattle.std.proofs.Common.{◌≡◌, ℕ, sym, ap, subst, ◌∙◌, Option, None}
+use Rattle.std.specs.Ordering.{nat_cmp}
+use Rattle.std.specs.FinMap.{FinMap, get, empty, get-empty}
+use Rattle.dt_fds.specs.declared.ends.Ends.{Ends}
+use Rattle.dt_fds.specs.Ends.{is_read, is_written, one_if}
 use Rattle.dt_fds.proofs.files.Files.first.Goals as goal
 
-pub returns-clause-files : goal.returns-clause-files
-returns-clause-files c =
-    first_files-opened c.args.pid _ _ _ _ _ _ _ c.in_ok-files.ensures c.first_desc.ensures c.in_ok-enter_lowest.ensures c.first_desc-2.ensures c.in_ok-enter_lowest-2.ensures c.first_desc-3.ensures c.in_ok-enter_lowest-3.ensures
+none-there : (ends : FinMap nat_cmp Ends) → ends ≡ empty → (q : ℕ) → ◌≡◌ {A = Option Ends} None (get ends q)
+none-there ends is q = sym (ap (λ e. get e q) is ∙ get-empty nat_cmp q)
 
-pub returns-clause-nodes : goal.returns-clause-nodes
-returns-clause-nodes c = λ n. subst (λ f. descriptions_of f n ≡ 0) (sym (returns-clause-files c)) (nodes-first_files c.args.pid n)
-
-pub returns-clause-all_in : goal.returns-clause-all_in
-returns-clause-all_in c = λ v. subst (AllIn v) (sym (returns-clause-files c)) (in-first_files v c.args.pid)
+pub returns-clause-counted : goal.returns-clause-counted
+returns-clause-counted c = record {
+  reading = λ q. c.in_ok-descriptors.ensures.reading q ∙ ap (λ found. one_if (is_read found)) (none-there c.new-2.result c.new-2.ensures q);
+  writing = λ q. c.in_ok-descriptors.ensures.writing q ∙ ap (λ found. one_if (is_written found)) (none-there c.new-2.result c.new-2.ensures q);
+}

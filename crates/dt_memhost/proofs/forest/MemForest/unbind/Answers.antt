@@ -1,10 +1,8 @@
 use Rattle.std.proofs.Common.{sym, subst}
-use Rattle.std.specs.Prelude.{IsSome}
-use Rattle.dt_host.specs.World.{IsDir, IsSized}
-use Rattle.dt_host.proofs.Sized.{IsSized-without_entry}
-use Rattle.dt_memhost.specs.Order.{without}
-use Rattle.dt_memhost.specs.inner.Forest.{Ordered}
-use Rattle.dt_memhost.proofs.Forests.{forest_of, dir_at-forest_of, take_entry, order_changed, has_order}
+use Rattle.dt_host.specs.World.{IsDir}
+use Rattle.dt_memhost.specs.inner.Forest.{Ordered, HasSizes}
+use Rattle.dt_memhost.proofs.Forests.{ordered_of, entry_taken}
+use Rattle.dt_memhost.proofs.Sizes.{HasSizes-unbound}
 use Rattle.dt_memhost.proofs.forest.MemForest.unbind.Goals as goal
 
 pub invariant_of-self : goal.invariant_of-self
@@ -12,16 +10,13 @@ invariant_of-self c =
     let old = c.self.inside.nodes in
     let root = c.self.inside.root in
     let d = c.args.dir in
-    let is = subst (λ (v : Ordered). IsDir v.forest d) (sym c.self.view_is) c.requires in
-    subst IsSized (sym (take_entry old c.unbind.new.nodes root d c.unbind.ensures.others c.args.name.now is c.unbind.ensures.names)) (IsSized-without_entry (forest_of old root) d c.args.name.now c.self.invariant is)
+    let unbind = c.unbind.ensures in
+    let is = subst (λ (o : Ordered). IsDir o.forest d) (sym c.self.view_is) c.requires in
+    subst HasSizes (sym (entry_taken old c.unbind.new.nodes root d unbind.others c.args.name.now is unbind.names unbind.order unbind.held)) (HasSizes-unbound (ordered_of old root) d c.self.invariant c.args.name.now is)
 
 pub returns : goal.returns
 returns c =
-    let old = c.self.inside.nodes in
-    let root = c.self.inside.root in
     let d = c.args.dir in
-    let is = subst (λ (v : Ordered). IsDir v.forest d) (sym c.self.view_is) c.requires in
-    let there = subst (λ found. IsSome found) (dir_at-forest_of old root d) is in
-    let forest = take_entry old c.unbind.new.nodes root d c.unbind.ensures.others c.args.name.now is c.unbind.ensures.names in
-    let orders = order_changed (λ order. without order c.args.name.now) old c.unbind.new.nodes d c.unbind.ensures.other_orders (has_order old d there) c.unbind.ensures.order in
-    rw (← c.self.view_is) (λ i. record { forest = forest i; orders = orders i })
+    let unbind = c.unbind.ensures in
+    let is = subst (λ (o : Ordered). IsDir o.forest d) (sym c.self.view_is) c.requires in
+    rw (← c.self.view_is) (entry_taken c.self.inside.nodes c.unbind.new.nodes c.self.inside.root d unbind.others c.args.name.now is unbind.names unbind.order unbind.held)

@@ -9,5 +9,5 @@ use Rattle.dt_tests_fds.proofs.scene.Scene.size.Goals as goal
 pub meta-requires-clause-live : goal.meta-requires-clause-live
 meta-requires-clause-live c =
     let v = shape_of c.args.self.now.tree c.args.self.now.host.view.forest in
-    let there = subst (λ found. IfSome found (λ desc. IfSome (inode_of desc.kind) (IsLive v))) (sym c.in-Some.ensures.desc) (live-described v c.args.self.now.files 1 c.args.fd c.requires.backs.is_in) in
+    let there = subst (λ found. IfSome found (λ desc. IfSome (inode_of desc.kind) (IsLive v))) (sym c.in-Some.ensures.desc) (live-described v c.args.self.now.files.descriptors 1 c.args.fd c.requires.backs.is_in) in
     subst (λ found. IfSome found (IsLive v)) (sym c.in-Some-inode.ensures) there

@@ -4,6 +4,7 @@ use Rattle.std.proofs.lemmas.Option.{slice_get_read}
 use Rattle.std.specs.FinMap.{len}
 use Rattle.dt_base.specs.Image.{IsImage}
 use Rattle.dt_base.specs.Path.{parent_of}
+use Rattle.dt_host.proofs.Pipes.{forest-then}
 use Rattle.dt_tree.specs.FileTree.{FileTree}
 use Rattle.dt_tree.specs.ImageTree.{image_tree, last_name}
 use Rattle.dt_tree.specs.Table.{tree_of}
@@ -18,7 +19,7 @@ use Rattle.dt_tree.proofs.tree.Tree.install.Goals as goal
 pub loop-entry-init : goal.loop-entry-init
 loop-entry-init g c = record {
   later = omega arith;
-  rest = refl;
+  rest = record { pipes = refl; pids = refl };
   stands = c.requires.stands;
   tree = c.requires.new;
   nodes = ap (λ (t : FileTree). len t.shape.nodes) (c.requires.new ∙ image_tree-nil) ∙ one_node;
@@ -53,7 +54,7 @@ loop-entry-preserved g c =
     let nodes = ap (λ (t : FileTree). len t.shape.nodes) after ∙ len-created t n (last_name e.path) e.what e.mode 0 s can in
     record {
       later = omega (arith, c.create.ensures.cause.later, c.loop-entry.invariant.later);
-      rest = c.create.ensures.rest ∙ c.loop-entry.invariant.rest;
+      rest = forest-then c.create.ensures.rest c.loop-entry.invariant.rest;
       stands = c.in_ok-create.ensures.stands;
       tree = after ∙ ap (λ t. created t n (last_name e.path) (new_node e.what) e.mode 0) c.loop-entry.invariant.tree ∙ sym (more entries is c.loop-entry.entry-index e at n leads);
       nodes = omega (arith, nodes, c.loop-entry.invariant.nodes);

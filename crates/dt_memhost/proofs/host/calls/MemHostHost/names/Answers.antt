@@ -1,5 +1,4 @@
-use Rattle.std.proofs.Common.{◌≡◌, ◌||◌, ℕ, List, Bool, true, false, map, length, sym, ap, subst, ◌∙◌}
-use Rattle.std.specs.Prelude.{MatchBool}
+use Rattle.std.proofs.Common.{◌≡◌, ℕ, List, map, length, sym, ap, subst, ◌∙◌}
 use Rattle.std.specs.List.Sorted.{IsPermutation}
 use Rattle.std.specs.FinMap.{entries}
 use Rattle.std.proofs.lemmas.List.{length-map}
@@ -11,6 +10,7 @@ use Rattle.dt_memhost.specs.Script.{Script, fails_next, counted, picked_all, wor
 use Rattle.dt_memhost.specs.Order.{order_at, picked_order}
 use Rattle.dt_memhost.specs.Host.{HostState, ListsBy}
 use Rattle.dt_memhost.proofs.Arranged.{map-picked_order, IsPermutation-picked_order}
+use Rattle.dt_memhost.proofs.Worlds.{host_of, unlisted}
 use Rattle.dt_memhost.proofs.host.calls.MemHostHost.names.Goals as goal
 
 -- the entries in the order of the words, where they were found in that of their binding
@@ -28,16 +28,11 @@ lists old d found arranged before after bound calls turned left =
       kept = ap (λ s. record old { script = s }) (left ∙ ap (picked_all (length found)) calls ∙ ap (λ n. picked_all n (counted old.script)) many);
     }
 
--- a call that isn't listed answers as said
-unlisted : (F L : Type 0) (listed : Bool) → (false || listed) ≡ false → L → MatchBool listed F L
-unlisted F L true h said = cc
-unlisted F L false h said = said
-
 pub returns-clause-exact : goal.returns-clause-exact
 returns-clause-exact c =
     let inside = c.self.inside in
-    let old : HostState = record { view = record { forest = inside.forest.forest; pids = inside.pids }; orders = inside.forest.orders; script = inside.script } in
-    let new : HostState = record { view = record { forest = inside.forest.forest; pids = inside.pids }; orders = inside.forest.orders; script = c.arrange.new.script } in
+    let old = host_of inside.forest inside.pids inside.script in
+    let new = host_of inside.forest inside.pids c.arrange.new.script in
     let arranged = c.in_ok-arrange.ensures in
     let said : ListsBy old c.args.dir new c.in_ok-arrange.field-0.items =
     lists old c.args.dir c.in_ok-found.found.items c.in_ok-arrange.field-0.items c.begin.new.self c.arrange.new.script c.in_ok-found.ensures.order c.in_ok-begin.ensures.ok arranged.order arranged.after in

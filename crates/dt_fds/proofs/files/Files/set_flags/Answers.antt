@@ -1,4 +1,0 @@
-use Rattle.dt_fds.proofs.files.Files.set_flags.Goals as goal
-
-pub returns-in-Some-clause-nodes : goal.returns-in-Some-clause-nodes
-returns-in-Some-clause-nodes c = c.flag.ensures.nodes c.args.pid

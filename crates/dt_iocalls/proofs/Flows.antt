@@ -1,0 +1,235 @@
+-- Reads and writes of pipes, as the calls serve them.
+use Rattle.std.proofs.Common.{arith, ◌≡◌, ℕ, zero, suc, ◌≤◌, ◌==◌, ◌++◌, false, List, [], ◌∷◌, length, take, drop, Option, None, Some, Result, Ok, Err, refl, sym, ap, ◌∙◌}
+use Rattle.std.specs.Prelude.{Bool, IfOk, IfSome, IsSome, min, option_map, unwrap_or, if◌then◌else◌}
+use Rattle.std.proofs.lemmas.List.{take_min, length-take, drop_all, append-nil}
+use Rattle.dt_base.specs.declared.answer.Answer.{Answer}
+use Rattle.dt_base.specs.declared.caller.Caller.{Caller}
+use Rattle.std.specs.FinMap.{get}
+use Rattle.dt_base.specs.declared.errno.Errno.{Errno}
+use Rattle.dt_base.specs.declared.errno.Errno.TheVariants.{Fault as BadAddress}
+use Rattle.dt_fds.specs.declared.desc.Desc.{Desc}
+use Rattle.dt_fds.specs.declared.desc.DescKind.{DescKind}
+use Rattle.dt_fds.specs.declared.desc.DescKind.TheVariants.{File, Dir, PipeRead, PipeWrite, Input, Stream}
+use Rattle.dt_fds.specs.declared.files.Files.{Files}
+use Rattle.dt_fds.specs.declared.flow.Flow.{Flow}
+use Rattle.dt_fds.specs.declared.flow.Flow.TheVariants.{Moved}
+use Rattle.dt_fds.specs.Backs as holds
+use Rattle.dt_fds.specs.Backs.{Does, HasEnds, IsBacked, IsPiped, KeepsOthers as KeepsHolds, Makes, OnlyFiles, at}
+use Rattle.dt_fds.specs.Descriptions.{description_at, pipe_of, read_pipe, table_of, two_free, write_pipe, writers}
+use Rattle.dt_fds.specs.Holding.{Holding, Outcome, done, read_of, read_from, read_by, held_by, pipe_read_call, bytes_read, with_ends, with_pipe, pipe_call}
+use Rattle.dt_fds.proofs.Piped.{no_zero}
+use Rattle.dt_fds.specs.Pipes.{Pipes, content, held_at, holds as now_holds, none_held}
+use Rattle.dt_host.specs.World as host
+use Rattle.dt_host.specs.World.{World}
+use Rattle.dt_host.specs.declared.error.CallErr.{CallErr}
+use Rattle.dt_host.specs.declared.error.CallErr.TheVariants.{Errno as is_refused, Host as has_failed}
+use Rattle.dt_pipes.specs.Table.{pipes_of}
+use Rattle.dt_pipes.proofs.Held.{has-pipes_of}
+use Rattle.dt_space.specs.declared.access.Miss.{Miss}
+use Rattle.dt_space.specs.Space.{PageView}
+use Rattle.dt_tree.specs.Table.{Table}
+use Rattle.dt_scene.specs.declared.fs.Fs.{Fs}
+use Rattle.dt_scene.specs.Scene as scenes
+use Rattle.dt_scene.specs.Scene.{Scene, Row, answers, refused, with_holding}
+use Rattle.dt_scene.specs.Sound.{Stage, Sound, Reaches, stage, scene}
+use Rattle.dt_scene.proofs.Kept.{sound_held, others_held}
+use Rattle.dt_iocalls.specs.declared.ranges.Range.{Range}
+use Rattle.dt_iocalls.specs.Piping.{flow_answer, by_flow}
+use Rattle.dt_iocalls.specs.Ranges.{total_len, scattered}
+use Rattle.dt_iocalls.specs.Reading.{pipe_filled, reads_pipe}
+use Rattle.dt_iocalls.specs.inner.Answered.{answered}
+
+-- a call changed open files, pipes and pages, and left what others hold
+pub reaches_backed : (defined : Row) (old : Fs) (tree : Table) (files : Files) (w v : World) (caller : Caller) (space pages : List PageView) (answer : Answer) (before now : ℕ)
+    → Sound (stage old w caller space) → IsBacked (at files tree v) → KeepsHolds caller.vpid (holds.holding (at old.files old.tree w)) (holds.holding (at files tree v)) → OnlyFiles w v → before ≤ now
+    → defined ≡ record { next = with_holding (holds.holding (at files tree v)) (record (scene (stage old w caller space)) { space = pages }); answer = answer }
+    → Reaches defined (stage old w caller space) (stage (record { tree = tree; files = files; clock = old.clock; rand = old.rand }) v caller pages) (Ok answer) before now
+reaches_backed defined old tree files w v caller space pages answer before now sound backed kept rest later is =
+    let new : Fs = record { tree = tree; files = files; clock = old.clock; rand = old.rand } in
+    record {
+      served = is;
+      sound = sound_held old new w v caller space pages sound backed kept;
+      others = others_held (scene (stage old w caller space)) (scene (stage new v caller pages)) refl kept;
+      rest = rest;
+      cause = record { later = later; rose = λ failed. cc };
+    }
+
+-- nothing changed
+pub reaches_still : (defined : Row) (g : Stage) (answer : Answer) (before now : ℕ) → Sound g → before ≤ now → defined ≡ record { next = scene g; answer = answer } → Reaches defined g g (Ok answer) before now
+reaches_still defined g answer before now sound later is = record {
+  served = is;
+  sound = sound;
+  others = record { vpid = refl; tables = λ q apart. refl; holds = λ n. refl; files = λ n held is. is; dirs = λ n held is. is };
+  rest = refl;
+  cause = record { later = later; rose = λ failed. cc };
+}
+
+-- the pipe of each end that is open is in the table
+pub has_ends : (f : Files) (host : host.Pipes) → IsPiped f host → HasEnds f
+has_ends f host piped k = by-found (get f.descriptors.descs k) (piped.there k)
+  where
+    by-pipe : (pipe : Option ℕ) → IfSome pipe (λ q. IsSome (get (pipes_of f.pipes host) q)) → IfSome pipe (λ q. IsSome (get f.pipes.pipes q))
+    by-pipe None there = tt
+    by-pipe (Some q) there = sym (has-pipes_of f.pipes host q) ∙ there
+
+    by-found : (found : Option Desc) → IfSome found (λ desc. IfSome (pipe_of desc.kind) (λ q. IsSome (get (pipes_of f.pipes host) q))) → IfSome found (λ desc. IfSome (pipe_of desc.kind) (λ q. IsSome (get f.pipes.pipes q)))
+    by-found None there = tt
+    by-found (Some desc) there = by-pipe (pipe_of desc.kind) there
+
+-- how much the pipe holds of which a description is an end that is read from
+held-kind : (pipes : Pipes) (kind : DescKind) → write_pipe kind ≡ None → length (unwrap_or (option_map (content pipes) (pipe_of kind)) []) ≡ length (unwrap_or (option_map (content pipes) (read_pipe kind)) [])
+held-kind pipes (File n) reads = refl
+held-kind pipes (Dir n) reads = refl
+held-kind pipes (PipeRead q) reads = refl
+held-kind pipes (PipeWrite q) reads = absurd cc
+held-kind pipes Input reads = refl
+held-kind pipes (Stream stream) reads = refl
+
+held-same : (h : Holding) (found : Option Desc) (held : ℕ) → IfSome found (λ desc. write_pipe desc.kind ≡ None) → held ≡ length (held_at h.pipes found) → held ≡ length (held_by h found)
+held-same h None held reads count = count
+held-same h (Some desc) held reads count = count ∙ held-kind h.pipes desc.kind reads
+
+-- a read of no more than a pipe holds is one of all that
+fewer : (most held : ℕ) (bytes : List ℕ) → held ≡ length bytes → min (min held most) (length bytes) ≡ min most (length bytes)
+fewer most held bytes count = omega (arith, count)
+
+read-fewer : (h : Holding) (nonblock : Bool) (most held : ℕ) (pipe : Option ℕ) → held ≡ length (unwrap_or (option_map (content h.pipes) pipe) []) → read_from h nonblock (min held most) pipe ≡ read_from h nonblock most pipe
+read-fewer h nonblock most held None count = refl
+read-fewer h nonblock most held (Some q) count =
+    let bytes = content h.pipes q in
+    ap (λ n. if length bytes == 0 then record { answer = none_held (writers h.files q) nonblock; next = h } else done (record h { pipes = now_holds h.pipes q (drop n bytes) }) (Moved n)) (fewer most held bytes count)
+
+by-fewer : (h : Holding) (most held : ℕ) (found : Option Desc) → held ≡ length (held_by h found) → read_by h (min held most) found ≡ read_by h most found
+by-fewer h most held None count = refl
+by-fewer h most held (Some desc) count = read-fewer h desc.nonblock most held (read_pipe desc.kind) count
+
+module _ (h : Holding) (p fd most held : ℕ) (reads : IfSome (description_at h.files p fd) (λ desc. write_pipe desc.kind ≡ None)) (count : held ≡ length (held_at h.pipes (description_at h.files p fd))) where
+  pub call-fewer : pipe_read_call p fd (min held most) h ≡ pipe_read_call p fd most h
+  unfolding pipe_read_call
+  call-fewer = by-fewer h most held (description_at h.files p fd) (held-same h (description_at h.files p fd) held reads count)
+
+  pub bytes-fewer : bytes_read p fd (min held most) h ≡ bytes_read p fd most h
+  unfolding bytes_read
+  bytes-fewer =
+      let bytes = held_by h (description_at h.files p fd) in
+      ap (λ n. take n bytes) (least (held-same h (description_at h.files p fd) held reads count)) ∙ take_min most bytes
+    where
+      least : held ≡ length (held_by h (description_at h.files p fd)) → min held most ≡ min most (length (held_by h (description_at h.files p fd)))
+      least is = omega (arith, is)
+
+  pub length-fewer : length (bytes_read p fd most h) ≡ min held most
+  unfolding bytes_read
+  length-fewer =
+      let bytes = held_by h (description_at h.files p fd) in
+      length-take most bytes ∙ least (held-same h (description_at h.files p fd) held reads count)
+    where
+      least : held ≡ length (held_by h (description_at h.files p fd)) → min most (length (held_by h (description_at h.files p fd))) ≡ min held most
+      least is = omega (arith, is)
+
+-- a buffer that is filled has what came
+pub whole-buffer : (came before after : List ℕ) → length before ≡ length came → after ≡ came ++ drop (length came) before → after ≡ came
+whole-buffer came before after same is = is ∙ ap (λ rest. came ++ rest) (drop_all (length came) before (omega (arith, same))) ∙ append-nil came
+
+-- where a read is refused nothing comes
+none-taken : (n : ℕ) → ◌≡◌ {A = List ℕ} (take n []) []
+none-taken zero = refl
+none-taken (suc n) = refl
+
+refused-of : (h : Holding) (q : ℕ) (nonblock : Bool) (most n : ℕ) (bytes : List ℕ) (errno : Errno) (next : Holding) → read_of h q nonblock most bytes ≡ record { answer = Err errno; next = next } → take n bytes ≡ []
+refused-of h q nonblock most n [] errno next is = none-taken n
+refused-of h q nonblock most n (b ∷ bytes) errno next is =
+    let count = length (b ∷ bytes) in
+    let some : (count == 0) ≡ false = no_zero count (λ none. omega (arith, none)) in
+    let answer = sym (ap (λ none. (if none then record { answer = none_held (writers h.files q) nonblock; next = h } else done (record h { pipes = now_holds h.pipes q (drop (min most count) (b ∷ bytes)) }) (Moved (min most count))).answer) some) ∙ ap (λ (o : Outcome Flow). o.answer) is in
+    absurd cc
+
+refused-from : (h : Holding) (nonblock : Bool) (most n : ℕ) (pipe : Option ℕ) (errno : Errno) (next : Holding) → read_from h nonblock most pipe ≡ record { answer = Err errno; next = next } → take n (unwrap_or (option_map (content h.pipes) pipe) []) ≡ []
+refused-from h nonblock most n None errno next is = none-taken n
+refused-from h nonblock most n (Some q) errno next is = refused-of h q nonblock most n (content h.pipes q) errno next is
+
+refused-by : (h : Holding) (most n : ℕ) (found : Option Desc) (errno : Errno) (next : Holding) → read_by h most found ≡ record { answer = Err errno; next = next } → take n (held_by h found) ≡ []
+refused-by h most n None errno next is = none-taken n
+refused-by h most n (Some desc) errno next is = refused-from h desc.nonblock most n (read_pipe desc.kind) errno next is
+
+pub refused-none : (p fd most n : ℕ) (h : Holding) (errno : Errno) (next : Holding) → pipe_read_call p fd most h ≡ record { answer = Err errno; next = next } → bytes_read p fd n h ≡ []
+unfolding pipe_read_call bytes_read
+refused-none p fd most n h errno next is = refused-by h most n (description_at h.files p fd) errno next is
+
+-- a pipe is read that brings these bytes
+pub read-done : (fd : ℕ) (ranges : List Range) (s : Scene) (o : Outcome Flow) (bytes : List ℕ) (pages : List PageView) → (total_len ranges == 0) ≡ false → pipe_read_call s.caller.vpid fd (total_len ranges) (scenes.holding s) ≡ o → bytes_read s.caller.vpid fd (total_len ranges) (scenes.holding s) ≡ bytes → scattered s.space ranges bytes ≡ Ok pages → reads_pipe fd ranges s ≡ by_flow (record s { space = pages }) o
+unfolding reads_pipe
+read-done fd ranges s o bytes pages some call came put =
+    let h = scenes.holding s in
+    let p = s.caller.vpid in
+    let most = total_len ranges in
+    ap (λ none. if none then answers s 0 else pipe_filled s (pipe_read_call p fd most h) (scattered s.space ranges (bytes_read p fd most h))) some
+    ∙ (λ i. pipe_filled s (call i) (scattered s.space ranges (came i)))
+    ∙ ap (pipe_filled s o) put
+
+pub read-missed : (fd : ℕ) (ranges : List Range) (s : Scene) (miss : Miss) → (total_len ranges == 0) ≡ false → scattered s.space ranges (bytes_read s.caller.vpid fd (total_len ranges) (scenes.holding s)) ≡ Err miss → reads_pipe fd ranges s ≡ refused s BadAddress
+unfolding reads_pipe
+read-missed fd ranges s miss some put =
+    let h = scenes.holding s in
+    let p = s.caller.vpid in
+    let most = total_len ranges in
+    ap (λ none. if none then answers s 0 else pipe_filled s (pipe_read_call p fd most h) (scattered s.space ranges (bytes_read p fd most h))) some
+    ∙ ap (pipe_filled s (pipe_read_call p fd most h)) put
+
+-- two descriptors are free, so that a pipe is made
+no-refusal-by : (h : Holding) (p flags : ℕ) (ends : ℕ × ℕ) (found : Option (ℕ × ℕ)) (errno : Errno) (next : Holding) → found ≡ Some ends → with_ends h p flags found ≡ record { answer = Err errno; next = next } → ⊥
+no-refusal-by h p flags ends None errno next free is = cc
+no-refusal-by h p flags ends (Some others) errno next free is = let answer = ap (λ o. o.answer) is in cc
+
+pub no-refusal : (p flags : ℕ) (h : Holding) (ends : ℕ × ℕ) (new : Holding) (r : Result (ℕ × ℕ) CallErr) (errno : Errno) → two_free (table_of h.files p) ≡ Some ends → Does r new (pipe_call p flags h) → r ≡ Err (is_refused errno) → ⊥
+unfolding pipe_call
+no-refusal p flags h ends new (Ok value) errno free does is = cc
+no-refusal p flags h ends new (Err (is_refused other)) errno free does is = no-refusal-by h p flags ends (two_free (table_of h.files p)) other new free does
+no-refusal p flags h ends new (Err (has_failed error)) errno free does is = cc
+
+made-by : (h : Holding) (p flags : ℕ) (ends value : ℕ × ℕ) (found : Option (ℕ × ℕ)) (next : Holding) → found ≡ Some ends → with_ends h p flags found ≡ record { answer = Ok value; next = next } → with_pipe h p flags ends.0 ends.1 ≡ next
+made-by h p flags ends value None next free is = absurd cc
+made-by h p flags ends value (Some others) next free is =
+    let same : others ≡ ends = cc in
+    ap (λ (e : ℕ × ℕ). with_pipe h p flags e.0 e.1) (sym same) ∙ ap (λ o. o.next) is
+
+pub made-pipe : (p flags : ℕ) (h : Holding) (ends : ℕ × ℕ) (new : Holding) (r : Result (ℕ × ℕ) CallErr) (value : ℕ × ℕ) → two_free (table_of h.files p) ≡ Some ends → Does r new (pipe_call p flags h) → r ≡ Ok value → with_pipe h p flags ends.0 ends.1 ≡ new
+unfolding pipe_call
+made-pipe p flags h ends new (Ok other) value free does is = made-by h p flags ends other (two_free (table_of h.files p)) new free does
+made-pipe p flags h ends new (Err error) value free does is = absurd cc
+
+-- a read or a write of a pipe was made, and the process has these pages then
+pub reaches_made : (old : Fs) (files : Files) (w v : World) (caller : Caller) (space pages : List PageView) (call : Holding → Outcome Flow) (r : Result Flow CallErr) (answer : Answer) (before now : ℕ)
+    → Sound (stage old w caller space) → Makes caller.vpid call (at old.files old.tree w) (at files old.tree v) r before now → answered r ≡ Ok answer
+    → Reaches (by_flow (record (scene (stage old w caller space)) { space = pages }) (call (holds.holding (at old.files old.tree w)))) (stage old w caller space) (stage (record { tree = old.tree; files = files; clock = old.clock; rand = old.rand }) v caller pages) (Ok answer) before now
+reaches_made old files w v caller space pages call (Ok flow) answer before now sound makes is =
+    let s = record (scene (stage old w caller space)) { space = pages } in
+    let h = holds.holding (at old.files old.tree w) in
+    let new = holds.holding (at files old.tree v) in
+    let same : flow_answer (Ok flow) ≡ answer = cc in
+    reaches_backed (by_flow s (call h)) old old.tree files w v caller space pages answer before now sound makes.backed makes.others makes.rest makes.cause.later
+    (ap (by_flow s) makes.made ∙ ap (λ a. record { next = with_holding new s; answer = a }) same)
+reaches_made old files w v caller space pages call (Err (is_refused errno)) answer before now sound makes is =
+    let s = record (scene (stage old w caller space)) { space = pages } in
+    let h = holds.holding (at old.files old.tree w) in
+    let new = holds.holding (at files old.tree v) in
+    let same : flow_answer (Err errno) ≡ answer = cc in
+    reaches_backed (by_flow s (call h)) old old.tree files w v caller space pages answer before now sound makes.backed makes.others makes.rest makes.cause.later
+    (ap (by_flow s) makes.made ∙ ap (λ a. record { next = with_holding new s; answer = a }) same)
+reaches_made old files w v caller space pages call (Err (has_failed error)) answer before now sound makes is = absurd cc
+
+pub ruleset made = (reaches_made)
+
+-- a buffer that takes as much as comes from a pipe has just that then
+pub came-whole : (p fd most held : ℕ) (h new : Holding) (before after : List ℕ) (r : Result Flow CallErr) (answer : Answer) → IfSome (description_at h.files p fd) (λ desc. write_pipe desc.kind ≡ None) → held ≡ length (held_at h.pipes (description_at h.files p fd)) → length before ≡ min held most → answered r ≡ Ok answer → Does r new (pipe_read_call p fd (length before) h) → IfOk r (λ _. after ≡ bytes_read p fd (length before) h ++ drop (length (bytes_read p fd (length before) h)) before) → ((errno : Errno) → r ≡ Err (is_refused errno) → after ≡ before) → after ≡ bytes_read p fd most h
+came-whole p fd most held h new before after (Ok flow) answer reads count size is does came kept =
+    let same : bytes_read p fd (length before) h ≡ bytes_read p fd most h = ap (λ n. bytes_read p fd n h) size ∙ bytes-fewer h p fd most held reads count in
+    whole-buffer (bytes_read p fd most h) before after (size ∙ sym (length-fewer h p fd most held reads count))
+    (came ∙ ap (λ (bytes : List ℕ). bytes ++ drop (length bytes) before) same)
+came-whole p fd most held h new before after (Err (is_refused errno)) answer reads count size is does came kept =
+    let none : bytes_read p fd most h ≡ [] = refused-none p fd (length before) most h errno new does in
+    kept errno refl ∙ empty-list before (size ∙ sym (length-fewer h p fd most held reads count) ∙ ap length none) ∙ sym none
+  where
+    empty-list : (xs : List ℕ) → length xs ≡ 0 → xs ≡ []
+    empty-list [] e = refl
+    empty-list (x ∷ xs) e = absurd (omega (arith, e))
+came-whole p fd most held h new before after (Err (has_failed error)) answer reads count size is does came kept = absurd cc

@@ -1,0 +1,3 @@
+-- Words that only proofs and private contracts cite.
+pub mod Codes
+pub mod Held
