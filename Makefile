@@ -1,6 +1,6 @@
-# The machine's speed beside that of a plain loop in Rust, how the times of a tree and of memory grow, calls, children and
-# megabytes through a pipe a second beside qemu-riscv64, and the time of a turn among many processes. Nothing that is
-# timed here is a test.
+# The machine's speed beside that of a plain loop in Rust, how the times of a tree and of memory grow, calls, children,
+# megabytes through a pipe and signals a second beside qemu-riscv64, and the time of a turn among many processes.
+# Nothing that is timed here is a test.
 
 .PHONY: bench
 
@@ -18,3 +18,4 @@ bench:
 	python3 bench/calls/run.py crates/dettrace/out/dettrace
 	python3 bench/processes/run.py crates/dettrace/out/dettrace
 	python3 bench/pipes/run.py crates/dettrace/out/dettrace
+	python3 bench/signals/run.py crates/dettrace/out/dettrace

@@ -3,7 +3,7 @@ use Rattle.std.specs.Prelude.{ℕ, List, [], ◌∷◌, ◌++◌, map, codes, So
 use Rattle.dt_base.specs.declared.abi.TheConstants.{A0}
 use Rattle.dt_rv64.specs.Instruction.{instr}
 use Rattle.dt_asm.specs.declared.item.Item.{Item}
-use Rattle.dt_asm.specs.declared.item.Item.TheVariants.{Code, Branch, Bytes, Label}
+use Rattle.dt_asm.specs.declared.item.Item.TheVariants.{Code, Branch, Jump, Bytes, Label}
 use Rattle.dt_asm.specs.declared.guests.TheConstants.{CHILD}
 use Rattle.dt_asm.specs.Item.{GuestView}
 
@@ -46,4 +46,30 @@ cat1_guest = record {
       0x04000893 ∷ 0x00000073 ∷ 0x00000513 ∷ 0x05D00893 ∷ 0x00000073 ∷ [])
       ++ (Bytes (codes "/f\0") ∷ []);
   memory = Some 0x4000;
+}
+
+-- a fork, kill(2, SIGKILL), a wait for 2, and exit(0); the child has write(1, "x"), and exit(0)
+abbrev pub late_guest : GuestView
+late_guest = record {
+  items =
+      forking
+      ++ instructions (0x00200513 ∷ 0x00900593 ∷ 0x08100893 ∷ 0x00000073 ∷ 0x00200513 ∷ 0x00000593 ∷
+      0x00000613 ∷ 0x00000693 ∷ 0x10400893 ∷ 0x00000073 ∷ 0x00000513 ∷ 0x05D00893 ∷ 0x00000073 ∷ [])
+      ++ (Label CHILD ∷ [])
+      ++ instructions (0x00100513 ∷ 0x000105B7 ∷ 0x0E458593 ∷ 0x00100613 ∷ 0x04000893 ∷ 0x00000073 ∷
+      0x00000513 ∷ 0x05D00893 ∷ 0x00000073 ∷ [])
+      ++ (Bytes (codes "x") ∷ []);
+  memory = None;
+}
+
+-- a fork, and exit(3); the child adds 1 to a0 again and again
+abbrev pub first_guest : GuestView
+first_guest = record {
+  items =
+      forking
+      ++ instructions (0x00300513 ∷ 0x05D00893 ∷ 0x00000073 ∷ [])
+      ++ (Label CHILD ∷ [])
+      ++ instructions (0x00150513 ∷ [])
+      ++ (Jump CHILD ∷ []);
+  memory = None;
 }

@@ -2,7 +2,7 @@
 ghost use Rattle.std.specs.Prelude.{◌≡◌, ◌∷◌, [], IfOk, OnOk};
 ghost use Rattle.dt_rv64.specs.declared.instruction.Instr.TheVariants.{Lui, Addi};
 ghost use Rattle.dt_asm.specs.Item.{with_items};
-ghost use Rattle.dt_asm.specs.Guests.{instructions, hello_guest, forking, trio_guest, cat1_guest};
+ghost use Rattle.dt_asm.specs.Guests.{instructions, hello_guest, forking, trio_guest, cat1_guest, late_guest, first_guest};
 
 use crate::guest::Guest;
 use dt_base::NoMemory;
@@ -22,11 +22,15 @@ const WRITE: u32 = 64;
 
 const EXIT: u32 = 93;
 
+const KILL: u32 = 129;
+
 const CLONE: u32 = 220;
 
 const WAIT4: u32 = 260;
 
 const AT_FDCWD: i64 = -100;
+
+const SIGKILL: i64 = 9;
 
 const SIGCHLD: i64 = 17;
 
@@ -93,6 +97,49 @@ pub fn cat1(alloc: Global) -> Result<Guest, NoMemory>
     guest.li(A0, 0)?;
     guest.call(EXIT)?;
     guest.bytes(b"/f\0")?;
+    Ok(guest)
+}
+
+/// Makes a child, kills it by SIGKILL before its first turn, waits for it, and ends with code 0. The child writes `x` to
+/// standard output, and would end with code 0.
+pub fn late(alloc: Global) -> Result<Guest, NoMemory>
+    ensures { IfOk result (λ guest. guest ≡ late_guest) }
+{
+    let mut guest = Guest::new(alloc);
+    fork(&mut guest)?;
+    guest.li(A0, 2)?;
+    guest.li(A1, SIGKILL)?;
+    guest.call(KILL)?;
+    guest.li(A0, 2)?;
+    guest.li(A1, 0)?;
+    guest.li(A2, 0)?;
+    guest.li(A3, 0)?;
+    guest.call(WAIT4)?;
+    guest.li(A0, 0)?;
+    guest.call(EXIT)?;
+    guest.label(CHILD)?;
+    guest.li(A0, 1)?;
+    guest.ins(lui(A1, 0x10000))?;
+    guest.ins(addi(A1, A1, 0xe4))?;
+    guest.li(A2, 1)?;
+    guest.call(WRITE)?;
+    guest.li(A0, 0)?;
+    guest.call(EXIT)?;
+    guest.bytes(b"x")?;
+    Ok(guest)
+}
+
+/// Makes a child, and ends with code 3 while the child counts without end.
+pub fn first(alloc: Global) -> Result<Guest, NoMemory>
+    ensures { IfOk result (λ guest. guest ≡ first_guest) }
+{
+    let mut guest = Guest::new(alloc);
+    fork(&mut guest)?;
+    guest.li(A0, 3)?;
+    guest.call(EXIT)?;
+    guest.label(CHILD)?;
+    guest.ins(addi(A0, A0, 1))?;
+    guest.jump(CHILD)?;
     Ok(guest)
 }
 

@@ -16,4 +16,4 @@ mod shapes;
 pub use encoder::encode;
 pub use error::AsmErr;
 pub use guest::Guest;
-pub use guests::{cat1, hello, trio};
+pub use guests::{cat1, first, hello, late, trio};

@@ -26,7 +26,7 @@ use Rattle.dt_tree.specs.Table.{Stands, shape_of, tree_of}
 use Rattle.dt_tree.proofs.Holding.{holds-released, IsFile-released, IsDir-released}
 use Rattle.dt_calls.specs.declared.shared.Process.{Process}
 use Rattle.dt_calls.specs.declared.shared.Shared.{Shared as SharedInCode}
-use Rattle.dt_calls.specs.declared.numbers.TheConstants.{SIGKILL}
+use Rattle.dt_signals.specs.declared.numbers.TheConstants.{SIGKILL}
 use Rattle.dt_calls.specs.Container.{Shared, Processes}
 use Rattle.dt_calls.specs.Settle.{ends_one, kills_each}
 use Rattle.dt_calls.specs.Sound.{directories_of, IsSound}
@@ -104,7 +104,7 @@ module _ (c left new : SharedInCode) (w u v : World) (p : ℕ) (own : Process) (
       (others.dirs n (omega (arith, sound.holds n, all)) dir)
 
   module _ (fs : new.fs.files ≡ left.fs.files) (processes : new.processes ≡ remove c.processes p) (members : members_of new.pids ≡ ended p end (members_of c.pids)) (next : new.pids.next ≡ c.pids.next)
-      (stands : Stands new.fs.tree v.forest) (tree : tree_of new.fs.tree v.forest ≡ after) (pids : procs.Stands new.pids v.pids) (pipes : v.pipes ≡ u.pipes) where
+      (stands : Stands new.fs.tree v.forest) (tree : tree_of new.fs.tree v.forest ≡ after) (pids : procs.Stands new.pids v.pids) (pipes : v.pipes ≡ u.pipes) (states : (q : ℕ) → q ≢ p → IsSome (get c.signals q) → IsSome (get new.signals q)) where
     by_other : (q : ℕ) (P : Option Process → Type 0) → P None → ((other : Process) → q ≢ p → get (remove c.processes p) q ≡ Some other → get c.processes q ≡ Some other → P (Some other)) → P (get new.processes q)
     by_other q P none some = subst P (sym (ap (λ m. get m q) processes)) (by_found (get (remove c.processes p) q) refl)
       where
@@ -138,6 +138,8 @@ module _ (c left new : SharedInCode) (w u v : World) (p : ℕ) (own : Process) (
           (λ other apart is was _. subst (λ n. q < n) (sym next) (sound.given q (ap is_some was)));
       lives = λ q. by_other q (λ found. IsSome found → lives (members_of new.pids) q ≡ true) (λ no. cc)
           (λ other apart is was _. ap (λ ms. lives ms q) members ∙ lives-ended p end q (members_of c.pids) apart ∙ sound.lives q (ap is_some was));
+      signalled = λ q. by_other q (λ found. IsSome found → IsSome (get new.signals q)) (λ no. cc)
+          (λ other apart is was _. states q apart (sound.signalled q (ap is_some was)));
       fresh = λ q late.
           let below = sound.given p (ap is_some here) in
           ap (λ (f : Files). get f.descriptors.tables q) fs ∙ others.tables q (λ is. absurd (omega arith)) ∙ sound.fresh q (subst (λ n. n ≤ q) next late);

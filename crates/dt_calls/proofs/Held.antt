@@ -35,11 +35,13 @@ use Rattle.dt_tree.specs.Table.{Table, Stands, shape_of, tree_of}
 use Rattle.dt_rv64.specs.declared.machine.Machine.{Machine}
 use Rattle.dt_calls.specs.declared.shared.Process.{Process}
 use Rattle.dt_calls.specs.declared.shared.Shared.{Shared}
-use Rattle.dt_calls.specs.Container.{Processes}
+use Rattle.dt_calls.specs.Container.{Processes, Signals}
 use Rattle.dt_calls.specs.declared.call.effect.Effect.{Effect as EffectInCode}
 use Rattle.dt_calls.specs.Effect.{Effect}
 use Rattle.dt_calls.specs.InCode.{shared_of, effect_as}
-use Rattle.dt_calls.specs.Sound.{hand, directories_of, IsSoundHand, Keeps, Serves}
+use Rattle.dt_signals.specs.declared.signals.Sig.{Sig}
+use Rattle.dt_calls.specs.Sound.{Hand, hand, directories_of, with_own, IsSoundHand, Keeps, Serves, StillSignalled}
+use Rattle.dt_calls.proofs.Signalled.{signal-here, sound-signals, still-insert}
 
 one_for-swap : (a b : ℕ) → one_for a b ≡ one_for b a
 one_for-swap a b = grind (arith, nat_tests)
@@ -96,6 +98,9 @@ module _ (c : Shared) (own : Process) (w : World) (sound : IsSoundHand (hand c o
   pub own-lives : lives (members_of c.pids) own.caller.vpid ≡ true
   own-lives = sound.lives own.caller.vpid (subst IsSome (sym here-own) refl)
 
+  pub own-signalled : IsSome (get c.signals own.caller.vpid)
+  own-signalled = sound.signalled own.caller.vpid (subst IsSome (sym here-own) refl)
+
   -- the scene of a call is sound
   pub sound-scene : (space : List PageView) → Sound (stage c.fs w own.caller space)
   sound-scene space = record {
@@ -149,6 +154,7 @@ module _ (c : Shared) (own : Process) (w : World) (sound : IsSoundHand (hand c o
       named = parts-moved (λ q found. IfSome found (λ other. other.caller.vpid ≡ q)) refl (λ q apart. sound.named q);
       given = parts-moved (λ q found. IsSome found → q < c.pids.next) (λ some. let mine = own-given in omega (arith, others.vpid)) (λ q apart. sound.given q);
       lives = parts-moved (λ q found. IsSome found → lives (members_of c.pids) q ≡ true) (λ some. subst (λ q. lives (members_of c.pids) q ≡ true) (sym others.vpid) own-lives) (λ q apart. sound.lives q);
+      signalled = parts-moved (λ q found. IsSome found → IsSome (get c.signals q)) (λ some. subst (λ q. IsSome (get c.signals q)) (sym others.vpid) own-signalled) (λ q apart. sound.signalled q);
       fresh = λ q past.
           let mine = own-given in
           others.tables q (omega arith) ∙ sound.fresh q past;
@@ -176,6 +182,27 @@ module _ (c : Shared) (own : Process) (w : World) (sound : IsSoundHand (hand c o
       (others_kept (scene (stage c.fs w own.caller [])) (scene (stage fs w own.caller [])) refl refl (KeepsHeld-same (tree_of c.fs.tree w.forest)))
       refl
 
+  -- the signal states alone change
+  pub keeps-signals : (signals : Signals) → StillSignalled c.signals signals → Keeps (hand c own w) (hand (record c { signals = signals }) own w) None
+  keeps-signals signals still = record { sound = sound-signals (with_own c own) signals w sound still; vpid = refl; parts = λ q there. there; next = refl; child = tt }
+
+  pub keeps-raised : (signals : Signals) (new : Shared) → new ≡ record c { signals = signals } → StillSignalled c.signals new.signals → Keeps (hand c own w) (hand new own w) None
+  keeps-raised signals new is still =
+      subst (λ (s : Shared). Keeps (hand c own w) (hand s own w) None) (sym is)
+      (keeps-signals signals (subst (StillSignalled c.signals) (ap (λ (s : Shared). s.signals) is) still))
+
+  -- the signal states change, and how many bytes the process's call has moved
+  pub keeps-done : (done : ℕ) (signals : Signals) → StillSignalled c.signals signals → Keeps (hand c own w) (hand (record c { signals = signals }) (record own { caller = record own.caller { done = done } }) w) None
+  keeps-done done signals still =
+      let now : Process = record own { caller = record own.caller { done = done } } in
+      let before = sound-scene c own w sound [] in
+      let same = others_kept (scene (stage c.fs w own.caller [])) (scene (stage c.fs w own.caller [])) refl refl (KeepsHeld-same (tree_of c.fs.tree w.forest)) in
+      let kept = keeps-called c own w sound c.fs now w [] []
+      (record { stands = before.stands; is_dir = before.is_dir; all_in = before.all_in; enough = before.enough; piped = before.piped })
+      (record { vpid = same.vpid; tables = same.tables; holds = same.holds; files = same.files; dirs = same.dirs })
+      refl in
+      record { sound = sound-signals (with_own c now) signals w kept.sound still; vpid = refl; parts = λ q there. there; next = refl; child = tt }
+
   -- open files are closed, and the process's break changes
   pub keeps-closed : (files : Files) (tree : Table) (new : Process) (v : World) → new.caller ≡ own.caller → IsBacked (at files tree v) → KeepsHolds own.caller.vpid (holding (at c.fs.files c.fs.tree w)) (holding (at files tree v)) → OnlyFiles w v → Keeps (hand c own w) (hand (record c { fs = record c.fs { tree = tree; files = files } }) new v) None
   keeps-closed files tree new v same backed others rest =
@@ -188,6 +215,20 @@ module _ (c : Shared) (own : Process) (w : World) (sound : IsSoundHand (hand c o
   -- the tree backs what is open
   pub backed-sound : IsBacked (at c.fs.files c.fs.tree w)
   backed-sound = backed_sound c.fs w own.caller [] (sound-scene c own w sound [])
+
+-- what is kept by one step and then by another
+pub keeps-then : (old mid new : Hand) (made : Option Machine) → Keeps old mid made → Keeps mid new None → Keeps old new made
+keeps-then old mid new made first then = record {
+  sound = then.sound;
+  vpid = then.vpid ∙ first.vpid;
+  parts = λ q there. then.parts q (first.parts q there);
+  next = then.next ∙ first.next;
+  child = by_made made first.child;
+}
+  where
+    by_made : (made : Option Machine) → IfSome made (λ _. IsSome (get mid.shared.processes old.shared.pids.next)) → IfSome made (λ _. IsSome (get new.shared.processes old.shared.pids.next))
+    by_made None there = tt
+    by_made (Some m) there = then.parts old.shared.pids.next there
 
 or-true : (b : Bool) → (b || true) ≡ true
 or-true true = refl
@@ -225,7 +266,7 @@ module _ (c : Shared) (own : Process) (w : World) (sound : IsSoundHand (hand c o
   pub fresh-next : get c.fs.files.descriptors.tables c.pids.next ≡ None
   fresh-next = sound.fresh c.pids.next (omega arith)
 
-  module _ (new : Shared) (child : Process) (v : World) (parent : ℕ) (only : OnlyPids w v) (stands : Stands new.fs.tree v.forest) (tree : tree_of new.fs.tree v.forest ≡ held (tree_of c.fs.tree v.forest) own.caller.cwd) (nodes : KeepsNodes c.pids.next c.fs.files.descriptors new.fs.files.descriptors) (pipes : new.fs.files.pipes ≡ c.fs.files.pipes) (ends : new.fs.files.ends ≡ c.fs.files.ends) (pids : procs.Stands new.pids v.pids) (members : members_of new.pids ≡ with_child (members_of c.pids) c.pids.next parent) (next : new.pids.next ≡ c.pids.next + 1) (processes : new.processes ≡ insert c.processes c.pids.next child) (vpid : child.caller.vpid ≡ c.pids.next) (cwd : child.caller.cwd ≡ own.caller.cwd) where
+  module _ (new : Shared) (child : Process) (v : World) (parent : ℕ) (only : OnlyPids w v) (stands : Stands new.fs.tree v.forest) (tree : tree_of new.fs.tree v.forest ≡ held (tree_of c.fs.tree v.forest) own.caller.cwd) (nodes : KeepsNodes c.pids.next c.fs.files.descriptors new.fs.files.descriptors) (pipes : new.fs.files.pipes ≡ c.fs.files.pipes) (ends : new.fs.files.ends ≡ c.fs.files.ends) (pids : procs.Stands new.pids v.pids) (members : members_of new.pids ≡ with_child (members_of c.pids) c.pids.next parent) (next : new.pids.next ≡ c.pids.next + 1) (processes : new.processes ≡ insert c.processes c.pids.next child) (vpid : child.caller.vpid ≡ c.pids.next) (cwd : child.caller.cwd ≡ own.caller.cwd) (state : Sig) (states : new.signals ≡ insert c.signals c.pids.next state) where
     apart-next : c.pids.next ≢ own.caller.vpid
     apart-next is = let below = own-given c own w sound in omega arith
 
@@ -271,6 +312,9 @@ module _ (c : Shared) (own : Process) (w : World) (sound : IsSoundHand (hand c o
       lives = parts-child (λ r found. IsSome found → lives (members_of new.pids) r ≡ true)
           (λ some. subst (λ ms. lives ms c.pids.next ≡ true) (sym members) (lives-born (members_of c.pids) c.pids.next parent))
           (λ r some. subst (λ ms. lives ms r ≡ true) (sym members) (lives-still (members_of c.pids) c.pids.next parent r (sound.lives r some)));
+      signalled = parts-child (λ r found. IsSome found → IsSome (get new.signals r))
+          (λ some. subst (λ ss. IsSome (get ss c.pids.next)) (sym states) (signal-here c.signals c.pids.next state))
+          (λ r some. subst (λ ss. IsSome (get ss r)) (sym states) (still-insert c.signals c.pids.next state r (sound.signalled r some)));
       fresh = λ r past. nodes.tables r (omega arith) ∙ sound.fresh r (omega arith);
     }
 
@@ -342,6 +386,7 @@ module _ (c : Shared) (own : Process) (w : World) (sound : IsSoundHand (hand c o
       named = sound.named;
       given = λ p some. let below = sound.given p some in omega arith;
       lives = λ p some. lives-reaped p (sound.lives p some);
+      signalled = sound.signalled;
       fresh = λ p past. sound.fresh p (omega arith);
     }
 
@@ -364,6 +409,19 @@ module _ (defined : Effect) (c : Shared) (own : Process) (w : World) (machine : 
     kept = subst (Keeps (hand c own w) (hand c new w)) (sym none) (keeps-break c own w sound new same);
     cause = record { later = omega arith; rose = λ failed. cc };
   }
+
+  -- one that changes signal states
+  serves-states : (signals : Signals) → StillSignalled c.signals signals → defined ≡ effect_as (shared_of (record c { signals = signals }) w) own machine e → Serves defined (hand c own w) (hand (record c { signals = signals }) own w) machine (Ok e) count count
+  serves-states signals still served = record {
+    served = served;
+    kept = subst (Keeps (hand c own w) (hand (record c { signals = signals }) own w)) (sym none) (keeps-signals c own w sound signals still);
+    cause = record { later = omega arith; rose = λ failed. cc };
+  }
+
+  pub serves-signals : (new : Shared) → new ≡ record c { signals = new.signals } → StillSignalled c.signals new.signals → defined ≡ effect_as (shared_of new w) own machine e → Serves defined (hand c own w) (hand new own w) machine (Ok e) count count
+  serves-signals new rest still served =
+      subst (λ (s : Shared). Serves defined (hand c own w) (hand s own w) machine (Ok e) count count) (sym rest)
+      (serves-states new.signals still (subst (λ (s : Shared). defined ≡ effect_as (shared_of s w) own machine e) rest served))
 
   -- one that takes time
   serves-clock : (clock : ℕ) → defined ≡ effect_as (shared_of (record c { fs = record c.fs { clock = clock } }) w) own machine e → Serves defined (hand c own w) (hand (record c { fs = record c.fs { clock = clock } }) own w) machine (Ok e) count count

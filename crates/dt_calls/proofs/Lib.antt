@@ -6,5 +6,7 @@ pub mod Keys
 pub mod Ended
 pub mod Few
 pub mod Settled
+pub mod Delivering
+pub mod Signalled
 pub mod Serving
 pub mod Started

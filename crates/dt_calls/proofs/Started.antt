@@ -34,6 +34,7 @@ use Rattle.dt_tree.proofs.Images.{not_held}
 use Rattle.dt_calls.specs.declared.shared.Process.{Process}
 use Rattle.dt_calls.specs.declared.shared.Shared.{Shared as SharedInCode}
 use Rattle.dt_calls.specs.Container.{Processes, blank_process}
+use Rattle.dt_signals.specs.Signals.{no_signals}
 use Rattle.dt_calls.specs.Sound.{IsSound, directories_of}
 
 one_for-swap : (a b : ℕ) → one_for a b ≡ one_for b a
@@ -81,8 +82,8 @@ directories-first n =
 
 -- a container begins: its process holds the root, and nothing is open that names a node
 pub sound-first : (c : SharedInCode) (old : TreeTable) (u w : World) (entries : List Entry) → Stands old u.forest → tree_of old u.forest ≡ image_tree entries → Stands c.fs.tree w.forest → tree_of c.fs.tree w.forest ≡ held (tree_of old u.forest) ROOT → procs.Stands c.pids w.pids
-    → ((n : ℕ) → descriptions_of c.fs.files.descriptors n ≡ 0) → ((v : Forest) → AllIn v c.fs.files.descriptors) → c.fs.files.descriptors ≡ first_files FIRST_PID → IsPiped c.fs.files w.pipes → c.processes ≡ first_parts → members_of c.pids ≡ first_members → c.pids.next ≡ 2 → IsSound c w
-sound-first c old u w entries was image stands tree pids nodes all files piped parts members next =
+    → ((n : ℕ) → descriptions_of c.fs.files.descriptors n ≡ 0) → ((v : Forest) → AllIn v c.fs.files.descriptors) → c.fs.files.descriptors ≡ first_files FIRST_PID → IsPiped c.fs.files w.pipes → c.processes ≡ first_parts → c.signals ≡ insert empty FIRST_PID no_signals → members_of c.pids ≡ first_members → c.pids.next ≡ 2 → IsSound c w
+sound-first c old u w entries was image stands tree pids nodes all files piped parts states members next =
     let t = tree_of old u.forest in
     let top : IsDir t.shape ROOT = subst (IsDir t.shape) was.tree.root was.tree.shaped.root in
     let dir : IsDir (shape_of c.fs.tree w.forest) ROOT = subst (λ x. IsDir x.shape ROOT) (sym tree) (subst (λ s. IsDir s ROOT) (sym (shape-held t ROOT)) top) in
@@ -102,6 +103,8 @@ sound-first c old u w entries was image stands tree pids nodes all files piped p
       named = by (λ q found. IfSome found (λ own. own.caller.vpid ≡ q)) (λ q. tt) refl;
       given = by (λ q found. IsSome found → q < c.pids.next) (λ q some. cc) (λ some. omega (arith, next));
       lives = by (λ q found. IsSome found → lives (members_of c.pids) q ≡ true) (λ q some. cc) (λ some. ap (λ ms. lives ms FIRST_PID) members);
+      signalled = by (λ q found. IsSome found → IsSome (get c.signals q)) (λ q some. cc)
+          (λ some. ap is_some (ap (λ m. get m FIRST_PID) states ∙ get-insert_same nat_cmp_total nat_cmp-IsAntisymmetric empty FIRST_PID no_signals));
       fresh = λ q late. ap (λ f. get f.tables q) files ∙ tables-first FIRST_PID q (λ is. absurd (omega (arith, next)));
     }
 

@@ -3,13 +3,13 @@ use Rattle.std.specs.Prelude.{ℕ, Bool, ◌||◌, ◌==◌, if◌then◌else◌
 use Rattle.dt_base.specs.declared.abi.TheConstants.{A0, A7, EXIT, EXIT_GROUP, BRK, MUNMAP, MMAP, MPROTECT}
 use Rattle.dt_base.specs.Abi.{exit_code}
 use Rattle.dt_base.specs.declared.errno.Errno.TheVariants.{NoSys}
-use Rattle.dt_base.specs.declared.event.End.TheVariants.{Code, Signal}
+use Rattle.dt_base.specs.declared.event.End.TheVariants.{Code}
 use Rattle.dt_rv64.specs.declared.machine.Machine.{Machine}
 use Rattle.dt_rv64.specs.declared.segments.Stop.{Stop}
 use Rattle.dt_rv64.specs.declared.segments.Stop.TheVariants.{Call, Counter, Slice, Fault}
 use Rattle.dt_rv64.specs.Effects.{register}
 use Rattle.dt_calls.specs.declared.call.effect.Outcome.TheVariants.{Done, Ends}
-use Rattle.dt_calls.specs.declared.numbers.TheConstants.{SET_TID_ADDRESS, SET_ROBUST_LIST, SCHED_YIELD, UNAME, GETPID, GETPPID, GETUID, GETEUID, GETGID, GETEGID, GETTID, MREMAP, CLONE, EXECVE, MADVISE, WAIT4, PRLIMIT64, STATX, RSEQ}
+use Rattle.dt_calls.specs.declared.numbers.TheConstants.{SET_TID_ADDRESS, SET_ROBUST_LIST, SCHED_YIELD, UNAME, GETPID, GETPPID, GETUID, GETEUID, GETGID, GETEGID, GETTID, MREMAP, CLONE, EXECVE, MADVISE, WAIT4, PRLIMIT64, STATX, RSEQ, KILL, TKILL, TGKILL, RT_SIGACTION, RT_SIGPROCMASK, RT_SIGRETURN}
 use Rattle.dt_calls.specs.declared.shared.Process.{Process}
 use Rattle.dt_calls.specs.Container.{Shared}
 use Rattle.dt_calls.specs.Effect.{Effect, quiet, done, refused, reads_counter}
@@ -19,6 +19,8 @@ use Rattle.dt_calls.specs.Identity.{getpid_call, getppid_call, set_robust_list_c
 use Rattle.dt_calls.specs.Clone.{clone_call}
 use Rattle.dt_calls.specs.Execve.{execve_call}
 use Rattle.dt_calls.specs.Wait.{wait4_call}
+use Rattle.dt_calls.specs.Kill.{kill_call, tkill_call, tgkill_call}
+use Rattle.dt_calls.specs.SignalCalls.{sigaction_call, sigprocmask_call, sigreturn_call}
 
 -- exit(2) and exit_group(2): the process ends with a code
 unfoldable pub exit_call : Shared → Process → Machine → Effect
@@ -34,7 +36,18 @@ abbrev pub is_missing : ℕ → Bool
 is_missing number =
     (number == MREMAP) || (number == MADVISE) || (number == PRLIMIT64) || (number == STATX) || (number == RSEQ)
 
--- the calls that tell a process who it is, and those that do nothing; any other is one on files, time or random bytes
+-- the calls on signals; any other is one on files, time or random bytes
+unfoldable pub signal_call : ℕ → Shared → Process → Machine → Effect
+signal_call number c own m =
+    if number == KILL then kill_call c own m
+    else if number == TKILL then tkill_call c own m
+    else if number == TGKILL then tgkill_call c own m
+    else if number == RT_SIGACTION then sigaction_call c own m
+    else if number == RT_SIGPROCMASK then sigprocmask_call c own m
+    else if number == RT_SIGRETURN then sigreturn_call c own m
+    else file_call number c own m
+
+-- the calls that tell a process who it is, and those that do nothing; any other is one on signals or one of those above
 unfoldable pub identity_call : ℕ → Shared → Process → Machine → Effect
 identity_call number c own m =
     if (number == GETPID) || (number == GETTID) || (number == SET_TID_ADDRESS) then getpid_call c own m
@@ -43,7 +56,7 @@ identity_call number c own m =
     else if number == UNAME then uname_call c own m
     else if answers_zero number then done c own m 0
     else if is_missing number then refused c own m NoSys
-    else file_call number c own m
+    else signal_call number c own m
 
 -- the calls on memory; any other is one of those above
 unfoldable pub memory_call : ℕ → Shared → Process → Machine → Effect
@@ -63,9 +76,10 @@ call_of number c next own m =
     else if number == WAIT4 then wait4_call c own m
     else memory_call number c own m
 
--- a call is served by its number, a counter is read, a fault's signal ends the process, and at the end of a slice it goes on
+-- a call is served by its number, and a counter is read; at the end of a slice the process goes on, and at a fault it stays
+-- for the delivery of the fault's signal
 unfoldable pub served : Shared → ℕ → Process → Machine → Stop → Effect
 served c next own m Call = call_of (register m A7) c next own m
 served c next own m (Counter rd) = reads_counter c own m rd
-served c next own m (Fault signal) = quiet c own m (Ends (Signal signal))
+served c next own m (Fault signal) = quiet c own m Done
 served c next own m Slice = quiet c own m Done

@@ -8,14 +8,16 @@ use Rattle.dt_fds.specs.Descriptions.{shared_all}
 use Rattle.dt_procs.specs.Members.{is_full, with_child}
 use Rattle.dt_rv64.specs.declared.machine.Machine.{Machine}
 use Rattle.dt_rv64.specs.Effects.{register, with_register, answered}
+use Rattle.dt_signals.specs.declared.numbers.TheConstants.{SIGCHLD}
+use Rattle.dt_signals.specs.Signals.{forked}
 use Rattle.dt_space.specs.declared.access.Miss.{Miss}
 use Rattle.dt_space.specs.Space.{PageView}
 use Rattle.dt_space.specs.Write.{stored}
 use Rattle.dt_tree.specs.Changes.{held}
 use Rattle.dt_calls.specs.declared.call.effect.Outcome.TheVariants.{Done, Unsupported}
-use Rattle.dt_calls.specs.declared.numbers.TheConstants.{CLONE, CSIGNAL, SIGCHLD, CLONE_PARENT_SETTID, CLONE_CHILD_CLEARTID, CLONE_CHILD_SETTID}
+use Rattle.dt_calls.specs.declared.numbers.TheConstants.{CLONE, CSIGNAL, CLONE_PARENT_SETTID, CLONE_CHILD_CLEARTID, CLONE_CHILD_SETTID}
 use Rattle.dt_calls.specs.declared.shared.Process.{Process}
-use Rattle.dt_calls.specs.Container.{Shared}
+use Rattle.dt_calls.specs.Container.{Shared, signals_at}
 use Rattle.dt_calls.specs.Effect.{Effect, quiet, refused}
 
 -- a process that is no thread of its parent, with SIGCHLD at its end, and of the other flags at most these three
@@ -56,13 +58,14 @@ parent_machine m vpid = with_pid (has (register m A0) CLONE_PARENT_SETTID) (regi
 abbrev pub child_process : Process → ℕ → Process
 child_process own vpid = record own { caller = record own.caller { vpid = vpid } }
 
--- what is shared once the child is there: it holds its working directory, and has its parent's descriptors
+-- what is shared once the child is there: it holds its working directory, and has its parent's descriptors, actions and mask
 abbrev pub with_child_of : Shared → Process → ℕ → Shared
 with_child_of c own vpid = record c {
   tree = held c.tree own.caller.cwd;
   files = shared_all own.caller.vpid vpid c.files;
   members = with_child c.members vpid own.caller.vpid;
   processes = insert c.processes vpid (child_process own vpid);
+  signals = insert c.signals vpid (forked (signals_at c own.caller.vpid));
 }
 
 -- a child is made

@@ -1,5 +1,5 @@
 -- A container: what its processes share, each process's part, and the machines at home.
-use Rattle.std.specs.Prelude.{ℕ, ◌+◌, List, [], unwrap_or}
+use Rattle.std.specs.Prelude.{ℕ, ◌+◌, List, [], Option, Some, None, unwrap_or}
 use Rattle.std.specs.Ordering.{nat_cmp}
 use Rattle.std.specs.FinMap.{FinMap, empty, get, insert}
 use Rattle.dt_base.specs.declared.event.Event.{Event}
@@ -10,6 +10,8 @@ use Rattle.dt_rv64.specs.declared.machine.Machine.{Machine}
 use Rattle.dt_procs.specs.declared.member.Member.{Member}
 use Rattle.dt_procs.specs.declared.member.TheConstants.{FIRST_PID}
 use Rattle.dt_procs.specs.Members.{first_members}
+use Rattle.dt_signals.specs.declared.signals.Sig.{Sig}
+use Rattle.dt_signals.specs.Signals.{no_signals, raised}
 use Rattle.dt_tree.specs.declared.limits.TheConstants.{ROOT}
 use Rattle.dt_tree.specs.FileTree.{FileTree}
 use Rattle.dt_tree.specs.Changes.{held}
@@ -21,8 +23,12 @@ use Rattle.dt_calls.specs.declared.shared.Process.{Process}
 abbrev pub Processes : Type 0
 Processes = FinMap nat_cmp Process
 
+-- the signal states of live processes, by pid
+abbrev pub Signals : Type 0
+Signals = FinMap nat_cmp Sig
+
 -- all of a container but its machines: the file tree, the open files, the pipes, the logical time, the seed's words, the
--- processes as their kin see them, zombies included, and the part of each that lives
+-- processes as their kin see them, zombies included, and the part and the signal state of each that lives
 pub record Shared : Type 0 where
   pub tree : FileTree
   pub files : Descriptions
@@ -31,6 +37,7 @@ pub record Shared : Type 0 where
   pub rand : Seeded
   pub members : List Member
   pub processes : Processes
+  pub signals : Signals
 
 -- machines by the pid of the process
 abbrev pub Machines : Type 0
@@ -58,6 +65,26 @@ process_at c p = unwrap_or (get c.processes p) (blank_process p)
 abbrev pub with_process : Shared → Process → Shared
 with_process c own = record c { processes = insert c.processes own.caller.vpid own }
 
+-- the signal state of a process that lives
+abbrev pub signals_in : Signals → ℕ → Sig
+signals_in signals p = unwrap_or (get signals p) no_signals
+
+abbrev pub signals_at : Shared → ℕ → Sig
+signals_at c p = signals_in c.signals p
+
+-- with this as the signal state of a process
+abbrev pub with_signals : Shared → ℕ → Sig → Shared
+with_signals c p g = record c { signals = insert c.signals p g }
+
+-- the signal states, where the process has one: with the signal pending in it
+abbrev pub raised_in : ℕ → ℕ → Signals → Option Sig → Signals
+raised_in p signal signals None = signals
+raised_in p signal signals (Some g) = insert signals p (raised signal g)
+
+-- a signal is pending at a process, if that lives
+abbrev pub raised_at : ℕ → ℕ → Signals → Signals
+raised_at p signal signals = raised_in p signal signals (get signals p)
+
 -- no pipes, none of which has been made
 abbrev pub no_pipes : Pipes
 no_pipes = record { contents = empty; next = FIRST_PIPE }
@@ -72,6 +99,7 @@ first_shared t seed = record {
   rand = seeded_by seed;
   members = first_members;
   processes = insert empty FIRST_PID (blank_process FIRST_PID);
+  signals = insert empty FIRST_PID no_signals;
 }
 
 -- a container whose one process has no program yet

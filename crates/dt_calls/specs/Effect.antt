@@ -1,10 +1,8 @@
 -- What a stop that is served does.
-use Rattle.std.specs.Prelude.{ℕ, ◌-◌, ◌^◌, List, [], ◌∷◌, length, Option, None}
+use Rattle.std.specs.Prelude.{ℕ, ◌-◌, ◌^◌, List, [], ◌∷◌, length, Option, None, Result, Ok, Err}
 use Rattle.dt_base.specs.declared.answer.Answer.{Answer}
 use Rattle.dt_base.specs.declared.answer.Answer.TheVariants as answer
-use Rattle.dt_base.specs.declared.abi.TheConstants.{SIGPIPE}
 use Rattle.dt_base.specs.declared.errno.Errno.{Errno}
-use Rattle.dt_base.specs.declared.event.End.TheVariants.{Signal}
 use Rattle.dt_base.specs.declared.event.Event.{Event}
 use Rattle.dt_base.specs.declared.event.Event.TheVariants.{Out}
 use Rattle.dt_base.specs.Errno.{errno_number}
@@ -13,7 +11,7 @@ use Rattle.dt_rv64.specs.Effects.{answered, counter_read}
 use Rattle.dt_virt.specs.declared.clock.TheConstants.{READING_TICKS}
 use Rattle.dt_virt.specs.Clock.{later}
 use Rattle.dt_calls.specs.declared.call.effect.Outcome.{Outcome}
-use Rattle.dt_calls.specs.declared.call.effect.Outcome.TheVariants.{Done, Blocked, Moved, Ends, Unsupported}
+use Rattle.dt_calls.specs.declared.call.effect.Outcome.TheVariants.{Done, Blocked, Moved, Unsupported}
 use Rattle.dt_calls.specs.declared.shared.Process.{Process}
 use Rattle.dt_calls.specs.Container.{Shared}
 
@@ -44,15 +42,19 @@ abbrev pub puts_out : Shared → Process → Machine → ℕ → List ℕ → Ef
 puts_out c own m stream bytes =
     record (done c own m (length bytes)) { events = Out stream bytes ∷ [] }
 
--- a call of this number gives its answer: one that waits or goes on is tried again in the process's next turn, and SIGPIPE
--- ends the process
+-- a write to a pipe that nobody reads is done: it answers how many bytes it moved before, or is refused
+abbrev pub broken : Shared → Process → Machine → Result ℕ Errno → Effect
+broken c own m (Ok moved) = done c own m moved
+broken c own m (Err errno) = refused c own m errno
+
+-- a call of this number gives its answer: one that waits or goes on is tried again in the process's next turn
 abbrev pub answers : Shared → Process → Machine → ℕ → Answer → Effect
 answers c own m number (answer.Value value) = done c own m value
 answers c own m number (answer.Refused errno) = refused c own m errno
 answers c own m number (answer.Output stream bytes) = puts_out c own m stream bytes
 answers c own m number answer.Waits = quiet c own m Blocked
 answers c own m number (answer.Part moved) = quiet c own m Moved
-answers c own m number (answer.Pipe value) = quiet c own m (Ends (Signal SIGPIPE))
+answers c own m number (answer.Pipe value) = broken c own m value
 answers c own m number answer.Unsupported = quiet c own m (Unsupported number)
 
 -- a counter is read into a register: the reading takes its time, and gives the time after it

@@ -1,5 +1,5 @@
 -- execve(2): the process goes on as another program.
-use Rattle.std.specs.Prelude.{Result, Ok, Err}
+use Rattle.std.specs.Prelude.{ℕ, Result, Ok, Err}
 use Rattle.dt_base.specs.declared.abi.TheConstants.{A0, A1, A2}
 use Rattle.dt_base.specs.declared.errno.Errno.{Errno}
 use Rattle.dt_exec.specs.declared.program.Program.{Program}
@@ -7,10 +7,11 @@ use Rattle.dt_exec.specs.Program.{execve_program}
 use Rattle.dt_fds.specs.Holding.{Holding, over, closed_on_exec}
 use Rattle.dt_rv64.specs.declared.machine.Machine.{Machine}
 use Rattle.dt_rv64.specs.Effects.{register}
+use Rattle.dt_signals.specs.Signals.{after_exec}
 use Rattle.dt_virt.specs.Words.{start_bytes}
 use Rattle.dt_calls.specs.declared.call.effect.Outcome.TheVariants.{Done}
 use Rattle.dt_calls.specs.declared.shared.Process.{Process}
-use Rattle.dt_calls.specs.Container.{Shared}
+use Rattle.dt_calls.specs.Container.{Shared, signals_at, with_signals}
 use Rattle.dt_calls.specs.Effect.{Effect, quiet, refused}
 
 -- with these open files, their pipes, and the tree whose nodes they hold
@@ -22,12 +23,16 @@ abbrev pub with_program : Process → Program → Process
 with_program own program =
     record own { program_break = record { start = program.break_start; end = program.break_start } }
 
--- a program that can be started takes the place of the one that called: pid, working directory and umask stay, and what is
--- marked close-on-exec is closed
+-- what is shared once another program was taken up: what is marked close-on-exec is closed, and handlers are gone
+abbrev pub with_exec : Shared → ℕ → Shared
+with_exec c p =
+    with_signals (with_holding c (closed_on_exec p (over c.tree c.pipes c.files))) p (after_exec (signals_at c p))
+
+-- a program that can be started takes the place of the one that called: pid, working directory and umask stay
 abbrev pub by_program : Shared → Process → Machine → Result Program Errno → Effect
 by_program c own m (Err errno) = refused c own m errno
 by_program c own m (Ok program) =
-    quiet (with_holding c (closed_on_exec own.caller.vpid (over c.tree c.pipes c.files))) (with_program own program) program.machine Done
+    quiet (with_exec c own.caller.vpid) (with_program own program) program.machine Done
 
 -- execve(2)
 unfoldable pub execve_call : Shared → Process → Machine → Effect

@@ -1,13 +1,13 @@
 -- The system calls on files, on time and on random bytes, served by their rows.
 use Rattle.std.specs.Prelude.{ℕ, List, [], ◌∷◌, if◌then◌else◌}
-use Rattle.dt_base.specs.declared.abi.TheConstants.{A0, A1, A2, A3, A4, A5}
+use Rattle.dt_base.specs.declared.abi.TheConstants.{A0, A1, A2, A3, A4, A5, SIGPIPE}
 use Rattle.dt_rv64.specs.declared.machine.Machine.{Machine}
 use Rattle.dt_rv64.specs.Effects.{register}
 use Rattle.dt_scene.specs.Scene.{Scene, Row}
 use Rattle.dt_fcalls.specs.Calls.{file_row}
 use Rattle.dt_iocalls.specs.Calls.{is_io, io_row}
 use Rattle.dt_calls.specs.declared.shared.Process.{Process}
-use Rattle.dt_calls.specs.Container.{Shared}
+use Rattle.dt_calls.specs.Container.{Shared, Signals, raised_at}
 use Rattle.dt_base.specs.declared.answer.Answer.{Answer}
 use Rattle.dt_base.specs.declared.answer.Answer.TheVariants.{Value, Refused, Output, Waits, Part, Pipe, Unsupported}
 use Rattle.dt_base.specs.declared.caller.Caller.{Caller}
@@ -52,10 +52,24 @@ done_after count Unsupported = 0
 abbrev pub caller_after : Caller → Answer → Caller
 caller_after caller answer = record caller { done = done_after caller.done answer }
 
+-- the signal states after the answer of a call of a process: SIGPIPE is pending there after a write to a pipe that nobody reads
+abbrev pub signals_after : ℕ → Answer → Signals → Signals
+signals_after p (Value value) signals = signals
+signals_after p (Refused errno) signals = signals
+signals_after p (Output stream bytes) signals = signals
+signals_after p Waits signals = signals
+signals_after p (Part moved) signals = signals
+signals_after p (Pipe value) signals = raised_at p SIGPIPE signals
+signals_after p Unsupported signals = signals
+
+-- what is shared after the answer of a call of a process
+abbrev pub shared_after : Shared → ℕ → Answer → Shared
+shared_after c p answer = record c { signals = signals_after p answer c.signals }
+
 -- the call of a number leaves this, and gives its answer
 abbrev pub left : Shared → Process → Machine → ℕ → Row → Effect
 left c own m number r =
-    answers (with_scene c r.next) (record own { caller = caller_after r.next.caller r.answer })
+    answers (shared_after (with_scene c r.next) own.caller.vpid r.answer) (record own { caller = caller_after r.next.caller r.answer })
     (record m { space = r.next.space }) number r.answer
 
 -- the call of a number, served by its row

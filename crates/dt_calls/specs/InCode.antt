@@ -1,20 +1,25 @@
 -- What the code has in hand, as the definitions see it with what its host keeps.
-use Rattle.std.specs.Prelude.{ℕ, List, [], ◌∷◌, Option, None, Some, IsSome}
+use Rattle.std.specs.Prelude.{◌≡◌, ℕ, List, [], ◌∷◌, Option, None, Some, IsSome}
 use Rattle.std.specs.Ordering.{nat_cmp}
 use Rattle.std.specs.FinMap.{FinMap, empty, entries, get, insert, remove}
+use Rattle.dt_base.specs.declared.answer.Answer.{Answer}
 use Rattle.dt_base.specs.declared.event.Event.{Event}
 use Rattle.dt_rv64.specs.declared.machine.Machine.{Machine}
 use Rattle.dt_fds.specs.OpenFiles.{pipes_at}
 use Rattle.dt_host.specs.World.{World}
 use Rattle.dt_procs.specs.Table.{members_of}
+use Rattle.dt_sigcalls.specs.Called.{Called}
 use Rattle.dt_tree.specs.Table.{tree_of}
 use Rattle.dt_calls.specs.declared.call.effect.Effect.{Effect as EffectInCode}
+use Rattle.dt_calls.specs.declared.call.effect.Outcome.{Outcome}
 use Rattle.dt_calls.specs.declared.container.Launch.{Launch}
 use Rattle.dt_calls.specs.declared.container.Served.{Served}
 use Rattle.dt_calls.specs.declared.shared.Process.{Process}
 use Rattle.dt_calls.specs.declared.shared.Shared.{Shared as SharedInCode}
-use Rattle.dt_calls.specs.Container.{Shared, Container, Machines}
+use Rattle.dt_calls.specs.Container.{Shared, Container, Machines, Signals}
 use Rattle.dt_calls.specs.Effect.{Effect}
+use Rattle.dt_calls.specs.Delivery.{Standing}
+use Rattle.dt_calls.specs.SignalCalls.{Back}
 use Rattle.dt_calls.specs.Launch.{Launched}
 use Rattle.dt_calls.specs.Settle.{Turned}
 
@@ -35,6 +40,7 @@ shared_of c w = record {
   rand = c.fs.rand;
   members = members_of c.pids;
   processes = c.processes;
+  signals = c.signals;
 }
 
 -- the machine of a place, or none
@@ -73,6 +79,25 @@ pub record Lives (c : ContainerView) (p : ℕ) : Type 0 where
 -- what serving a stop did
 abbrev pub effect_as : Shared → Process → Machine → EffectInCode → Effect
 effect_as c own m r = record { shared = c; own = own; machine = m; child = r.child; events = r.events.items; outcome = r.outcome }
+
+-- a call left the signal state of a process and its machine so, and gave its answer
+pub record CalledAt (r : Called) (p : ℕ) (before after : Signals) (old new : Machine) (given : Answer) : Type 0 where
+  pub signals : after ≡ insert before p r.signals
+  pub machine : new ≡ record old { space = r.pages }
+  pub answer : given ≡ r.answer
+
+-- likewise a return from a handler, and what becomes of the process
+pub record BackAt (b : Back) (p : ℕ) (before after : Signals) (new : Machine) (became : Outcome) : Type 0 where
+  pub signals : after ≡ insert before p b.signals
+  pub machine : new ≡ b.machine
+  pub outcome : became ≡ b.outcome
+
+-- a process after a delivery
+pub record DeliversAt (after : Standing) (p : ℕ) (before now : Signals) (part : Process) (new : Machine) (became : Outcome) : Type 0 where
+  pub signals : now ≡ insert before p after.signals
+  pub own : part ≡ after.own
+  pub machine : new ≡ after.machine
+  pub outcome : became ≡ after.outcome
 
 -- what launching came to
 abbrev pub launched_as : Container → Launch → Launched

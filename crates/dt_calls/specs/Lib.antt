@@ -6,7 +6,10 @@ pub mod Identity
 pub mod Clone
 pub mod Execve
 pub mod Wait
+pub mod Kill
+pub mod SignalCalls
 pub mod Call
+pub mod Delivery
 pub mod Settle
 pub mod Launch
 pub mod Sound

@@ -1,5 +1,5 @@
 -- What becomes of a process whose stop was served, and of its container.
-use Rattle.std.specs.Prelude.{ℕ, ◌+◌, ◌==◌, Bool, false, List, [], ◌∷◌, ◌++◌, map, Option, Some, None, option_map, if◌then◌else◌}
+use Rattle.std.specs.Prelude.{ℕ, ◌+◌, ◌==◌, Bool, false, List, [], ◌∷◌, ◌++◌, map, Option, Some, None, option_map, unwrap_or, if◌then◌else◌}
 use Rattle.std.specs.FinMap.{empty, get, insert, remove, keys}
 use Rattle.dt_base.specs.declared.event.End.{End}
 use Rattle.dt_base.specs.declared.event.End.TheVariants.{Signal}
@@ -15,11 +15,12 @@ use Rattle.dt_calls.specs.declared.call.effect.Outcome.{Outcome}
 use Rattle.dt_calls.specs.declared.call.effect.Outcome.TheVariants as outcome
 use Rattle.dt_calls.specs.declared.container.Served.{Served}
 use Rattle.dt_calls.specs.declared.container.Served.TheVariants.{Done, Child, LastChild, Blocked, Moved, Ended, Unsupported}
-use Rattle.dt_calls.specs.declared.numbers.TheConstants.{SIGKILL}
-use Rattle.dt_calls.specs.Container.{Shared, Container, Machines, process_at, with_process}
+use Rattle.dt_signals.specs.declared.numbers.TheConstants.{SIGKILL, SIGCHLD}
+use Rattle.dt_calls.specs.Container.{Shared, Container, Machines, Signals, process_at, with_process, raised_at}
 use Rattle.dt_calls.specs.Effect.{Effect}
 use Rattle.dt_calls.specs.Execve.{with_holding}
 use Rattle.dt_calls.specs.Call.{served}
+use Rattle.dt_calls.specs.Delivery.{after_delivery, forced_by}
 
 -- what is shared after a turn of a process, its machine if it lives on, the machine of a child that it made, what the turn
 -- showed, and what became of the process
@@ -36,9 +37,18 @@ let_go p c =
     let left = with_holding c (dropped p (over c.tree c.pipes c.files)) in
     record left { tree = released left.tree (process_at c p).caller.cwd }
 
--- a process ends: its part goes, its children go to the first process, and its end is kept until it is reaped
+-- the signal states after the end of a process: its own goes, and SIGCHLD is pending at its parent, if that lives
+abbrev pub signals_without : ℕ → Shared → Signals
+signals_without p c = raised_at (unwrap_or (members.parent_of c.members p) 0) SIGCHLD (remove c.signals p)
+
+-- a process ends: its part and its signal state go, its parent is told, its children go to the first process, and its end is
+-- kept until it is reaped
 unfoldable pub ends_one : ℕ → End → Shared → Shared
-ends_one p end c = record (let_go p c) { processes = remove c.processes p; members = members.ended p end c.members }
+ends_one p end c = record (let_go p c) {
+  processes = remove c.processes p;
+  signals = signals_without p c;
+  members = members.ended p end c.members;
+}
 
 -- these processes are killed, one after the other
 unfoldable pub kills_each : List ℕ → Shared → Shared
@@ -110,9 +120,11 @@ settled_by next p r (outcome.Unsupported number) = record {
 unfoldable pub settle : ℕ → ℕ → Effect → Settled
 settle next p r = settled_by next p r r.outcome
 
--- a stop of a process with this machine is served, and what becomes of it is settled; a call that waits or goes on is served again
+-- a stop of a process with this machine is served, a signal is delivered, and what becomes of the process is settled; a call
+-- that waits or goes on is served again
 unfoldable pub serve_machine : Shared → ℕ → ℕ → Stop → Machine → Settled
-serve_machine c next p stop m = settle next p (served c next (process_at c p) m stop)
+serve_machine c next p stop m =
+    settle next p (after_delivery (forced_by stop) (served c next (process_at c p) m stop))
 
 -- whether all processes have ended
 abbrev pub all_ended : ℕ → Served → Bool

@@ -18,7 +18,7 @@ use Rattle.dt_calls.specs.declared.shared.Shared.{Shared}
 use Rattle.dt_calls.specs.declared.shared.Process.{Process}
 use Rattle.dt_rv64.specs.declared.machine.Machine.{Machine}
 use Rattle.dt_calls.specs.declared.call.effect.Effect.{Effect as EffectInCode}
-use Rattle.dt_calls.specs.Container.{Processes}
+use Rattle.dt_calls.specs.Container.{Processes, Signals}
 use Rattle.dt_calls.specs.Effect.{Effect}
 use Rattle.dt_calls.specs.InCode.{ContainerView, shared_of, effect_as}
 use Rattle.dt_calls.specs.Settle.{next_after}
@@ -30,7 +30,7 @@ directories_of processes n = total (λ (own : Process). one_for own.caller.cwd n
 -- the table of the tree stands for it, with the host's nodes, those of the pipes and of the processes for theirs; what
 -- is open is in the tree, and the working directory of each live process is a directory of it; each node is held once for each
 -- description and each working directory that names it; each part of a process stands under its pid, which was given before,
--- and the process lives; and no pid that is still to be given has descriptors
+-- and the process lives and has a signal state; and no pid that is still to be given has descriptors
 pub record IsSound (c : Shared) (w : World) : Type 0 where
   pub stands : Stands c.fs.tree w.forest
   pub pids : procs.Stands c.pids w.pids
@@ -41,6 +41,7 @@ pub record IsSound (c : Shared) (w : World) : Type 0 where
   pub named : (p : ℕ) → IfSome (get c.processes p) (λ own. own.caller.vpid ≡ p)
   pub given : (p : ℕ) → IsSome (get c.processes p) → p < c.pids.next
   pub lives : (p : ℕ) → IsSome (get c.processes p) → lives (members_of c.pids) p ≡ true
+  pub signalled : (p : ℕ) → IsSome (get c.processes p) → IsSome (get c.signals p)
   pub fresh : (p : ℕ) → c.pids.next ≤ p → get c.fs.files.descriptors.tables p ≡ None
 
 -- each place for a machine is one of a live process
@@ -52,6 +53,10 @@ pub record IsSoundContainer (c : ContainerView) (w : World) : Type 0 where
   pub shared : IsSound c.shared w
   pub paired : IsPaired c
   pub few : length (keys c.places) ≤ PROCESS_LIMIT
+
+-- each process that has a signal state has one still
+abbrev pub StillSignalled : Signals → Signals → Type 0
+StillSignalled before after = (p : ℕ) → IsSome (get before p) → IsSome (get after p)
 
 -- what a call has in hand: what is shared, the part of the process that makes it, and what the host keeps
 pub record Hand : Type 0 where

@@ -4,6 +4,7 @@ ghost use Rattle.std.specs.FinMap.{get};
 ghost use Rattle.dt_base.specs.declared.limits.TheConstants.{SEGMENT_LIMIT};
 ghost use Rattle.dt_rv64.specs.Segment.{segment_of};
 ghost use Rattle.dt_calls.specs.Call.{served};
+ghost use Rattle.dt_calls.specs.Delivery.{after_delivery, forced_by};
 ghost use Rattle.dt_calls.specs.InCode.{home_of, shared_of};
 ghost use Rattle.dt_calls.specs.AtHome.{RunsAt, ServesAt};
 ghost use Rattle.dt_calls.specs.Sound.{IsSoundHand, Serves, hand};
@@ -43,7 +44,8 @@ pub(crate) fn serve_at<H: Host>(
     requires sound { IsSoundHand (hand shared.old own.old (H.view host.old)) }
     requires home { IsSome (get (home_of places.old) vpid) }
     ensures { ServesAt
-        (λ m. served (shared_of shared.old (H.view host.old)) shared.old.pids.next own.old m stop)
+        (λ m. after_delivery (forced_by stop)
+        (served (shared_of shared.old (H.view host.old)) shared.old.pids.next own.old m stop))
         (hand shared.old own.old (H.view host.old)) (hand shared.new own.new (H.view host.new))
         places.old places.new vpid result (H.count host.old) (H.count host.new) }
 {
@@ -82,7 +84,8 @@ fn serve_in<H: Host>(
     requires some { IsSome place.old }
     ensures stays { IsSome place.new }
     ensures served { IfSome place.old (λ was. IfSome place.new (λ now. Serves
-        (served (shared_of shared.old (H.view host.old)) shared.old.pids.next own.old was stop)
+        (after_delivery (forced_by stop)
+        (served (shared_of shared.old (H.view host.old)) shared.old.pids.next own.old was stop))
         (hand shared.old own.old (H.view host.old)) (hand shared.new own.new (H.view host.new)) now result
         (H.count host.old) (H.count host.new))) }
 {

@@ -1,7 +1,8 @@
 // The system calls, by their numbers.
 ghost use Rattle.std.specs.Prelude.{◌≡◌};
 ghost use Rattle.dt_rv64.specs.Effects.{register};
-ghost use Rattle.dt_calls.specs.Call.{served, call_of, memory_call, identity_call};
+ghost use Rattle.dt_calls.specs.Call.{served, call_of, memory_call, identity_call, signal_call};
+ghost use Rattle.dt_calls.specs.Delivery.{after_delivery, forced_by};
 ghost use Rattle.dt_calls.specs.InCode.{shared_of};
 ghost use Rattle.dt_calls.specs.Sound.{IsSoundHand, Serves, hand};
 
@@ -11,25 +12,55 @@ mod execve;
 mod exit;
 mod files;
 mod identity;
+mod kill;
 mod memory;
+mod signals;
 mod wait;
 
+use crate::delivery::{deliver_at, forced_by};
 use crate::numbers::{
-    CLONE, EXECVE, GETEGID, GETEUID, GETGID, GETPID, GETPPID, GETTID, GETUID, MADVISE, MREMAP,
-    PRLIMIT64, RSEQ, SCHED_YIELD, SET_ROBUST_LIST, SET_TID_ADDRESS, STATX, UNAME, WAIT4,
+    CLONE, EXECVE, GETEGID, GETEUID, GETGID, GETPID, GETPPID, GETTID, GETUID, KILL, MADVISE,
+    MREMAP, PRLIMIT64, RSEQ, RT_SIGACTION, RT_SIGPROCMASK, RT_SIGRETURN, SCHED_YIELD,
+    SET_ROBUST_LIST, SET_TID_ADDRESS, STATX, TGKILL, TKILL, UNAME, WAIT4,
 };
 use crate::shared::{Process, Shared};
+use dt_base::Errno;
 use dt_base::abi::{A7, BRK, EXIT, EXIT_GROUP, MMAP, MPROTECT, MUNMAP};
-use dt_base::{End, Errno};
 use dt_host::{Host, HostErr};
 use dt_rv64::{Machine, Stop};
 pub use effect::{Effect, Outcome};
 use std::alloc::Global;
 
-/// Serves a stop: a call by its number, a counter by the logical time, a fault by the end of the process, the end of a
-/// slice by nothing.
-#[tactic(auto, unfolding(crate::specs::Call::served))]
+/// Serves a stop, and delivers a signal to the process where there is one: that of a fault, or a pending one.
 pub fn serve<H: Host>(
+    alloc: Global,
+    host: &mut H,
+    shared: &mut Shared,
+    own: &mut Process,
+    machine: &mut Machine,
+    stop: Stop,
+) -> Result<Effect, HostErr>
+    requires { IsSoundHand (hand shared.old own.old (H.view host.old)) }
+    ensures { Serves (after_delivery (forced_by stop)
+        (served (shared_of shared.old (H.view host.old)) shared.old.pids.next own.old machine.old stop))
+        (hand shared.old own.old (H.view host.old)) (hand shared.new own.new (H.view host.new)) machine.new result
+        (H.count host.old) (H.count host.new) }
+{
+    let mut effect = serve_stop(alloc, host, shared, own, machine, stop)?;
+    let forced = forced_by(stop);
+    deliver_at(
+        &mut shared.signals,
+        own,
+        machine,
+        forced,
+        &mut effect.outcome,
+    );
+    Ok(effect)
+}
+
+// Serves a stop: a call by its number, a counter by the logical time, a fault and the end of a slice by nothing.
+#[tactic(auto, unfolding(crate::specs::Call::served))]
+fn serve_stop<H: Host>(
     alloc: Global,
     host: &mut H,
     shared: &mut Shared,
@@ -46,8 +77,7 @@ pub fn serve<H: Host>(
     match stop {
         Stop::Call => call(alloc, host, shared, own, machine),
         Stop::Counter(rd) => Ok(exit::read_counter(alloc, shared, machine, rd)),
-        Stop::Fault(signal) => Ok(Effect::quiet(alloc, Outcome::Ends(End::Signal(signal)))),
-        Stop::Slice => Ok(Effect::quiet(alloc, Outcome::Done)),
+        Stop::Fault(_) | Stop::Slice => Ok(Effect::quiet(alloc, Outcome::Done)),
     }
 }
 
@@ -101,7 +131,7 @@ fn memory_call<H: Host>(
     }
 }
 
-// Serves a call that tells a process who it is or does nothing, or one on files, time or random bytes.
+// Serves a call that tells a process who it is or does nothing, or another one.
 #[tactic(auto, unfolding(crate::specs::Call::identity_call))]
 fn identity_call<H: Host>(
     alloc: Global,
@@ -128,6 +158,33 @@ fn identity_call<H: Host>(
             machine,
             Errno::NoSys,
         )),
+        _ => signal_call(alloc, host, shared, own, machine, number),
+    }
+}
+
+// Serves a call on signals, or one on files, time or random bytes.
+#[tactic(auto, unfolding(crate::specs::Call::signal_call))]
+fn signal_call<H: Host>(
+    alloc: Global,
+    host: &mut H,
+    shared: &mut Shared,
+    own: &mut Process,
+    machine: &mut Machine,
+    number: u64,
+) -> Result<Effect, HostErr>
+    requires { IsSoundHand (hand shared.old own.old (H.view host.old)) }
+    ensures { Serves (signal_call number (shared_of shared.old (H.view host.old)) own.old machine.old)
+        (hand shared.old own.old (H.view host.old)) (hand shared.new own.new (H.view host.new)) machine.new result
+        (H.count host.old) (H.count host.new) }
+{
+    let _before = host.faults();
+    match number {
+        KILL => Ok(kill::kill(alloc, shared, machine)),
+        TKILL => Ok(kill::tkill(alloc, shared, machine)),
+        TGKILL => Ok(kill::tgkill(alloc, shared, machine)),
+        RT_SIGACTION => Ok(signals::rt_sigaction(alloc, shared, own, machine)?),
+        RT_SIGPROCMASK => Ok(signals::rt_sigprocmask(alloc, shared, own, machine)?),
+        RT_SIGRETURN => Ok(signals::rt_sigreturn(alloc, shared, own, machine)),
         _ => files::call(alloc, host, shared, own, machine, number),
     }
 }

@@ -7,11 +7,11 @@ ghost use Rattle.dt_calls.specs.Settle.{ends_one, kills_each, kills_shown, ends,
 ghost use Rattle.dt_calls.specs.InCode.{shared_of};
 ghost use Rattle.dt_calls.specs.Sound.{IsSound};
 
-use crate::numbers::SIGKILL;
 use crate::shared::Shared;
 use dt_base::{End, Event, NoMemory};
 use dt_host::{Host, HostErr};
 use dt_procs::FIRST_PID;
+use dt_signals::numbers::{SIGCHLD, SIGKILL};
 
 impl Shared {
     /// Ends a process, and after the first one all others that live: what each has open is closed, it holds its working
@@ -62,10 +62,13 @@ impl Shared {
     {
         let _before = host.faults();
         let own = self.process(vpid);
+        let parent = self.pids.parent(vpid).unwrap_or(0);
         self.fs.files.drop_all(host, &mut self.fs.tree, vpid)?;
         self.fs.tree.release(host, own.caller.cwd)?;
         self.processes.take(u64::from(vpid));
+        self.signals.take(u64::from(vpid));
         self.pids.ended(vpid, end);
+        self.raise(parent, SIGCHLD);
         Ok(())
     }
 

@@ -5,9 +5,11 @@
 mod at_home;
 mod call;
 mod container;
+mod delivery;
 mod ending;
 pub mod numbers;
 mod settling;
 mod shared;
+mod signals;
 
 pub use container::{Container, Launch, Served};

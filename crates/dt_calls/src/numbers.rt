@@ -3,9 +3,6 @@
 /// The permission bits that the first process's new nodes are not given (umask(2)).
 pub const FIRST_UMASK: u32 = 0o022;
 
-/// The signal that ends a process whatever it does (signal(7)).
-pub const SIGKILL: u8 = 9;
-
 /// set_tid_address(2)
 pub const SET_TID_ADDRESS: u64 = 96;
 
@@ -14,6 +11,24 @@ pub const SET_ROBUST_LIST: u64 = 99;
 
 /// sched_yield(2)
 pub const SCHED_YIELD: u64 = 124;
+
+/// kill(2)
+pub const KILL: u64 = 129;
+
+/// tkill(2)
+pub const TKILL: u64 = 130;
+
+/// tgkill(2)
+pub const TGKILL: u64 = 131;
+
+/// rt_sigaction(2)
+pub const RT_SIGACTION: u64 = 134;
+
+/// rt_sigprocmask(2)
+pub const RT_SIGPROCMASK: u64 = 135;
+
+/// rt_sigreturn(2)
+pub const RT_SIGRETURN: u64 = 139;
 
 /// uname(2)
 pub const UNAME: u64 = 160;
@@ -65,9 +80,6 @@ pub const RSEQ: u64 = 293;
 
 /// The bits of clone's flags that name the signal at the child's end (clone(2), CSIGNAL).
 pub const CSIGNAL: u64 = 0xff;
-
-/// The signal at a child's end (signal(7)).
-pub const SIGCHLD: u64 = 17;
 
 /// The child's pid goes to an address in the parent (clone(2)).
 pub const CLONE_PARENT_SETTID: u64 = 0x10_0000;

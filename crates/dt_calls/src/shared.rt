@@ -18,6 +18,7 @@ use dt_mcalls::Break;
 use dt_numbered::Numbered;
 use dt_procs::{FIRST_PID, Pids};
 use dt_scene::Fs;
+use dt_signals::Sig;
 use dt_tree::{ROOT, Tree};
 use dt_virt::{Clock, Rand};
 use std::alloc::Global;
@@ -32,12 +33,13 @@ pub struct Process {
 }
 
 /// All of a container but the machines of its processes: the file tree, the open files, the logical time and the seed's
-/// words, the processes as their kin see them, and the part of each that lives.
+/// words, the processes as their kin see them, and the part and the signal state of each that lives.
 #[derive(Drop)]
 pub struct Shared {
     pub fs: Fs,
     pub pids: Pids,
     pub processes: Numbered<Process>,
+    pub signals: Numbered<Sig>,
 }
 
 impl Process {
@@ -81,6 +83,8 @@ impl Shared {
         let pids = Pids::first(alloc, host)?;
         let mut processes = Numbered::new(alloc);
         processes.put(u64::from(FIRST_PID), Process::first())?;
+        let mut signals = Numbered::new(alloc);
+        signals.put(u64::from(FIRST_PID), Sig::new())?;
         Ok(Shared {
             fs: Fs {
                 tree,
@@ -90,6 +94,7 @@ impl Shared {
             },
             pids,
             processes,
+            signals,
         })
     }
 

@@ -8,3 +8,4 @@ pub mod Ending
 pub mod Piped
 pub mod Unnamed
 pub mod Piping
+pub mod Moving

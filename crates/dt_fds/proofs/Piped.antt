@@ -3,7 +3,7 @@ use Rattle.std.proofs.Common.{arith, ◌≡◌, ℕ, zero, suc, ◌≤◌, ◌==
 use Rattle.std.specs.Prelude.{IfOk, Result, Ok, Err, min}
 use Rattle.std.proofs.lemmas.Bool.Decides.{nat_tests}
 use Rattle.std.proofs.lemmas.List.{take_min, length-take}
-use Rattle.dt_host.specs.World.{World, Forest}
+use Rattle.dt_host.specs.World.{World}
 use Rattle.dt_tree.specs.FileTree.{FileTree, holds_of}
 use Rattle.dt_tree.specs.Table.{Table, Stands, tree_of}
 use Rattle.dt_pipes.specs.Table as pipes

@@ -241,3 +241,19 @@ write_by h bytes count (Some desc) = write_to h desc.nonblock bytes count (write
 -- write(2) of these bytes to a pipe, of which so many are done: EBADF where the descriptor is not of an end that is written to
 unfoldable pub pipe_write_call : ℕ → ℕ → List ℕ → ℕ → Holding → Outcome Flow
 pipe_write_call p fd bytes count h = write_by h bytes count (description_at h.files p fd)
+
+-- how many bytes a write to a pipe moves now, if there is one, of so many of which some are done; none where nobody reads it
+abbrev pub goes_to : Descriptions → Pipes → ℕ → ℕ → Option ℕ → ℕ
+goes_to f pipes whole count None = 0
+goes_to f pipes whole count (Some q) =
+    if readers f q == 0 then 0 else goes (length (content pipes q)) whole count
+
+-- the same by what a descriptor refers to
+abbrev pub goes_by : Descriptions → Pipes → ℕ → ℕ → Option Desc → ℕ
+goes_by f pipes whole count None = 0
+goes_by f pipes whole count (Some desc) = goes_to f pipes whole count (write_pipe desc.kind)
+
+-- how many bytes write(2) of so many, of which some are done, moves now to a pipe; none where the descriptor is not of an
+-- end that is written to
+unfoldable pub pipe_moves : ℕ → ℕ → ℕ → ℕ → Descriptions → Pipes → ℕ
+pipe_moves p fd whole count f pipes = goes_by f pipes whole count (description_at f p fd)

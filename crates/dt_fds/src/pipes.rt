@@ -1,5 +1,5 @@
 // Pipes: their making, and what is read from them and written to them.
-ghost use Rattle.std.specs.Prelude.{◌≡◌, ◌+◌, ◌<◌, ◌≤◌, ◌++◌, None, Err, IfOk, IfSome, IsErrOf, IsSome, drop, length};
+ghost use Rattle.std.specs.Prelude.{◌≡◌, ◌+◌, ◌<◌, ◌≤◌, ◌++◌, ℕ, List, None, Err, IfOk, IfSome, IsErrOf, IsSome, drop, length, take};
 ghost use Rattle.std.specs.FinMap.{get};
 ghost use Rattle.dt_base.specs.declared.errno.Errno.{Errno};
 ghost use Rattle.dt_host.specs.Cause.{HasCause};
@@ -15,7 +15,7 @@ ghost use Rattle.dt_fds.specs.Ends.{is_read, is_written, one_if};
 ghost use Rattle.dt_fds.specs.OpenFiles.{pipes_at};
 ghost use Rattle.dt_fds.specs.Pipes.{none_held, goes, write_flow, pipe_at, held_at};
 ghost use Rattle.dt_fds.specs.Holding.{pipe_call, pipe_read_call, pipe_write_call, bytes_read, with_pipe};
-ghost use Rattle.dt_fds.specs.Holding.{read_end, write_end};
+ghost use Rattle.dt_fds.specs.Holding.{pipe_moves, read_end, write_end};
 ghost use Rattle.dt_fds.specs.Backs.{HasEnds, HasFailed, IsBacked, IsPiped, Leaves, Makes, at, holding};
 ghost use Rattle.dt_fds.specs.inner.Ends.{end_by, as_call};
 
@@ -148,7 +148,6 @@ impl Files {
     /// at once or not at all, of more as many as have room. Where no more can be moved now: EAGAIN, or what was
     /// moved, where calls don't wait; else it waits, or goes on where some were moved now. It is over where nobody
     /// reads. EBADF where the descriptor is not of an end that is written to.
-    #[tactic(auto, unfolding(crate::specs::Holding::pipe_write_call))]
     pub fn pipe_write<H: Host>(
         &mut self,
         host: &mut H,
@@ -165,6 +164,56 @@ impl Files {
         ensures only { OnlyPipes (H.view host.old) (H.view host.new) }
         ensures cause { HasCause (H.count host.old) (H.count host.new) (HasFailed result) }
     {
+        let whole = bytes.len() as u64;
+        let moved = self.pipe_moves(pid, fd, whole, done);
+        let (_, rest) = bytes.split_at(done as usize);
+        let (piece, _) = rest.split_at(moved as usize);
+        self.pipe_write_part(host, pid, fd, whole, done, piece)
+    }
+
+    /// How many bytes `pipe_write` of `whole` bytes would move now, of which `done` were moved before (pipe(7)). None
+    /// where the descriptor is not of an end that is written to, or nobody reads.
+    pub fn pipe_moves(&self, pid: u32, fd: u32, whole: u64, done: u64) -> u64
+        requires ends { HasEnds self.now }
+        requires within { done ≤ whole }
+        ensures value { (pipes : HostPipes) → IsPiped self.now pipes
+            → result ≡ pipe_moves pid fd whole done self.now.descriptors (pipes_at self.now pipes) }
+        ensures left { done + result ≤ whole }
+        ensures few { result ≤ PIPE_LIMIT }
+    {
+        let Some((q, _)) = self.writes_to(pid, fd) else {
+            return 0;
+        };
+        if !self.is_read(q) {
+            return 0;
+        }
+        goes(self.pipes.held(q) as u64, whole, done)
+    }
+
+    /// As `pipe_write` of `whole` bytes, of which only the piece is handed in that moves now: as many as `pipe_moves`
+    /// tells, from the offset `done` on. So a write that waits or goes on needs no copy of all its bytes. The errors
+    /// are those of `pipe_write` (write(2)).
+    #[tactic(auto, unfolding(crate::specs::Holding::pipe_write_call))]
+    pub fn pipe_write_part<H: Host>(
+        &mut self,
+        host: &mut H,
+        pid: u32,
+        fd: u32,
+        whole: u64,
+        done: u64,
+        piece: &[u8],
+    ) -> Result<Flow, CallErr>
+        requires piped { IsPiped self.old (H.view host.old).pipes }
+        requires within { done ≤ whole }
+        requires moves { length piece.now ≡ pipe_moves pid fd whole done self.old.descriptors
+            (pipes_at self.old (H.view host.old).pipes) }
+        ensures makes { (table : Table) → (bytes : List ℕ) → IsBacked (at self.old table (H.view host.old))
+            → length bytes ≡ whole → take (length piece.now) (drop done bytes) ≡ piece.now
+            → Makes pid (pipe_write_call pid fd bytes done) (at self.old table (H.view host.old))
+            (at self.new table (H.view host.new)) result (H.count host.old) (H.count host.new) }
+        ensures only { OnlyPipes (H.view host.old) (H.view host.new) }
+        ensures cause { HasCause (H.count host.old) (H.count host.new) (HasFailed result) }
+    {
         let _before = host.faults();
         let Some((q, nonblock)) = self.writes_to(pid, fd) else {
             return Err(CallErr::Errno(Errno::BadF));
@@ -172,12 +221,8 @@ impl Files {
         if !self.is_read(q) {
             return Ok(Flow::Broken(done));
         }
-        let whole = bytes.len() as u64;
-        let moved = goes(self.pipes.held(q) as u64, whole, done);
-        let (_, rest) = bytes.split_at(done as usize);
-        let (piece, _) = rest.split_at(moved as usize);
         self.pipes.put(host, q, piece)?;
-        write_flow(whole, done, moved, nonblock)
+        write_flow(whole, done, piece.len() as u64, nonblock)
     }
 
     /// How many bytes the pipe holds of which a descriptor is an end; 0 where it is of none.
@@ -290,13 +335,12 @@ fn none_held(written: bool, nonblock: bool) -> Result<Flow, CallErr>
 
 // How many bytes a write moves now.
 fn goes(count: u64, whole: u64, done: u64) -> u64
-    requires count { count ≤ PIPE_LIMIT }
-    requires done { done ≤ whole }
+    requires { done ≤ whole }
     ensures value { result ≡ goes count whole done }
-    ensures within { result + done ≤ whole }
-    ensures room { result + count ≤ PIPE_LIMIT }
+    ensures within { done + result ≤ whole }
+    ensures room { result ≤ PIPE_LIMIT }
 {
-    let room = PIPE_LIMIT - count;
+    let room = PIPE_LIMIT.saturating_sub(count);
     let left = whole - done;
     if whole > PIPE_BUF {
         left.min(room)

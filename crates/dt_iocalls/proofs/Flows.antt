@@ -1,10 +1,9 @@
 -- Reads and writes of pipes, as the calls serve them.
-use Rattle.std.proofs.Common.{arith, ◌≡◌, ℕ, zero, suc, ◌≤◌, ◌==◌, ◌++◌, false, List, [], ◌∷◌, length, take, drop, Option, None, Some, Result, Ok, Err, refl, sym, ap, ◌∙◌}
-use Rattle.std.specs.Prelude.{Bool, IfOk, IfSome, IsSome, min, option_map, unwrap_or, if◌then◌else◌}
+use Rattle.std.proofs.Common.{arith, ◌≡◌, ℕ, zero, suc, ◌≤◌, ◌==◌, ◌++◌, false, List, [], ◌∷◌, length, take, drop, Option, None, Some, Result, Ok, Err, refl, sym, ap, subst, ◌∙◌}
+use Rattle.std.specs.Prelude.{Bool, IfOk, IfSome, IsOk, min, option_map, unwrap_or, if◌then◌else◌}
 use Rattle.std.proofs.lemmas.List.{take_min, length-take, drop_all, append-nil}
 use Rattle.dt_base.specs.declared.answer.Answer.{Answer}
 use Rattle.dt_base.specs.declared.caller.Caller.{Caller}
-use Rattle.std.specs.FinMap.{get}
 use Rattle.dt_base.specs.declared.errno.Errno.{Errno}
 use Rattle.dt_base.specs.declared.errno.Errno.TheVariants.{Fault as BadAddress}
 use Rattle.dt_fds.specs.declared.desc.Desc.{Desc}
@@ -14,17 +13,16 @@ use Rattle.dt_fds.specs.declared.files.Files.{Files}
 use Rattle.dt_fds.specs.declared.flow.Flow.{Flow}
 use Rattle.dt_fds.specs.declared.flow.Flow.TheVariants.{Moved}
 use Rattle.dt_fds.specs.Backs as holds
-use Rattle.dt_fds.specs.Backs.{Does, HasEnds, IsBacked, IsPiped, KeepsOthers as KeepsHolds, Makes, OnlyFiles, at}
+use Rattle.dt_fds.specs.Backs.{Does, IsBacked, KeepsOthers as KeepsHolds, Makes, OnlyFiles, at}
 use Rattle.dt_fds.specs.Descriptions.{description_at, pipe_of, read_pipe, table_of, two_free, write_pipe, writers}
 use Rattle.dt_fds.specs.Holding.{Holding, Outcome, done, read_of, read_from, read_by, held_by, pipe_read_call, bytes_read, with_ends, with_pipe, pipe_call}
 use Rattle.dt_fds.proofs.Piped.{no_zero}
 use Rattle.dt_fds.specs.Pipes.{Pipes, content, held_at, holds as now_holds, none_held}
-use Rattle.dt_host.specs.World as host
 use Rattle.dt_host.specs.World.{World}
+use Rattle.dt_host.specs.declared.error.HostErr.{HostErr}
+use Rattle.dt_host.specs.declared.error.HostErr.TheVariants.{Failed, NoMemory}
 use Rattle.dt_host.specs.declared.error.CallErr.{CallErr}
 use Rattle.dt_host.specs.declared.error.CallErr.TheVariants.{Errno as is_refused, Host as has_failed}
-use Rattle.dt_pipes.specs.Table.{pipes_of}
-use Rattle.dt_pipes.proofs.Held.{has-pipes_of}
 use Rattle.dt_space.specs.declared.access.Miss.{Miss}
 use Rattle.dt_space.specs.Space.{PageView}
 use Rattle.dt_tree.specs.Table.{Table}
@@ -35,7 +33,8 @@ use Rattle.dt_scene.specs.Sound.{Stage, Sound, Reaches, stage, scene}
 use Rattle.dt_scene.proofs.Kept.{sound_held, others_held}
 use Rattle.dt_iocalls.specs.declared.ranges.Range.{Range}
 use Rattle.dt_iocalls.specs.Piping.{flow_answer, by_flow}
-use Rattle.dt_iocalls.specs.Ranges.{total_len, scattered}
+use Rattle.dt_iocalls.specs.Ranges.{total_len, gathered, scattered}
+use Rattle.dt_iocalls.specs.Writing.{on_bytes}
 use Rattle.dt_iocalls.specs.Reading.{pipe_filled, reads_pipe}
 use Rattle.dt_iocalls.specs.inner.Answered.{answered}
 
@@ -63,18 +62,6 @@ reaches_still defined g answer before now sound later is = record {
   rest = refl;
   cause = record { later = later; rose = λ failed. cc };
 }
-
--- the pipe of each end that is open is in the table
-pub has_ends : (f : Files) (host : host.Pipes) → IsPiped f host → HasEnds f
-has_ends f host piped k = by-found (get f.descriptors.descs k) (piped.there k)
-  where
-    by-pipe : (pipe : Option ℕ) → IfSome pipe (λ q. IsSome (get (pipes_of f.pipes host) q)) → IfSome pipe (λ q. IsSome (get f.pipes.pipes q))
-    by-pipe None there = tt
-    by-pipe (Some q) there = sym (has-pipes_of f.pipes host q) ∙ there
-
-    by-found : (found : Option Desc) → IfSome found (λ desc. IfSome (pipe_of desc.kind) (λ q. IsSome (get (pipes_of f.pipes host) q))) → IfSome found (λ desc. IfSome (pipe_of desc.kind) (λ q. IsSome (get f.pipes.pipes q)))
-    by-found None there = tt
-    by-found (Some desc) there = by-pipe (pipe_of desc.kind) there
 
 -- how much the pipe holds of which a description is an end that is read from
 held-kind : (pipes : Pipes) (kind : DescKind) → write_pipe kind ≡ None → length (unwrap_or (option_map (content pipes) (pipe_of kind)) []) ≡ length (unwrap_or (option_map (content pipes) (read_pipe kind)) [])
@@ -217,7 +204,27 @@ reaches_made old files w v caller space pages call (Err (is_refused errno)) answ
     (ap (by_flow s) makes.made ∙ ap (λ a. record { next = with_holding new s; answer = a }) same)
 reaches_made old files w v caller space pages call (Err (has_failed error)) answer before now sound makes is = absurd cc
 
-pub ruleset made = (reaches_made)
+-- the same, also where the host failed
+module _ (old : Fs) (files : Files) (w v : World) (caller : Caller) (space : List PageView) (call : Holding → Outcome Flow) (before now : ℕ) (sound : Sound (stage old w caller space)) where
+  abbrev FlowsTo : Result Answer HostErr → Type 0
+  FlowsTo result = Reaches (by_flow (scene (stage old w caller space)) (call (holds.holding (at old.files old.tree w)))) (stage old w caller space) (stage (record { tree = old.tree; files = files; clock = old.clock; rand = old.rand }) v caller space) result before now
+
+  by-result : (r : Result Flow CallErr) → Makes caller.vpid call (at old.files old.tree w) (at files old.tree v) r before now → FlowsTo (answered r)
+  by-result (Ok flow) makes = reaches_made old files w v caller space space call (Ok flow) (flow_answer (Ok flow)) before now sound makes refl
+  by-result (Err (is_refused errno)) makes = reaches_made old files w v caller space space call (Err (is_refused errno)) (flow_answer (Err errno)) before now sound makes refl
+  by-result (Err (has_failed Failed)) makes = record { served = tt; sound = tt; others = tt; rest = makes.rest; cause = record { later = makes.cause.later; rose = λ failed. makes.cause.rose tt } }
+  by-result (Err (has_failed NoMemory)) makes = record { served = tt; sound = tt; others = tt; rest = makes.rest; cause = record { later = makes.cause.later; rose = λ failed. absurd cc } }
+
+  pub reaches_flow : (r : Result Flow CallErr) (result : Result Answer HostErr) → Makes caller.vpid call (at old.files old.tree w) (at files old.tree v) r before now → result ≡ answered r → FlowsTo result
+  reaches_flow r result makes is = subst FlowsTo (sym is) (by-result r makes)
+
+-- a row for the bytes of ranges that may be read
+pub reaches_gathered : (row : List ℕ → Row) (s : Scene) (ranges : List Range) (old new : Stage) (result : Result Answer HostErr) (before now : ℕ) → IsOk (gathered s.space ranges) → ((bytes : List ℕ) → gathered s.space ranges ≡ Ok bytes → Reaches (row bytes) old new result before now) → Reaches (on_bytes s (gathered s.space ranges) row) old new result before now
+reaches_gathered row s ranges old new result before now ok reaches = by-found (gathered s.space ranges) refl ok
+  where
+    by-found : (found : Result (List ℕ) Miss) → gathered s.space ranges ≡ found → IsOk found → Reaches (on_bytes s found row) old new result before now
+    by-found (Ok bytes) is ok = reaches bytes is
+    by-found (Err miss) is ok = absurd cc
 
 -- a buffer that takes as much as comes from a pipe has just that then
 pub came-whole : (p fd most held : ℕ) (h new : Holding) (before after : List ℕ) (r : Result Flow CallErr) (answer : Answer) → IfSome (description_at h.files p fd) (λ desc. write_pipe desc.kind ≡ None) → held ≡ length (held_at h.pipes (description_at h.files p fd)) → length before ≡ min held most → answered r ≡ Ok answer → Does r new (pipe_read_call p fd (length before) h) → IfOk r (λ _. after ≡ bytes_read p fd (length before) h ++ drop (length (bytes_read p fd (length before) h)) before) → ((errno : Errno) → r ≡ Err (is_refused errno) → after ≡ before) → after ≡ bytes_read p fd most h

@@ -1,6 +1,7 @@
 pub mod Scenes
 pub mod Vectors
 pub mod Scattering
+pub mod Pieces
 pub mod Described
 pub mod Parts
 pub mod Left

@@ -83,7 +83,7 @@ scattered-looked pages (range ∷ ranges) bytes =
     (scattered-looked new ranges (drop range.len bytes)))
 
 -- the ranges from an index on
-from-index : (ranges : List Range) (i : ℕ) (d : Range) → i < length ranges → drop i ranges ≡ get_or ranges i d ∷ drop (i + 1) ranges
+pub from-index : (ranges : List Range) (i : ℕ) (d : Range) → i < length ranges → drop i ranges ≡ get_or ranges i d ∷ drop (i + 1) ranges
 from-index ranges i d within = rw (add-one, drop-cons ranges i d within) refl
 
 -- a look at one range more

@@ -1,2 +1,3 @@
 -- Words that only proofs and private contracts cite.
 pub mod Answered
+pub mod Written

@@ -123,6 +123,49 @@ pub(crate) fn gather(alloc: Global, space: &Space, ranges: &[Range]) -> Result<V
     Ok(bytes)
 }
 
+// Whether each byte of ranges may be read; else the first miss.
+#[tactic(auto, unfolding(crate::specs::Ranges::gathered))]
+pub(crate) fn readable(space: &Space, ranges: &[Range]) -> Result<(), Miss>
+    ensures { MatchResult result
+        (λ _. IsOk (gathered space.now ranges.now))
+        (λ miss. gathered space.now ranges.now ≡ Err miss) }
+{
+    for range in ranges {
+        if let Err(miss) = space.readable(range.address, range.len) {
+            return Err(miss);
+        }
+    }
+    Ok(())
+}
+
+// So many bytes of ranges that may be read, from an offset into all of their bytes on. No others are copied.
+pub(crate) fn gather_piece(
+    alloc: Global,
+    space: &Space,
+    ranges: &[Range],
+    offset: u64,
+    count: u64,
+) -> Result<Vec<u8>, NoMemory>
+    requires { IsOk (gathered space.now ranges.now) }
+    ensures { IfOk result (λ piece. IfOk (gathered space.now ranges.now)
+        (λ bytes. piece.items ≡ take count (drop offset bytes))) }
+{
+    let mut piece = Vec::new(alloc);
+    let (mut skip, mut left) = (offset, count);
+    for range in ranges {
+        let skipped = skip.min(range.len);
+        let len = left.min(range.len - skipped);
+        match space.read_vec(alloc, range.address.wrapping_add(skipped), len) {
+            Ok(bytes) => piece.extend_from_slice(&bytes)?,
+            Err(ReadErr::Miss(_)) => unreachable!(),
+            Err(ReadErr::NoMemory) => return Err(NoMemory),
+        }
+        skip -= skipped;
+        left -= len;
+    }
+    Ok(piece)
+}
+
 // Puts bytes into ranges, as far as the bytes go; at a miss none, and the space stays.
 pub(crate) fn scatter(space: &mut Space, ranges: &[Range], bytes: &[u8]) -> Result<(), Miss>
     ensures scattered { MatchResult result

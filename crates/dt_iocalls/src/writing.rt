@@ -1,24 +1,26 @@
 // The calls that write or cut a file.
-ghost use Rattle.std.specs.Prelude.{◌≡◌, ◌≢◌, ◌≤◌, [], false, length, Ok, Err, IfOk, IfSome, IsErrOf, MatchResult};
+ghost use Rattle.std.specs.Prelude.{◌≡◌, ◌≢◌, ◌≤◌, [], false, length, None, Ok, Err, IfOk, IfSome, IsErrOf, IsOk, MatchResult};
 ghost use Rattle.dt_base.specs.Abi.{low_word};
+ghost use Rattle.dt_base.specs.declared.limits.TheConstants.{TRANSFER_LIMIT};
 ghost use Rattle.dt_fds.specs.Backs.{IsIn};
-ghost use Rattle.dt_fds.specs.Descriptions.{description_at, is_of_dir};
+ghost use Rattle.dt_fds.specs.Descriptions.{description_at, is_of_dir, write_pipe as pipe_of_write};
 ghost use Rattle.dt_fds.specs.declared.desc.Spot.TheVariants.{At as at_offset};
 ghost use Rattle.dt_host.specs.Cause.{HasCause};
 ghost use Rattle.dt_host.specs.World.{IsFile};
 ghost use Rattle.dt_tree.specs.Table.{Stands, shape_of, tree_of};
 ghost use Rattle.dt_iocalls.specs.Places.{goes_on};
-ghost use Rattle.dt_iocalls.specs.Ranges.{gathered};
+ghost use Rattle.dt_iocalls.specs.Ranges.{gathered, total_len};
 ghost use Rattle.dt_iocalls.specs.Writing.{write_offset, writes_at, writes_on, writes_file, writes_kind, writes_to};
 ghost use Rattle.dt_iocalls.specs.Writing.{write_row, writev_row, writes_bytes_at, writes_file_at, pwrite64_row};
-ghost use Rattle.dt_iocalls.specs.Writing.{cuts_kind, writes_pipe, ftruncate_row};
+ghost use Rattle.dt_iocalls.specs.Writing.{cuts_kind, on_bytes, writes_pipe, ftruncate_row};
+ghost use Rattle.dt_iocalls.specs.inner.Written.{writes_ranges};
 ghost use Rattle.dt_scene.specs.Arguments.{argument};
 ghost use Rattle.dt_scene.specs.Scene.{answers};
 ghost use Rattle.dt_scene.specs.Sound.{Sound, Serves, Ends, Reaches, stage, scene};
 
 use crate::piping::answered;
 use crate::places::{is_writable, offset_of};
-use crate::ranges::{Range, gather, ranges_at};
+use crate::ranges::{Range, gather, gather_piece, ranges_at, readable, total_len};
 use dt_base::abi::{byte_count, low_word};
 use dt_base::{Answer, Blob, Caller, Errno};
 use dt_fds::{DescKind, Spot};
@@ -87,7 +89,8 @@ fn write_ranges<H: Host>(
     fd: u32,
     ranges: &[Range],
 ) -> Result<Answer, HostErr>
-    requires { Sound (stage fs.old (H.view host.old) caller.now space.now) }
+    requires sound { Sound (stage fs.old (H.view host.old) caller.now space.now) }
+    requires few { total_len ranges.now ≤ TRANSFER_LIMIT }
     ensures { Ends (writes_to fd ranges.now) (stage fs.old (H.view host.old) caller.now space.now)
         (stage fs.new (H.view host.new) caller.now space.now) result
         (H.count host.old) (H.count host.new) }
@@ -99,6 +102,38 @@ fn write_ranges<H: Host>(
     if !is_writable(desc) {
         return Ok(Answer::Refused(Errno::BadF));
     }
+    let (kind, append, offset) = (desc.kind, desc.append, offset_of(&desc.spot));
+    match kind.write_pipe() {
+        Some(_) => write_pipe(alloc, fs, host, caller, space, fd, ranges),
+        None => write_whole(
+            alloc, fs, host, caller, space, fd, kind, append, offset, ranges,
+        ),
+    }
+}
+
+// Writes all bytes of ranges to what a descriptor refers to, which is no pipe.
+fn write_whole<H: Host>(
+    alloc: Global,
+    fs: &mut Fs,
+    host: &mut H,
+    caller: &Caller,
+    space: &Space,
+    fd: u32,
+    kind: DescKind,
+    append: bool,
+    offset: u64,
+    ranges: &[Range],
+) -> Result<Answer, HostErr>
+    requires sound { Sound (stage fs.old (H.view host.old) caller.now space.now) }
+    requires there { IsIn (shape_of fs.old.tree (H.view host.old).forest) kind }
+    requires is { IfSome (description_at fs.old.files.descriptors caller.now.vpid fd) (λ desc. desc.kind ≡ kind) }
+    requires no_pipe { pipe_of_write kind ≡ None }
+    ensures { Ends (writes_ranges (writes_kind fd append offset kind) ranges.now)
+        (stage fs.old (H.view host.old) caller.now space.now)
+        (stage fs.new (H.view host.new) caller.now space.now) result
+        (H.count host.old) (H.count host.new) }
+{
+    let _before = host.faults();
     let bytes = match gather(alloc, space, ranges) {
         Ok(bytes) => bytes,
         Err(ReadErr::Miss(_)) => return Ok(Answer::Refused(Errno::Fault)),
@@ -107,11 +142,10 @@ fn write_ranges<H: Host>(
     if bytes.is_empty() {
         return Ok(Answer::Value(0));
     }
-    let (kind, append, offset) = (desc.kind, desc.append, offset_of(&desc.spot));
     write_bytes(fs, host, caller, space, fd, kind, append, offset, bytes)
 }
 
-// Writes some bytes to what a descriptor refers to.
+// Writes some bytes to what a descriptor refers to, which is no pipe.
 fn write_bytes<H: Host>(
     fs: &mut Fs,
     host: &mut H,
@@ -126,6 +160,7 @@ fn write_bytes<H: Host>(
     requires sound { Sound (stage fs.old (H.view host.old) caller.now space.now) }
     requires there { IsIn (shape_of fs.old.tree (H.view host.old).forest) kind }
     requires is { IfSome (description_at fs.old.files.descriptors caller.now.vpid fd) (λ desc. desc.kind ≡ kind) }
+    requires no_pipe { pipe_of_write kind ≡ None }
     ensures { Ends (writes_kind fd append offset kind bytes.items)
         (stage fs.old (H.view host.old) caller.now space.now)
         (stage fs.new (H.view host.new) caller.now space.now) result
@@ -135,29 +170,69 @@ fn write_bytes<H: Host>(
     match kind {
         DescKind::File(n) => write_file(fs, host, caller, space, fd, n, append, offset, &bytes),
         DescKind::Dir(_) => Ok(Answer::Refused(Errno::IsDir)),
-        DescKind::PipeWrite(_) => write_pipe(fs, host, caller, space, fd, &bytes),
+        DescKind::PipeWrite(_) => unreachable!(),
         DescKind::PipeRead(_) | DescKind::Input => Ok(Answer::Refused(Errno::BadF)),
         DescKind::Stream(stream) => Ok(Answer::Output(stream, Blob::new(bytes))),
     }
 }
 
-// Writes bytes to a pipe, of which the call has moved some before where it goes on.
-#[tactic(auto, using(crate::proofs::Flows::made))]
+// Writes the bytes of ranges to a pipe. Each of them has to be readable, also where the call only waits.
 fn write_pipe<H: Host>(
+    alloc: Global,
     fs: &mut Fs,
     host: &mut H,
     caller: &Caller,
     space: &Space,
     fd: u32,
-    bytes: &[u8],
+    ranges: &[Range],
 ) -> Result<Answer, HostErr>
-    requires { Sound (stage fs.old (H.view host.old) caller.now space.now) }
-    ensures { Ends (writes_pipe fd bytes.now) (stage fs.old (H.view host.old) caller.now space.now)
+    requires sound { Sound (stage fs.old (H.view host.old) caller.now space.now) }
+    requires few { total_len ranges.now ≤ TRANSFER_LIMIT }
+    ensures { Ends (writes_ranges (writes_pipe fd) ranges.now)
+        (stage fs.old (H.view host.old) caller.now space.now)
         (stage fs.new (H.view host.new) caller.now space.now) result
         (H.count host.old) (H.count host.new) }
 {
-    let done = caller.done.min(bytes.len() as u64);
-    answered(fs.files.pipe_write(host, caller.vpid, fd, bytes, done))
+    let _before = host.faults();
+    match readable(space, ranges) {
+        Ok(()) => {}
+        Err(_) => return Ok(Answer::Refused(Errno::Fault)),
+    }
+    let whole = total_len(ranges);
+    if whole == 0 {
+        return Ok(Answer::Value(0));
+    }
+    write_piece(alloc, fs, host, caller, space, fd, ranges, whole)
+}
+
+// Writes some bytes of ranges to a pipe, of which the call has moved a part before where it goes on. Only the piece
+// that moves now is copied: a call may wait or go on many times, and be long.
+fn write_piece<H: Host>(
+    alloc: Global,
+    fs: &mut Fs,
+    host: &mut H,
+    caller: &Caller,
+    space: &Space,
+    fd: u32,
+    ranges: &[Range],
+    whole: u64,
+) -> Result<Answer, HostErr>
+    requires sound { Sound (stage fs.old (H.view host.old) caller.now space.now) }
+    requires readable { IsOk (gathered space.now ranges.now) }
+    requires whole { total_len ranges.now ≡ whole }
+    ensures { Ends (λ s. on_bytes s (gathered s.space ranges.now) (λ bytes. writes_pipe fd bytes s))
+        (stage fs.old (H.view host.old) caller.now space.now)
+        (stage fs.new (H.view host.new) caller.now space.now) result
+        (H.count host.old) (H.count host.new) }
+{
+    let _before = host.faults();
+    let done = caller.done.min(whole);
+    let moved = fs.files.pipe_moves(caller.vpid, fd, whole, done);
+    let piece = gather_piece(alloc, space, ranges, done, moved)?;
+    answered(
+        fs.files
+            .pipe_write_part(host, caller.vpid, fd, whole, done, &piece),
+    )
 }
 
 // Writes bytes to a file at an offset, or at its end, and moves the place of its description.

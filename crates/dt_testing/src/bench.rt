@@ -16,6 +16,9 @@ pub enum Words {
     Zeros(usize),
     /// Those of the stream of this number.
     Stream(u64),
+    /// The four last digits of this number to base 3, from the last one on, again and again. Of up to three segments
+    /// that are owed the host lets that one arrive first to which the next word points.
+    Digits(u32),
 }
 
 /// One call of the program.
@@ -113,7 +116,21 @@ fn picker(alloc: Global, words: Words) -> Result<Picker, AllocError> {
     match words {
         Words::Zeros(count) => Ok(Picker::new(vec![in alloc; 0; count]?, 0)),
         Words::Stream(number) => Ok(Picker::new(Vec::new(alloc), number)),
+        Words::Digits(number) => Ok(Picker::new(digits(alloc, number)?, 0)),
     }
+}
+
+// The digits of a thousand words.
+fn digits(alloc: Global, number: u32) -> Result<Vec<u32>, AllocError> {
+    let mut words = Vec::new(alloc);
+    for _ in 0..250 {
+        let mut left = number;
+        for _ in 0..4 {
+            words.push(left % 3)?;
+            left /= 3;
+        }
+    }
+    Ok(words)
 }
 
 // The calls that fail: this one, if one does.

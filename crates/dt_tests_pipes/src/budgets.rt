@@ -1,39 +1,24 @@
 // Budgets that end in each turn of runs in which calls wait and go on.
-use crate::case::Shown::{Code, Out, Signal, Told};
-use crate::case::{ONE_HOST, Shown, Trial, add_shown, header, with_verdict};
-use crate::numbers::{F_SETFL, FCNTL, GOT, O_NONBLOCK, SENT};
-use crate::step::Step;
-use crate::step::Step::{
-    At, Call as Calls, Close, Exit, Fork, Pass, Pipe, Read, Show, Tell, Write,
-};
+use crate::setting::{ONE_HOST, SETTING};
+use dt_testing::Shown::{Code, Out, Signal, Told};
+use dt_testing::Step::{At, Call as Calls, Close, Exit, Fork, Pass, Pipe, Read, Show, Tell, Write};
+use dt_testing::numbers::{F_SETFL, FCNTL, GOT, O_NONBLOCK, SENT};
+use dt_testing::{Schedule, Turn};
 use std::alloc::Global;
 use std::test::Fail;
-
-// A turn: what it costs, which is its segment or 1 where a call is tried again, and what it shows.
-struct Turn {
-    cost: u64,
-    shown: &'static [Shown<'static>],
-}
-
-// A program, its turns, and what comes of them at last.
-struct Schedule {
-    steps: &'static [Step],
-    turns: &'static [Turn],
-    verdict: &'static str,
-    status: u8,
-}
 
 const SCHEDULES: &[Schedule] = &[
     // A process waits for itself.
     Schedule {
-        steps: &[Pipe(0), Tell, Read(3, GOT, 1), Exit(0)],
+        first: &[Pipe(0), Tell, Read(3, GOT, 1), Exit(0)],
+        second: &[],
         turns: &[
             Turn {
                 cost: 7,
                 shown: &[],
             },
             Turn {
-                cost: 10,
+                cost: 8,
                 shown: &[Told(&[0])],
             },
             Turn {
@@ -46,7 +31,7 @@ const SCHEDULES: &[Schedule] = &[
     },
     // Two wait for each other.
     Schedule {
-        steps: &[
+        first: &[
             Pipe(0),
             Pipe(0),
             Fork(1),
@@ -56,6 +41,7 @@ const SCHEDULES: &[Schedule] = &[
             Read(5, GOT, 1),
             Exit(0),
         ],
+        second: &[],
         turns: &[
             Turn {
                 cost: 7,
@@ -83,7 +69,7 @@ const SCHEDULES: &[Schedule] = &[
     },
     // A read waits until there are bytes, and then until there is no writer.
     Schedule {
-        steps: &[
+        first: &[
             Pipe(0),
             Fork(1),
             Close(4),
@@ -98,6 +84,7 @@ const SCHEDULES: &[Schedule] = &[
             Pass(2),
             Exit(7),
         ],
+        second: &[],
         turns: &[
             Turn {
                 cost: 7,
@@ -160,7 +147,7 @@ const SCHEDULES: &[Schedule] = &[
                 shown: &[],
             },
             Turn {
-                cost: 10,
+                cost: 8,
                 shown: &[Told(&[0, 2, 0, 5, 0])],
             },
             Turn {
@@ -173,7 +160,7 @@ const SCHEDULES: &[Schedule] = &[
     },
     // A long write moves bytes, waits, and goes on.
     Schedule {
-        steps: &[
+        first: &[
             Pipe(0),
             Fork(1),
             Close(4),
@@ -189,6 +176,7 @@ const SCHEDULES: &[Schedule] = &[
             Tell,
             Exit(7),
         ],
+        second: &[],
         turns: &[
             Turn {
                 cost: 7,
@@ -235,7 +223,7 @@ const SCHEDULES: &[Schedule] = &[
                 shown: &[],
             },
             Turn {
-                cost: 10,
+                cost: 8,
                 shown: &[Told(&[70_000])],
             },
             Turn {
@@ -251,7 +239,7 @@ const SCHEDULES: &[Schedule] = &[
                 shown: &[],
             },
             Turn {
-                cost: 10,
+                cost: 8,
                 shown: &[Told(&[0, 2, 0, 1_000, 65_536, 3_464, 0])],
             },
             Turn {
@@ -264,7 +252,7 @@ const SCHEDULES: &[Schedule] = &[
     },
     // A write waits until nobody can read.
     Schedule {
-        steps: &[
+        first: &[
             Pipe(0),
             Fork(1),
             Close(3),
@@ -275,6 +263,7 @@ const SCHEDULES: &[Schedule] = &[
             Pass(3),
             Exit(7),
         ],
+        second: &[],
         turns: &[
             Turn {
                 cost: 7,
@@ -326,7 +315,7 @@ const SCHEDULES: &[Schedule] = &[
     },
     // A write waits until it may not.
     Schedule {
-        steps: &[
+        first: &[
             Pipe(0),
             Fork(1),
             Write(4, SENT, 70_000),
@@ -339,6 +328,7 @@ const SCHEDULES: &[Schedule] = &[
             Pass(9),
             Exit(0),
         ],
+        second: &[],
         turns: &[
             Turn {
                 cost: 7,
@@ -369,11 +359,11 @@ const SCHEDULES: &[Schedule] = &[
                 shown: &[],
             },
             Turn {
-                cost: 10,
+                cost: 8,
                 shown: &[Told(&[0])],
             },
             Turn {
-                cost: 10,
+                cost: 8,
                 shown: &[Told(&[0, 2, 65_536])],
             },
             Turn {
@@ -390,51 +380,11 @@ const SCHEDULES: &[Schedule] = &[
     },
 ];
 
-impl Schedule {
-    // Adds how it comes otherwise with a budget than what its report is to say before the tree, and how it ends.
-    fn add_differences(
-        &self,
-        alloc: Global,
-        wrong: &mut String,
-        budget: u64,
-        want: &[u8],
-        status: u8,
-    ) -> Result<(), Fail> {
-        let words = format!(in alloc; "run\nimg\n--budget\n{budget}\n--\n/p")?;
-        let trial = Trial::new(alloc, self.steps, &[])?.under(ONE_HOST);
-        let differences = trial.with_words(words).differences(alloc, want, status)?;
-        if !differences.is_empty() {
-            wrong.push_str(format!(in alloc; "{budget} ")?.as_str())?;
-            wrong.push_str(differences.as_str())?;
-        }
-        Ok(())
-    }
-
-    // A turn for which the budget lacks one instruction shows nothing, and the run is over; where it covers all turns it
-    // ends as it has to. How that comes otherwise.
-    fn differences(&self, alloc: Global) -> Result<String, Fail> {
-        let mut wrong = String::new(alloc);
-        let mut text = header(alloc)?;
-        let mut spent = 0u64;
-        for turn in self.turns {
-            let stopped = with_verdict(alloc, &text, "budget")?;
-            spent = spent.saturating_add(turn.cost);
-            let short = spent.saturating_sub(1);
-            self.add_differences(alloc, &mut wrong, short, &stopped, 10)?;
-            for event in turn.shown {
-                add_shown(alloc, &mut text, *event)?;
-            }
-        }
-        let ended = with_verdict(alloc, &text, self.verdict)?;
-        self.add_differences(alloc, &mut wrong, spent, &ended, self.status)?;
-        Ok(wrong)
-    }
-}
-
 #[test]
 fn a_budget_ends_in_each_turn_of_those_that_wait(rt: HostRuntime) -> Result<(), Fail> {
+    let setting = SETTING.under(ONE_HOST);
     for schedule in SCHEDULES {
-        let differences = schedule.differences(rt.alloc())?;
+        let differences = schedule.differences(rt.alloc(), &setting)?;
         assert_eq!(rt; differences.as_str(), "");
     }
     Ok(())

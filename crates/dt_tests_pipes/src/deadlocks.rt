@@ -1,13 +1,13 @@
 // Runs in which all processes wait, and runs in which that only seems near.
-use crate::case::Shown::{Code, Signal, Told};
-use crate::case::{Case, Trial, before_tree, differing};
-use crate::numbers::{
-    ANY, CLOSE, CWD, DUP, EAGAIN, GOT, MKDIRAT, O_APPEND, O_NONBLOCK, OPENAT, PATH, SENT, WAIT4,
-};
-use crate::step::Step;
-use crate::step::Step::{
+use crate::setting::SETTING;
+use dt_testing::Shown::{Code, Signal, Told};
+use dt_testing::Step::{
     At, Call as Calls, Close, Exit, Fork, Pass, Pipe, Read, Spin, Tell, Text, Write,
 };
+use dt_testing::numbers::{
+    ANY, CLOSE, CWD, DUP, EAGAIN, GOT, MKDIRAT, O_APPEND, O_NONBLOCK, OPENAT, PATH, SENT, WAIT4,
+};
+use dt_testing::{Case, Step, before_tree};
 use std::test::Fail;
 
 const CASES: &[Case] = &[
@@ -186,7 +186,7 @@ const CASES: &[Case] = &[
 
 #[test]
 fn all_wait(rt: HostRuntime) -> Result<(), Fail> {
-    let differences = differing(rt.alloc(), CASES)?;
+    let differences = SETTING.differing(rt.alloc(), CASES)?;
     assert_eq!(rt; differences.as_str(), "");
     Ok(())
 }
@@ -341,7 +341,7 @@ const NOT_YET: &[Case] = &[
 
 #[test]
 fn not_all_wait(rt: HostRuntime) -> Result<(), Fail> {
-    let differences = differing(rt.alloc(), NOT_YET)?;
+    let differences = SETTING.differing(rt.alloc(), NOT_YET)?;
     assert_eq!(rt; differences.as_str(), "");
     Ok(())
 }
@@ -385,8 +385,8 @@ fn the_tree_is_shown_as_it_stood(rt: HostRuntime) -> Result<(), Fail> {
     let alloc = rt.alloc();
     let want = before_tree(alloc, &[], "deadlock")?;
     for steps in STANDING {
-        let trial = Trial::new(alloc, steps, &[])?.with_tree(CHANGED);
-        let differences = trial.differences(alloc, &want, 10)?;
+        let trial = SETTING.trial(alloc, steps, &[])?.with_tree(CHANGED);
+        let differences = trial.differences_from(alloc, &want, 10)?;
         assert_eq!(rt; differences.as_str(), "");
     }
     Ok(())

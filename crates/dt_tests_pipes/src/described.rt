@@ -1,12 +1,13 @@
 // What the status of a pipe's ends says.
-use crate::case::Shown::{Code, Told};
-use crate::case::{Case, differing};
-use crate::numbers::{
+use crate::setting::SETTING;
+use dt_testing::Case;
+use dt_testing::Shown::{Code, Told};
+use dt_testing::Step::{
+    Again, At, Call as Calls, Close, Exit, Fork, Look, Looks, Pass, Pipe, Read, Tell, Times, Write,
+};
+use dt_testing::numbers::{
     ANY, AT_EMPTY_PATH, DUP, DUP3, EINVAL, FSTAT, GOT, NEWFSTATAT, O_CLOEXEC, PATH, SENT, STATUS,
     WAIT4,
-};
-use crate::step::Step::{
-    Again, At, Call as Calls, Close, Exit, Fork, Look, Looks, Pass, Pipe, Read, Tell, Times, Write,
 };
 use std::test::Fail;
 
@@ -226,7 +227,7 @@ const CASES: &[Case] = &[
 
 #[test]
 fn statuses_of_ends(rt: HostRuntime) -> Result<(), Fail> {
-    let differences = differing(rt.alloc(), CASES)?;
+    let differences = SETTING.differing(rt.alloc(), CASES)?;
     assert_eq!(rt; differences.as_str(), "");
     Ok(())
 }

@@ -1,14 +1,14 @@
 // Ends of pipes that are closed, and ends of processes that hold them.
-use crate::case::Shown::{Code, Signal, Told};
-use crate::case::{Case, Shown, Trial, before_tree, differing};
-use crate::numbers::{
+use crate::setting::SETTING;
+use dt_testing::Shown::{Code, Signal, Told};
+use dt_testing::Step::{
+    At, Break, Call as Calls, Close, Exit, Fork, Look, Pass, Pipe, Read, Tell, Write,
+};
+use dt_testing::numbers::{
     ANY, DUP, DUP3, EAGAIN, EBADF, EFAULT, END, F_DUPFD, FCNTL, FSTAT, GOT, O_NONBLOCK, SENT,
     STATUS, WAIT4,
 };
-use crate::step::Step;
-use crate::step::Step::{
-    At, Break, Call as Calls, Close, Exit, Fork, Look, Pass, Pipe, Read, Tell, Write,
-};
+use dt_testing::{Case, Shown, Step, before_tree};
 use std::alloc::{AllocError, Global};
 use std::test::Fail;
 
@@ -224,7 +224,7 @@ const WRITERS: &[Case] = &[
 
 #[test]
 fn a_writer_without_a_reader_ends_by_a_signal(rt: HostRuntime) -> Result<(), Fail> {
-    let differences = differing(rt.alloc(), WRITERS)?;
+    let differences = SETTING.differing(rt.alloc(), WRITERS)?;
     assert_eq!(rt; differences.as_str(), "");
     Ok(())
 }
@@ -417,7 +417,7 @@ const READERS: &[Case] = &[
 
 #[test]
 fn a_reader_without_a_writer_is_at_the_end(rt: HostRuntime) -> Result<(), Fail> {
-    let differences = differing(rt.alloc(), READERS)?;
+    let differences = SETTING.differing(rt.alloc(), READERS)?;
     assert_eq!(rt; differences.as_str(), "");
     Ok(())
 }
@@ -594,8 +594,8 @@ fn ends_are_closed_in_each_order(rt: HostRuntime) -> Result<(), Fail> {
     for row in CLOSINGS {
         let order = row.order;
         let want = before_tree(alloc, row.shown, "ended")?;
-        let trial = Trial::new(alloc, &closing_steps(alloc, order)?, &[])?;
-        let differences = trial.differences(alloc, &want, 0)?;
+        let trial = SETTING.trial(alloc, &closing_steps(alloc, order)?, &[])?;
+        let differences = trial.differences_from(alloc, &want, 0)?;
         assert_eq!(rt; differences.as_str(), "", "{order:?}");
     }
     Ok(())

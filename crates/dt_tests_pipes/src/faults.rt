@@ -1,10 +1,9 @@
 // Faults of the host in a run with a pipe.
-use crate::case::Shown::{Code, Told};
-use crate::case::{Trial, before_tree};
-use crate::numbers::{ANY, GOT, SENT, WAIT4};
-use crate::step::Step;
-use crate::step::Step::{At, Call as Calls, Close, Exit, Fork, Pipe, Read, Tell, Write};
-use dt_testing::Words;
+use crate::setting::SETTING;
+use dt_testing::Shown::{Code, Told};
+use dt_testing::Step::{At, Call as Calls, Close, Exit, Fork, Pipe, Read, Tell, Write};
+use dt_testing::numbers::{ANY, GOT, SENT, WAIT4};
+use dt_testing::{Step, Words, before_tree};
 use std::test::Fail;
 
 // The pipe goes with its last end, before the run ends.
@@ -27,7 +26,7 @@ const STEPS: &[Step] = &[
 fn each_call_of_the_host_fails_once(rt: HostRuntime) -> Result<(), Fail> {
     let alloc = rt.alloc();
     let shown = [Code(2, 0), Told(&[0, 2, 0, 5, 0, 0, 2]), Code(1, 0)];
-    let trial = Trial::new(alloc, STEPS, &[])?;
+    let trial = SETTING.trial(alloc, STEPS, &[])?;
     let want = trial.report(alloc, &before_tree(alloc, &shown, "ended")?)?;
     let mut failed = 0u64;
     for number in 1..400u64 {

@@ -1,11 +1,12 @@
 // O_NONBLOCK: where it is set, where it is seen, and what becomes of a call that waits meanwhile.
-use crate::case::Shown::{Code, Signal, Told};
-use crate::case::{Case, differing};
-use crate::numbers::{
+use crate::setting::SETTING;
+use dt_testing::Case;
+use dt_testing::Shown::{Code, Signal, Told};
+use dt_testing::Step::{At, Call as Calls, Close, Exit, Fork, Pass, Pipe, Read, Tell, Write};
+use dt_testing::numbers::{
     ANY, DUP, EAGAIN, F_GETFD, F_GETFL, F_SETFL, FCNTL, GOT, O_APPEND, O_CLOEXEC, O_NONBLOCK, ROOM,
     SENT, WAIT4,
 };
-use crate::step::Step::{At, Call as Calls, Close, Exit, Fork, Pass, Pipe, Read, Tell, Write};
 use std::test::Fail;
 
 // A child sets the flag on a description that it shares with its parent, which waits.
@@ -238,7 +239,7 @@ const MEANWHILE: &[Case] = &[
 
 #[test]
 fn a_flag_that_is_set_while_a_call_waits(rt: HostRuntime) -> Result<(), Fail> {
-    let differences = differing(rt.alloc(), MEANWHILE)?;
+    let differences = SETTING.differing(rt.alloc(), MEANWHILE)?;
     assert_eq!(rt; differences.as_str(), "");
     Ok(())
 }
@@ -354,7 +355,7 @@ const SEEN: &[Case] = &[
 
 #[test]
 fn flags_of_the_ends(rt: HostRuntime) -> Result<(), Fail> {
-    let differences = differing(rt.alloc(), SEEN)?;
+    let differences = SETTING.differing(rt.alloc(), SEEN)?;
     assert_eq!(rt; differences.as_str(), "");
     Ok(())
 }

@@ -5,8 +5,6 @@
 #[cfg(test)]
 mod budgets;
 #[cfg(test)]
-mod case;
-#[cfg(test)]
 mod deadlocks;
 #[cfg(test)]
 mod described;
@@ -17,17 +15,13 @@ mod faults;
 #[cfg(test)]
 mod flags;
 #[cfg(test)]
-mod image;
-#[cfg(test)]
-mod numbers;
-#[cfg(test)]
 mod programs;
 #[cfg(test)]
 mod refused;
 #[cfg(test)]
 mod room;
 #[cfg(test)]
-mod step;
+mod setting;
 #[cfg(test)]
 mod transfers;
 #[cfg(test)]

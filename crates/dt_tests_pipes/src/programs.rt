@@ -1,13 +1,14 @@
 // Ends of pipes when a process starts another program.
-use crate::case::Shown::{Code, Counted, Out, Signal, Told};
-use crate::case::{Case, differing};
-use crate::numbers::{
-    ANY, DUP, DUP3, EAGAIN, EBADF, EXECVE, F_GETFD, F_GETFL, F_SETFD, FCNTL, GOT, O_CLOEXEC,
-    O_NONBLOCK, PATH, SENT, SOCKET, STATUS, WAIT4,
-};
-use crate::step::Step::{
+use crate::setting::SETTING;
+use dt_testing::Case;
+use dt_testing::Shown::{Code, Counted, Out, Signal, Told};
+use dt_testing::Step::{
     At, Call as Calls, Close, Count, Exit, Fork, Look, Pass, Pipe, Read, Relay, Show, Tell, Text,
     Write,
+};
+use dt_testing::numbers::{
+    ANY, DUP, DUP3, EAGAIN, EBADF, EXECVE, F_GETFD, F_GETFL, F_SETFD, FCNTL, GOT, O_CLOEXEC,
+    O_NONBLOCK, PATH, SENT, SOCKET, STATUS, WAIT4,
 };
 use std::test::Fail;
 
@@ -178,7 +179,7 @@ const CASES: &[Case] = &[
 
 #[test]
 fn ends_over_the_start_of_a_program(rt: HostRuntime) -> Result<(), Fail> {
-    let differences = differing(rt.alloc(), CASES)?;
+    let differences = SETTING.differing(rt.alloc(), CASES)?;
     assert_eq!(rt; differences.as_str(), "");
     Ok(())
 }

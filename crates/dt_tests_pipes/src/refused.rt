@@ -1,14 +1,15 @@
 // Calls on pipes that are refused, and what they leave as it was.
-use crate::case::Shown::{Code, Signal, Told};
-use crate::case::{Case, differing};
-use crate::numbers::{
+use crate::setting::SETTING;
+use dt_testing::Case;
+use dt_testing::Shown::{Code, Signal, Told};
+use dt_testing::Step::{
+    Again, At, Call as Calls, Close, Exit, Fork, Look, Pass, Pipe, Read, Tell, Text, Times, Write,
+};
+use dt_testing::numbers::{
     ANY, AT_EMPTY_PATH, DUP, DUP3, EAGAIN, EBADF, EFAULT, EINVAL, EMFILE, END, ENDS, ENOTDIR,
     ENOTTY, ESPIPE, F_DUPFD, F_DUPFD_CLOEXEC, FCHDIR, FCNTL, FSTAT, FTRUNCATE, GETDENTS64, GOT,
     IOCTL, LSEEK, MKDIRAT, NEWFSTATAT, O_CLOEXEC, O_DIRECT, O_NONBLOCK, OPENAT, PATH, PIPE2,
     PREAD64, PWRITE64, ROOM, SENT, STATUS, TRAMPOLINE, WAIT4,
-};
-use crate::step::Step::{
-    Again, At, Call as Calls, Close, Exit, Fork, Look, Pass, Pipe, Read, Tell, Text, Times, Write,
 };
 use std::test::Fail;
 
@@ -187,7 +188,7 @@ const PIPES: &[Case] = &[
 
 #[test]
 fn pipes_that_cannot_be_made(rt: HostRuntime) -> Result<(), Fail> {
-    let differences = differing(rt.alloc(), PIPES)?;
+    let differences = SETTING.differing(rt.alloc(), PIPES)?;
     assert_eq!(rt; differences.as_str(), "");
     Ok(())
 }
@@ -345,7 +346,7 @@ const TRANSFERS: &[Case] = &[
 
 #[test]
 fn transfers_that_are_refused_move_nothing(rt: HostRuntime) -> Result<(), Fail> {
-    let differences = differing(rt.alloc(), TRANSFERS)?;
+    let differences = SETTING.differing(rt.alloc(), TRANSFERS)?;
     assert_eq!(rt; differences.as_str(), "");
     Ok(())
 }
@@ -496,7 +497,7 @@ const OTHERS: &[Case] = &[
 
 #[test]
 fn calls_that_a_pipe_does_not_take(rt: HostRuntime) -> Result<(), Fail> {
-    let differences = differing(rt.alloc(), OTHERS)?;
+    let differences = SETTING.differing(rt.alloc(), OTHERS)?;
     assert_eq!(rt; differences.as_str(), "");
     Ok(())
 }

@@ -1,9 +1,9 @@
 // Writes against each number of held bytes that decides what comes of them.
-use crate::case::Shown::{Code, Told};
-use crate::case::{ONE_HOST, Shown, Trial, before_tree};
-use crate::numbers::{EAGAIN, GOT, O_NONBLOCK, ROOM, SENT};
-use crate::step::Step;
-use crate::step::Step::{Again, At, Close, Exit, Fork, Pass, Pipe, Read, Tell, Times, Write};
+use crate::setting::{ONE_HOST, SETTING};
+use dt_testing::Shown::{Code, Told};
+use dt_testing::Step::{Again, At, Close, Exit, Fork, Pass, Pipe, Read, Tell, Times, Write};
+use dt_testing::numbers::{EAGAIN, GOT, O_NONBLOCK, ROOM, SENT};
+use dt_testing::{Shown, Step, before_tree};
 use std::alloc::{AllocError, Global};
 use std::test::Fail;
 
@@ -88,8 +88,8 @@ fn filling_report(alloc: Global) -> Result<Vec<u8>, AllocError> {
 #[test]
 fn a_write_that_may_not_wait_moves_what_has_room(rt: HostRuntime) -> Result<(), Fail> {
     let alloc = rt.alloc();
-    let trial = Trial::new(alloc, &filling(alloc)?, &[])?;
-    let differences = trial.differences(alloc, &filling_report(alloc)?, 0)?;
+    let trial = SETTING.trial(alloc, &filling(alloc)?, &[])?;
+    let differences = trial.differences_from(alloc, &filling_report(alloc)?, 0)?;
     assert_eq!(rt; differences.as_str(), "");
     Ok(())
 }
@@ -363,8 +363,10 @@ fn a_write_that_may_wait_moves_all(rt: HostRuntime) -> Result<(), Fail> {
     for row in WAITING {
         let (held, asked) = (row.held, row.asked);
         let want = before_tree(alloc, row.shown, "ended")?;
-        let trial = Trial::new(alloc, &waiting_steps(held, asked, row.reads), &[])?.under(ONE_HOST);
-        let differences = trial.differences(alloc, &want, 0)?;
+        let trial = SETTING
+            .under(ONE_HOST)
+            .trial(alloc, &waiting_steps(held, asked, row.reads), &[])?;
+        let differences = trial.differences_from(alloc, &want, 0)?;
         assert_eq!(rt; differences.as_str(), "", "{held} {asked}");
     }
     Ok(())

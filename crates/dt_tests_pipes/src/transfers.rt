@@ -1,12 +1,12 @@
 // Writes that are longer than what a pipe holds, with what their readers find.
-use crate::case::Shown::{Code, Counted, Told};
-use crate::case::{Case, SLOW_HOSTS, Trial, before_tree, differing, differing_under};
-use crate::numbers::{ANY, GOT, ROOM, SENT, WAIT4};
-use crate::step::Step;
-use crate::step::Step::{
+use crate::setting::{SETTING, SLOW_HOSTS};
+use dt_testing::Shown::{Code, Counted, Told};
+use dt_testing::Step::{
     Again, At, Call as Calls, Close, Count, Exit, Fork, Pass, Pipe, Read, Relay, Show, Tell, Times,
     Write,
 };
+use dt_testing::numbers::{ANY, GOT, ROOM, SENT, WAIT4};
+use dt_testing::{Case, Step, before_tree};
 use std::alloc::{AllocError, Global};
 use std::test::Fail;
 
@@ -47,8 +47,8 @@ fn a_long_write_comes_whole_to_a_reader_of_little(rt: HostRuntime) -> Result<(),
         Code(1, 0),
     ];
     let want = before_tree(alloc, &shown, "ended")?;
-    let trial = Trial::new(alloc, IN_THOUSANDS, &[])?.under(SLOW_HOSTS);
-    let differences = trial.differences(alloc, &want, 0)?;
+    let trial = SETTING.under(SLOW_HOSTS).trial(alloc, IN_THOUSANDS, &[])?;
+    let differences = trial.differences_from(alloc, &want, 0)?;
     assert_eq!(rt; differences.as_str(), "");
     Ok(())
 }
@@ -282,7 +282,7 @@ const LONG: &[Case] = &[
 
 #[test]
 fn long_writes(rt: HostRuntime) -> Result<(), Fail> {
-    let differences = differing(rt.alloc(), LONG)?;
+    let differences = SETTING.differing(rt.alloc(), LONG)?;
     assert_eq!(rt; differences.as_str(), "");
     Ok(())
 }
@@ -388,7 +388,7 @@ const FITTING: &[Case] = &[
 
 #[test]
 fn short_writes_wait_until_they_fit(rt: HostRuntime) -> Result<(), Fail> {
-    let differences = differing_under(rt.alloc(), SLOW_HOSTS, FITTING)?;
+    let differences = SETTING.under(SLOW_HOSTS).differing(rt.alloc(), FITTING)?;
     assert_eq!(rt; differences.as_str(), "");
     Ok(())
 }
@@ -521,7 +521,7 @@ const SHORT: &[Case] = &[
 
 #[test]
 fn short_writes(rt: HostRuntime) -> Result<(), Fail> {
-    let differences = differing(rt.alloc(), SHORT)?;
+    let differences = SETTING.differing(rt.alloc(), SHORT)?;
     assert_eq!(rt; differences.as_str(), "");
     Ok(())
 }

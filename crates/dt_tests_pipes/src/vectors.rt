@@ -1,12 +1,13 @@
 // readv(2) and writev(2) on pipes: one transfer of all ranges.
-use crate::case::Shown::{Code, Counted, Out, Signal, Told};
-use crate::case::{Case, differing};
-use crate::numbers::{
+use crate::setting::SETTING;
+use dt_testing::Case;
+use dt_testing::Shown::{Code, Counted, Out, Signal, Told};
+use dt_testing::Step::{
+    At, Call as Calls, Close, Count, Exit, Fork, Look, Pass, Pipe, Put, Read, Show, Tell, Write,
+};
+use dt_testing::numbers::{
     ANY, EAGAIN, EBADF, EFAULT, EINVAL, END, GOT, LIST, O_NONBLOCK, READV, SENT, STATUS, WAIT4,
     WRITEV,
-};
-use crate::step::Step::{
-    At, Call as Calls, Close, Count, Exit, Fork, Look, Pass, Pipe, Put, Read, Show, Tell, Write,
 };
 use std::test::Fail;
 
@@ -243,7 +244,7 @@ const CASES: &[Case] = &[
 
 #[test]
 fn ranges_are_one_transfer(rt: HostRuntime) -> Result<(), Fail> {
-    let differences = differing(rt.alloc(), CASES)?;
+    let differences = SETTING.differing(rt.alloc(), CASES)?;
     assert_eq!(rt; differences.as_str(), "");
     Ok(())
 }

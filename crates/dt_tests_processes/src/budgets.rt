@@ -1,17 +1,11 @@
 // Budgets that end in each kind of turn.
-use crate::case::Shown::{Code, Signal, Told};
-use crate::case::{Shown, Trial, add_shown, header, with_verdict};
-use crate::numbers::{BUFFER, EXECVE, GETPID, PATH, SOCKET, WAIT4};
-use crate::step::Step;
-use crate::step::Step::{At, Break, Call as Calls, Exit, Fork, Look, Spin, Tell, Text};
+use crate::setting::{ONE_HOST, SETTING};
+use dt_testing::Shown::{Code, Signal, Told};
+use dt_testing::Step::{At, Break, Call as Calls, Exit, Fork, Look, Spin, Tell, Text};
+use dt_testing::numbers::{BUFFER, EXECVE, GETPID, PATH, SOCKET, WAIT4};
+use dt_testing::{Schedule, Step, Turn};
 use std::alloc::Global;
 use std::test::Fail;
-
-// A turn: what it costs, which is its segment or 1 where a call is tried again, and what it shows.
-struct Turn {
-    cost: u64,
-    shown: &'static [Shown<'static>],
-}
 
 // A child runs for a slice and 14,472 instructions more while its parent waits.
 const WAITING: &[Step] = &[
@@ -121,15 +115,6 @@ const EXECUTING_TURNS: &[Turn] = &[
     },
 ];
 
-// Programs, their turns, and what comes of them at last.
-struct Schedule {
-    first: &'static [Step],
-    second: &'static [Step],
-    turns: &'static [Turn],
-    verdict: &'static str,
-    status: u8,
-}
-
 const SCHEDULES: &[Schedule] = &[
     Schedule {
         first: WAITING,
@@ -168,53 +153,11 @@ const SCHEDULES: &[Schedule] = &[
     },
 ];
 
-impl Schedule {
-    // Adds how it comes otherwise with a budget than what its report is to say before the tree, and how it ends.
-    fn add_differences(
-        &self,
-        alloc: Global,
-        wrong: &mut String,
-        budget: u64,
-        want: &[u8],
-        status: u8,
-    ) -> Result<(), Fail> {
-        let words = format!(in alloc; "run\nimg\n--budget\n{budget}\n--\n/p")?;
-        let trial = Trial::new(alloc, self.first, self.second)?.with_one_host();
-        let trial = trial.with_words(words);
-        let differences = trial.differences_from(alloc, want, status)?;
-        wrong.push_str(differences.as_str())?;
-        Ok(())
-    }
-
-    // A turn that the budget does not cover shows nothing, and the run is over; where it covers all turns it ends as
-    // it has to. How that comes otherwise.
-    fn differences(&self, alloc: Global) -> Result<String, Fail> {
-        let mut wrong = String::new(alloc);
-        let mut text = header(alloc)?;
-        let mut spent = 0u64;
-        for turn in self.turns {
-            let stopped = with_verdict(alloc, &text, "budget")?;
-            // Up to the turn before it, and all but one of what it costs.
-            if 0 < spent {
-                self.add_differences(alloc, &mut wrong, spent, &stopped, 10)?;
-            }
-            spent = spent.saturating_add(turn.cost);
-            let short = spent.saturating_sub(1);
-            self.add_differences(alloc, &mut wrong, short, &stopped, 10)?;
-            for event in turn.shown {
-                add_shown(alloc, &mut text, *event)?;
-            }
-        }
-        let ended = with_verdict(alloc, &text, self.verdict)?;
-        self.add_differences(alloc, &mut wrong, spent, &ended, self.status)?;
-        Ok(wrong)
-    }
-}
-
 #[test]
 fn a_budget_ends_in_each_kind_of_turn(rt: HostRuntime) -> Result<(), Fail> {
+    let setting = SETTING.under(ONE_HOST);
     for schedule in SCHEDULES {
-        let differences = schedule.differences(rt.alloc())?;
+        let differences = schedule.differences(rt.alloc(), &setting)?;
         assert_eq!(rt; differences.as_str(), "");
     }
     Ok(())

@@ -1,13 +1,14 @@
 // What a child has of its parent, and what clone(2) writes.
-use crate::case::Shown::{Code, Out, Signal, Told};
-use crate::case::{Case, differing};
-use crate::numbers::{
+use crate::setting::SETTING;
+use dt_testing::Case;
+use dt_testing::Shown::{Code, Out, Signal, Told};
+use dt_testing::Step::{
+    At, Call as Calls, Clone as Clones, Exit, Fill, Fork, Keep, Look, Put, Tell, Text,
+};
+use dt_testing::numbers::{
     ANSWERS, ANY, BRK, BUFFER, CHDIR, CHILD_CLEARTID, CHILD_SETTID, CLOCK_GETTIME, CLOSE, CWD,
     DATA, EBADF, END, ENOENT, FCNTL, GETCWD, GETPID, GETRANDOM, LSEEK, O_CLOEXEC, OPENAT,
-    PARENT_SETTID, PATH, READ, SCHED_YIELD, SIGCHLD, TRAMPOLINE, UMASK, UNLINKAT, WAIT4, WRITE,
-};
-use crate::step::Step::{
-    At, Call as Calls, Clone as Clones, Exit, Fill, Fork, Look, Put, Stack, Tell, Text,
+    PARENT_SETTID, PATH, READ, SCHED_YIELD, SIGCHLD, SP, TRAMPOLINE, UMASK, UNLINKAT, WAIT4, WRITE,
 };
 use std::test::Fail;
 
@@ -15,23 +16,23 @@ const ARGUMENTS: &[Case] = &[
     Case {
         what: "the stack",
         first: &[
-            Stack,
+            Keep(SP),
             Fork(1),
             Clones([SIGCHLD, END - 16, 0, 0, 0], 1),
             Clones([SIGCHLD, 3, 0, 0, 0], 1),
-            Stack,
+            Keep(SP),
             Calls(WAIT4, &[4, 0, 0, 0]),
             Tell,
             Exit(0),
             At(1),
-            Stack,
+            Keep(SP),
             Tell,
             Exit(0),
         ],
         second: &[],
         shown: &[
             Told(&[274877898464]),
-            Told(&[86000]),
+            Told(&[END - 16]),
             Code(2, 0),
             Told(&[3]),
             Code(3, 0),
@@ -187,7 +188,7 @@ const ARGUMENTS: &[Case] = &[
 
 #[test]
 fn arguments_of_clone(rt: HostRuntime) -> Result<(), Fail> {
-    let differences = differing(rt.alloc(), ARGUMENTS)?;
+    let differences = SETTING.differing(rt.alloc(), ARGUMENTS)?;
     assert_eq!(rt; differences.as_str(), "");
     Ok(())
 }
@@ -247,9 +248,9 @@ const COPIES: &[Case] = &[
         ],
         second: &[],
         shown: &[
-            Told(&[90112, 5, 86016]),
+            Told(&[END + 0x1000, 5, END]),
             Signal(2, 11),
-            Told(&[90112, 2, 90112, 2, 5, 90112]),
+            Told(&[END + 0x1000, 2, END + 0x1000, 2, 5, END + 0x1000]),
             Code(1, 0),
         ],
         verdict: "ended",
@@ -291,7 +292,7 @@ const COPIES: &[Case] = &[
 
 #[test]
 fn what_a_child_has_a_copy_of(rt: HostRuntime) -> Result<(), Fail> {
-    let differences = differing(rt.alloc(), COPIES)?;
+    let differences = SETTING.differing(rt.alloc(), COPIES)?;
     assert_eq!(rt; differences.as_str(), "");
     Ok(())
 }
@@ -468,7 +469,7 @@ const DESCRIPTORS: &[Case] = &[
 
 #[test]
 fn what_a_child_shares(rt: HostRuntime) -> Result<(), Fail> {
-    let differences = differing(rt.alloc(), DESCRIPTORS)?;
+    let differences = SETTING.differing(rt.alloc(), DESCRIPTORS)?;
     assert_eq!(rt; differences.as_str(), "");
     Ok(())
 }

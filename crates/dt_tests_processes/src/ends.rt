@@ -1,10 +1,11 @@
 // Ends of processes while others live.
-use crate::case::Shown::{Code, Out, Signal, Told};
-use crate::case::{Case, differing};
-use crate::numbers::{ANY, BUFFER, ECHILD, EXIT_GROUP, GETPPID, SCHED_YIELD, WAIT4, WRITE};
-use crate::step::Step::{
+use crate::setting::SETTING;
+use dt_testing::Case;
+use dt_testing::Shown::{Code, Out, Signal, Told};
+use dt_testing::Step::{
     Again, At, Break, Call as Calls, Exit, Fork, Look, Spin, Tell, Text, Times,
 };
+use dt_testing::numbers::{ANY, BUFFER, ECHILD, EXIT_GROUP, GETPPID, SCHED_YIELD, WAIT4, WRITE};
 use std::test::Fail;
 
 const OF_THE_FIRST: &[Case] = &[
@@ -89,7 +90,7 @@ const OF_THE_FIRST: &[Case] = &[
 
 #[test]
 fn ends_of_the_first_process(rt: HostRuntime) -> Result<(), Fail> {
-    let differences = differing(rt.alloc(), OF_THE_FIRST)?;
+    let differences = SETTING.differing(rt.alloc(), OF_THE_FIRST)?;
     assert_eq!(rt; differences.as_str(), "");
     Ok(())
 }
@@ -236,7 +237,7 @@ const OF_PARENTS: &[Case] = &[
 
 #[test]
 fn children_of_a_process_that_ended(rt: HostRuntime) -> Result<(), Fail> {
-    let differences = differing(rt.alloc(), OF_PARENTS)?;
+    let differences = SETTING.differing(rt.alloc(), OF_PARENTS)?;
     assert_eq!(rt; differences.as_str(), "");
     Ok(())
 }

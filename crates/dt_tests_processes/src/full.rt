@@ -1,11 +1,11 @@
 // As many processes as there may be: 64, zombies with them.
-use crate::case::Shown::{Code, Told};
-use crate::case::{Outcome, Shown, Trial};
-use crate::numbers::{
+use crate::setting::{ONE_HOST, SETTING};
+use dt_testing::Shown::{Code, Told};
+use dt_testing::Step::{Again, At, Call as Calls, Clone as Clones, Exit, Fork, Look, Tell, Times};
+use dt_testing::numbers::{
     ANY, BUFFER, EAGAIN, ECHILD, PARENT_SETTID, SCHED_YIELD, SIGCHLD, WAIT4, WNOHANG,
 };
-use crate::step::Step;
-use crate::step::Step::{Again, At, Call as Calls, Clone as Clones, Exit, Fork, Look, Tell, Times};
+use dt_testing::{Outcome, Shown, Step};
 use std::alloc::{AllocError, Global};
 use std::test::Fail;
 
@@ -89,7 +89,7 @@ fn there_is_room_for_64_with_zombies(rt: HostRuntime) -> Result<(), Fail> {
         verdict: "ended",
         status: 0,
     };
-    let trial = Trial::new(alloc, STEPS, &[])?.with_one_host();
+    let trial = SETTING.under(ONE_HOST).trial(alloc, STEPS, &[])?;
     let differences = trial.differences(alloc, outcome)?;
     assert_eq!(rt; differences.as_str(), "");
     Ok(())
@@ -122,7 +122,7 @@ fn a_chain_of_waits_as_long_as_may_be_is_no_deadlock(rt: HostRuntime) -> Result<
         verdict: "ended",
         status: 0,
     };
-    let trial = Trial::new(alloc, CHAIN, &[])?.with_one_host();
+    let trial = SETTING.under(ONE_HOST).trial(alloc, CHAIN, &[])?;
     let differences = trial.differences(alloc, outcome)?;
     assert_eq!(rt; differences.as_str(), "");
     Ok(())

@@ -1,13 +1,13 @@
 // What a process is told of itself and of its system.
-use crate::case::Shown::{Code, Out, Told};
-use crate::case::{Case, Outcome, Trial, differing};
-use crate::numbers::{
+use crate::setting::SETTING;
+use dt_testing::Shown::{Code, Out, Told};
+use dt_testing::Step::{At, Call as Calls, Exit, Fill, Fork, Tell};
+use dt_testing::numbers::{
     ANY, BUFFER, EFAULT, EINVAL, END, ENOSYS, GETEGID, GETEUID, GETGID, GETPID, GETPPID, GETTID,
     GETUID, MADVISE, MREMAP, PRLIMIT64, RSEQ, SCHED_YIELD, SET_ROBUST_LIST, SET_TID_ADDRESS, STATX,
     TRAMPOLINE, UNAME, WAIT4, WRITE,
 };
-use crate::step::Step;
-use crate::step::Step::{At, Call as Calls, Exit, Fill, Fork, Tell};
+use dt_testing::{Case, Outcome, Step};
 use std::alloc::{AllocError, Global};
 use std::test::Fail;
 
@@ -130,7 +130,7 @@ const CASES: &[Case] = &[
 
 #[test]
 fn a_process_is_told_of_itself(rt: HostRuntime) -> Result<(), Fail> {
-    let differences = differing(rt.alloc(), CASES)?;
+    let differences = SETTING.differing(rt.alloc(), CASES)?;
     assert_eq!(rt; differences.as_str(), "");
     Ok(())
 }
@@ -167,7 +167,9 @@ fn the_names_of_the_system(rt: HostRuntime) -> Result<(), Fail> {
         verdict: "ended",
         status: 0,
     };
-    let differences = Trial::new(alloc, SHOW_NAMES, &[])?.differences(alloc, outcome)?;
+    let differences = SETTING
+        .trial(alloc, SHOW_NAMES, &[])?
+        .differences(alloc, outcome)?;
     assert_eq!(rt; differences.as_str(), "");
     Ok(())
 }

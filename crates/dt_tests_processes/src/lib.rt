@@ -4,8 +4,6 @@
 #[cfg(test)]
 mod budgets;
 #[cfg(test)]
-mod case;
-#[cfg(test)]
 mod clones;
 #[cfg(test)]
 mod ends;
@@ -14,15 +12,11 @@ mod full;
 #[cfg(test)]
 mod identity;
 #[cfg(test)]
-mod image;
-#[cfg(test)]
-mod numbers;
-#[cfg(test)]
 mod programs;
 #[cfg(test)]
 mod scripts;
 #[cfg(test)]
-mod step;
+mod setting;
 #[cfg(test)]
 mod trio;
 #[cfg(test)]

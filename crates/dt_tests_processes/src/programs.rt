@@ -1,13 +1,13 @@
 // execve(2): what the new program finds, and what is refused.
-use crate::case::Shown::{Code, Given, Out, Signal, Told};
-use crate::case::{Case, differing};
-use crate::numbers::{
+use crate::setting::SETTING;
+use dt_testing::Shown::{Code, Given, Out, Signal, Told};
+use dt_testing::Step::{At, Call as Calls, Exit, Fill, Fork, Keep, Look, Put, Start, Tell, Text};
+use dt_testing::numbers::{
     ANY, ARGUMENTS, BRK, BUFFER, CHDIR, CLOSE, CWD, DATA, DUP, E2BIG, EACCES, EBADF, ECHILD,
     EFAULT, ELOOP, ENAMETOOLONG, END, ENOENT, ENOEXEC, ENOTDIR, ENVIRONMENT, EXECVE, FCNTL, GETCWD,
-    GETPID, GETPPID, LSEEK, O_CLOEXEC, OPENAT, PATH, READ, STACK_END, UMASK, WAIT4, WRITE,
+    GETPID, GETPPID, LSEEK, O_CLOEXEC, OPENAT, PATH, READ, SP, STACK_END, UMASK, WAIT4, WRITE,
 };
-use crate::step::Step;
-use crate::step::Step::{At, Call as Calls, Exit, Fill, Fork, Look, Put, Stack, Start, Tell, Text};
+use dt_testing::{Case, Step};
 use std::test::Fail;
 
 // The program shows what it was given.
@@ -121,7 +121,7 @@ const GIVEN: &[Case] = &[
 
 #[test]
 fn what_a_program_is_given(rt: HostRuntime) -> Result<(), Fail> {
-    let differences = differing(rt.alloc(), GIVEN)?;
+    let differences = SETTING.differing(rt.alloc(), GIVEN)?;
     assert_eq!(rt; differences.as_str(), "");
     Ok(())
 }
@@ -231,7 +231,7 @@ const REFUSED: &[Case] = &[
 
 #[test]
 fn what_cannot_be_executed(rt: HostRuntime) -> Result<(), Fail> {
-    let differences = differing(rt.alloc(), REFUSED)?;
+    let differences = SETTING.differing(rt.alloc(), REFUSED)?;
     assert_eq!(rt; differences.as_str(), "");
     Ok(())
 }
@@ -262,7 +262,7 @@ const LONG: &[Case] = &[
             Tell,
             Calls(EXECVE, &[BUFFER + 0x10, DATA, 0]),
         ],
-        second: &[Stack, Tell, Exit(0)],
+        second: &[Keep(SP), Tell, Exit(0)],
         shown: &[
             Told(&[E2BIG, E2BIG, ENOENT, E2BIG, ENOENT, E2BIG, EFAULT, ENOENT]),
             Told(&[274877767392]),
@@ -289,7 +289,7 @@ const LONG: &[Case] = &[
             Put(BUFFER + 0x20, BUFFER + 0x109 + 23),
             Calls(EXECVE, &[BUFFER + 0x16, DATA, BUFFER + 0x20]),
         ],
-        second: &[Stack, Tell, Exit(0)],
+        second: &[Keep(SP), Tell, Exit(0)],
         shown: &[Told(&[E2BIG, E2BIG]), Told(&[274877767408]), Code(1, 0)],
         verdict: "ended",
         status: 0,
@@ -298,7 +298,7 @@ const LONG: &[Case] = &[
 
 #[test]
 fn lists_that_are_too_long(rt: HostRuntime) -> Result<(), Fail> {
-    let differences = differing(rt.alloc(), LONG)?;
+    let differences = SETTING.differing(rt.alloc(), LONG)?;
     assert_eq!(rt; differences.as_str(), "");
     Ok(())
 }
@@ -351,7 +351,7 @@ const LASTING: &[Case] = &[
             Calls(EXECVE, &[PATH, 0, 0]),
         ],
         second: &[Calls(BRK, &[0]), Look(BUFFER), Tell, Look(END)],
-        shown: &[Told(&[86016, 0]), Signal(1, 11)],
+        shown: &[Told(&[END, 0]), Signal(1, 11)],
         verdict: "ended",
         status: 1,
     },
@@ -434,7 +434,7 @@ const LASTING: &[Case] = &[
 
 #[test]
 fn what_stays_of_a_process(rt: HostRuntime) -> Result<(), Fail> {
-    let differences = differing(rt.alloc(), LASTING)?;
+    let differences = SETTING.differing(rt.alloc(), LASTING)?;
     assert_eq!(rt; differences.as_str(), "");
     Ok(())
 }

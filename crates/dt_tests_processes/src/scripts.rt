@@ -1,9 +1,9 @@
 // Scripts: files that begin with `#!` and the path of an interpreter.
-use crate::case::Shown::{Code, Given, Told};
-use crate::case::{Case, Outcome, Shown, Trial, differing};
-use crate::numbers::{ARGUMENTS, CHDIR, ENOTDIR, EXECVE, GETPID, PATH};
-use crate::step::Step;
-use crate::step::Step::{Call as Calls, Exit, Put, Start, Tell, Text};
+use crate::setting::{ONE_HOST, SETTING};
+use dt_testing::Shown::{Code, Given, Told};
+use dt_testing::Step::{Call as Calls, Exit, Put, Start, Tell, Text};
+use dt_testing::numbers::{ARGUMENTS, CHDIR, ENOTDIR, EXECVE, GETPID, PATH};
+use dt_testing::{Case, Outcome, Shown, Step, Trial};
 use std::alloc::{AllocError, Global};
 use std::test::Fail;
 
@@ -65,9 +65,10 @@ fn trial(alloc: Global, script: &[u8]) -> Result<Trial, Fail> {
     let words = String::from_str(alloc, "run\nimg\n--\n/s\ny")?;
     let script = Vec::from_slice(alloc, script)?;
     Ok(
-        Trial::new(alloc, &[], SHOWS)?
+        SETTING
+            .trial(alloc, &[], SHOWS)?
             .with_words(words)
-            .with_script(script),
+            .with_blob("img/s", script)?,
     )
 }
 
@@ -201,7 +202,7 @@ const EXECUTED: &[Case] = &[
 
 #[test]
 fn scripts_that_are_executed(rt: HostRuntime) -> Result<(), Fail> {
-    let differences = differing(rt.alloc(), EXECUTED)?;
+    let differences = SETTING.differing(rt.alloc(), EXECUTED)?;
     assert_eq!(rt; differences.as_str(), "");
     Ok(())
 }
@@ -226,8 +227,10 @@ fn scripts_that_cannot_be_executed(rt: HostRuntime) -> Result<(), Fail> {
             status: 0,
         };
         let script = Vec::from_slice(alloc, script)?;
-        let trial = Trial::new(alloc, &steps, SHOWS)?.with_one_host();
-        let differences = trial.with_script(script).differences(alloc, outcome)?;
+        let trial = SETTING.under(ONE_HOST).trial(alloc, &steps, SHOWS)?;
+        let differences = trial
+            .with_blob("img/s", script)?
+            .differences(alloc, outcome)?;
         assert_eq!(rt; differences.as_str(), "", "{errno}");
     }
     Ok(())

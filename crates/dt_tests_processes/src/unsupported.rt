@@ -1,9 +1,11 @@
 // Calls that end a run, since the program does not know what they ask for.
-use crate::case::Shown::Code;
-use crate::case::{Case, Outcome, Trial, differing};
-use crate::numbers::{BUFFER, CHILD_SETTID, CLONE, MMAP, PARENT_SETTID, SIGCHLD, SOCKET, WAIT4};
-use crate::step::Step;
-use crate::step::Step::{At, Call as Calls, Exit, Fork, Wide};
+use crate::setting::{ONE_HOST, SETTING};
+use dt_testing::Shown::Code;
+use dt_testing::Step::{At, Call as Calls, Exit, Fork, Wide};
+use dt_testing::numbers::{
+    BUFFER, CHILD_SETTID, CLONE, MMAP, PARENT_SETTID, SIGCHLD, SOCKET, WAIT4,
+};
+use dt_testing::{Case, Outcome, Step};
 use std::test::Fail;
 
 // Nothing that is asked of clone(2) but a process of its own, with SIGCHLD at its end: threads, vfork(2),
@@ -58,7 +60,7 @@ fn calls_that_are_not_known_are_the_verdict(rt: HostRuntime) -> Result<(), Fail>
             verdict,
             status: 10,
         };
-        let trial = Trial::new(alloc, &[*step], &[])?.with_one_host();
+        let trial = SETTING.under(ONE_HOST).trial(alloc, &[*step], &[])?;
         let differences = trial.differences(alloc, outcome)?;
         assert_eq!(rt; differences.as_str(), "", "{step:?}");
     }
@@ -106,7 +108,7 @@ const CASES: &[Case] = &[
 
 #[test]
 fn calls_of_children_that_are_not_known(rt: HostRuntime) -> Result<(), Fail> {
-    let differences = differing(rt.alloc(), CASES)?;
+    let differences = SETTING.differing(rt.alloc(), CASES)?;
     assert_eq!(rt; differences.as_str(), "");
     Ok(())
 }

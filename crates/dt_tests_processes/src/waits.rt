@@ -1,11 +1,12 @@
 // Waits for children.
-use crate::case::Shown::{Code, Signal, Told};
-use crate::case::{Case, differing};
-use crate::numbers::{
-    ANY, BUFFER, ECHILD, EFAULT, EINVAL, END, SCHED_YIELD, TRAMPOLINE, WAIT4, WNOHANG,
-};
-use crate::step::Step::{
+use crate::setting::SETTING;
+use dt_testing::Case;
+use dt_testing::Shown::{Code, Signal, Told};
+use dt_testing::Step::{
     Again, At, Break, Call as Calls, Exit, Fill, Fork, Look, Put, Spin, Tell, Times,
+};
+use dt_testing::numbers::{
+    ANY, BUFFER, ECHILD, EFAULT, EINVAL, END, SCHED_YIELD, TRAMPOLINE, WAIT4, WNOHANG,
 };
 use std::test::Fail;
 
@@ -179,7 +180,7 @@ const STATUSES: &[Case] = &[
 
 #[test]
 fn what_a_wait_writes(rt: HostRuntime) -> Result<(), Fail> {
-    let differences = differing(rt.alloc(), STATUSES)?;
+    let differences = SETTING.differing(rt.alloc(), STATUSES)?;
     assert_eq!(rt; differences.as_str(), "");
     Ok(())
 }
@@ -292,7 +293,7 @@ const ORDERS: &[Case] = &[
 
 #[test]
 fn which_child_a_wait_finds(rt: HostRuntime) -> Result<(), Fail> {
-    let differences = differing(rt.alloc(), ORDERS)?;
+    let differences = SETTING.differing(rt.alloc(), ORDERS)?;
     assert_eq!(rt; differences.as_str(), "");
     Ok(())
 }
@@ -425,7 +426,7 @@ const ARGUMENTS: &[Case] = &[
 
 #[test]
 fn arguments_of_a_wait(rt: HostRuntime) -> Result<(), Fail> {
-    let differences = differing(rt.alloc(), ARGUMENTS)?;
+    let differences = SETTING.differing(rt.alloc(), ARGUMENTS)?;
     assert_eq!(rt; differences.as_str(), "");
     Ok(())
 }

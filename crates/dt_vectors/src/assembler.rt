@@ -1,6 +1,6 @@
 // The assembler: words of instructions against the GNU assembler's, files of guests, and what a loaded number is.
 use crate::encodings::WORDS;
-use dt_asm::{AsmErr, Guest, cat1, encode, hello, trio};
+use dt_asm::{AsmErr, Guest, cat1, encode, first, hello, late, trio};
 use dt_rv64::{Instr, Machine, Step, decode};
 use dt_space::Space;
 use std::alloc::{AllocError, Global};
@@ -70,6 +70,51 @@ const CAT1: [u32; 19] = [
     0x0000_0513,
     0x05d0_0893,
     0x0000_0073,
+];
+
+// As the GNU assembler makes it.
+const LATE: [u32; 27] = [
+    0x0110_0513,
+    0x0000_0593,
+    0x0dc0_0893,
+    0x0000_0073,
+    0x0205_0c63,
+    0x0020_0513,
+    0x0090_0593,
+    0x0810_0893,
+    0x0000_0073,
+    0x0020_0513,
+    0x0000_0593,
+    0x0000_0613,
+    0x0000_0693,
+    0x1040_0893,
+    0x0000_0073,
+    0x0000_0513,
+    0x05d0_0893,
+    0x0000_0073,
+    0x0010_0513,
+    0x0001_05b7,
+    0x0e45_8593,
+    0x0010_0613,
+    0x0400_0893,
+    0x0000_0073,
+    0x0000_0513,
+    0x05d0_0893,
+    0x0000_0073,
+];
+
+// As the GNU assembler makes it.
+const FIRST: [u32; 10] = [
+    0x0110_0513,
+    0x0000_0593,
+    0x0dc0_0893,
+    0x0000_0073,
+    0x0005_0863,
+    0x0030_0513,
+    0x05d0_0893,
+    0x0000_0073,
+    0x0015_0513,
+    0xffdf_f06f,
 ];
 
 // The file of this code and data, with its headers written out.
@@ -207,6 +252,14 @@ fn files_of_the_guests_by_name(rt: HostRuntime) -> Result<(), Fail> {
     assert_eq!(rt;
         trio(alloc)?.elf()?.as_slice(),
         listed(alloc, &TRIO, b"")?.as_slice()
+    );
+    assert_eq!(rt;
+        late(alloc)?.elf()?.as_slice(),
+        listed(alloc, &LATE, b"x")?.as_slice()
+    );
+    assert_eq!(rt;
+        first(alloc)?.elf()?.as_slice(),
+        listed(alloc, &FIRST, b"")?.as_slice()
     );
     let mut expected = listed(alloc, &CAT1, b"/f\0")?;
     for (at, byte) in [(68, 7), (104, 0), (105, 0x40)] {

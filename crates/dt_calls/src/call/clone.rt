@@ -1,16 +1,19 @@
 // The start of a process.
-ghost use Rattle.std.specs.Prelude.{◌≡◌, ◌↔◌, ◌+◌, [], IfOk, OnOk, IsTrue, Some, IsErrOf};
+ghost use Rattle.std.specs.Prelude.{◌≡◌, ◌↔◌, ◌+◌, [], IfOk, OnOk, IsTrue, Some, IsSome, IsErrOf};
+ghost use Rattle.std.specs.FinMap.{get, insert};
 ghost use Rattle.dt_procs.specs.declared.error.ProcErr.TheVariants.{Host as host_failed};
 ghost use Rattle.dt_procs.specs.Members.{is_full};
 ghost use Rattle.dt_host.specs.Cause.{HasCause};
 ghost use Rattle.dt_calls.specs.Clone.{clone_call, is_supported, with_pid, with_stack, child_machine, parent_machine};
 ghost use Rattle.dt_calls.specs.Clone.{child_process, with_child_of};
+ghost use Rattle.dt_calls.specs.Container.{signals_in};
+ghost use Rattle.dt_signals.specs.Signals.{forked};
 ghost use Rattle.dt_calls.specs.InCode.{shared_of};
 ghost use Rattle.dt_calls.specs.Sound.{IsSoundHand, Serves, hand};
 
 use super::{Effect, Outcome};
 use crate::numbers::{
-    CLONE, CLONE_CHILD_CLEARTID, CLONE_CHILD_SETTID, CLONE_PARENT_SETTID, CSIGNAL, SIGCHLD,
+    CLONE, CLONE_CHILD_CLEARTID, CLONE_CHILD_SETTID, CLONE_PARENT_SETTID, CSIGNAL,
 };
 use crate::shared::{Process, Shared};
 use dt_base::abi::{A0, A1, A2, A4, SP};
@@ -18,6 +21,7 @@ use dt_base::{Caller, Errno, NoMemory};
 use dt_host::{Host, HostErr};
 use dt_procs::ProcErr;
 use dt_rv64::Machine;
+use dt_signals::numbers::SIGCHLD;
 use std::alloc::Global;
 
 /// clone(2) of a process (fork(2)): EAGAIN where 64 processes and zombies are there.
@@ -51,7 +55,7 @@ fn is_supported(flags: u64) -> bool
     ensures { result ≡ is_supported flags }
 {
     let known = CSIGNAL | (CLONE_PARENT_SETTID | (CLONE_CHILD_CLEARTID | CLONE_CHILD_SETTID));
-    flags & CSIGNAL == SIGCHLD && flags | known == known
+    flags & CSIGNAL == u64::from(SIGCHLD) && flags | known == known
 }
 
 // The machine with a pid at an address, if a flag asks for it; an address that can't be written is ignored.
@@ -109,8 +113,8 @@ fn copy_machine(alloc: Global, machine: &mut Machine, vpid: u32) -> Result<Effec
 }
 
 impl Shared {
-    // Enters a child: it holds its working directory, and has its parent's descriptors. Full exactly where 64 processes
-    // and zombies are there.
+    // Enters a child: it holds its working directory, and has its parent's descriptors, actions and mask. Full exactly
+    // where 64 processes and zombies are there.
     fn add_child<H: Host>(&mut self, host: &mut H, own: &Process) -> Result<u32, ProcErr>
         requires sound { IsSoundHand (hand self.old own.now (H.view host.old)) }
         ensures full { (IsErrOf result ProcErr.Full)
@@ -128,10 +132,24 @@ impl Shared {
         let vpid = self.pids.child(host, parent)?;
         self.fs.tree.hold(host, own.caller.cwd)?;
         self.fs.files.share_all(parent, vpid)?;
-        match self.processes.put(u64::from(vpid), own.copy_as(vpid)) {
+        match self.enter(own, vpid) {
             Ok(()) => Ok(vpid),
             Err(_) => Err(ProcErr::Host(HostErr::NoMemory)),
         }
+    }
+
+    // Enters a child's part and its signal state.
+    fn enter(&mut self, own: &Process, vpid: u32) -> Result<(), NoMemory>
+        requires { IsSome (get self.old.signals own.now.caller.vpid) }
+        ensures { OnOk result (self.new ≡ record self.old {
+          processes = insert self.old.processes vpid (child_process own.now vpid);
+          signals = insert self.old.signals vpid (forked (signals_in self.old.signals own.now.caller.vpid));
+        }) }
+    {
+        let signals = self.signals_of(own.caller.vpid).forked();
+        self.processes.put(u64::from(vpid), own.copy_as(vpid))?;
+        self.signals.put(u64::from(vpid), signals)?;
+        Ok(())
     }
 }
 

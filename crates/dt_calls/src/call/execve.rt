@@ -13,7 +13,7 @@ use dt_mcalls::Break;
 use dt_rv64::Machine;
 use std::alloc::Global;
 
-/// execve(2): the process goes on as another program, and what is marked close-on-exec is closed.
+/// execve(2): the process goes on as another program; what is marked close-on-exec is closed, and handlers are gone.
 #[tactic(auto, unfolding(crate::specs::Execve::execve_call))]
 pub fn execve<H: Host>(
     alloc: Global,
@@ -65,6 +65,7 @@ fn take_up<H: Host>(
         .fs
         .files
         .close_exec(host, &mut shared.fs.tree, own.caller.vpid)?;
+    shared.reset_handlers(own.caller.vpid);
     own.start(program.break_start);
     *machine = program.machine;
     Ok(Effect::quiet(alloc, Outcome::Done))

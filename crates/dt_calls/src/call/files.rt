@@ -34,6 +34,7 @@ pub fn call<H: Host>(
         (H.count host.old) (H.count host.new) }
 {
     let args = arguments(machine);
+    let vpid = own.caller.vpid;
     let answer = serve_row(
         alloc,
         &mut shared.fs,
@@ -43,6 +44,7 @@ pub fn call<H: Host>(
         number,
         args,
     )?;
+    shared.raise_after(vpid, &answer);
     own.caller.done = done_after(own.caller.done, &answer);
     Ok(answered(alloc, machine, number, answer)?)
 }

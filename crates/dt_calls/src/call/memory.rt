@@ -6,8 +6,8 @@ ghost use Rattle.dt_calls.specs.InCode.{effect_as};
 
 use super::{Effect, Outcome};
 use crate::shared::Process;
-use dt_base::abi::{A0, A1, A2, A3, MMAP, MPROTECT, MUNMAP, SIGPIPE};
-use dt_base::{Answer, End, NoMemory};
+use dt_base::abi::{A0, A1, A2, A3, MMAP, MPROTECT, MUNMAP};
+use dt_base::{Answer, NoMemory};
 use dt_rv64::Machine;
 use std::alloc::Global;
 
@@ -78,10 +78,8 @@ pub fn answered(
         Answer::Output(stream, bytes) => Effect::puts_out(alloc, machine, stream, bytes),
         Answer::Waits => Ok(Effect::quiet(alloc, Outcome::Blocked)),
         Answer::Part(_) => Ok(Effect::quiet(alloc, Outcome::Moved)),
-        Answer::Pipe(_) => {
-            let end = End::Signal(SIGPIPE);
-            Ok(Effect::quiet(alloc, Outcome::Ends(end)))
-        }
+        Answer::Pipe(Ok(moved)) => Ok(Effect::done(alloc, machine, moved)),
+        Answer::Pipe(Err(errno)) => Ok(Effect::refused(alloc, machine, errno)),
         Answer::Unsupported => Ok(Effect::quiet(alloc, Outcome::Unsupported(number))),
     }
 }

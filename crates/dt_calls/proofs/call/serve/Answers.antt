@@ -1,17 +1,29 @@
-use Rattle.std.proofs.Common.{ap, ◌∙◌}
+use Rattle.std.proofs.Common.{ℕ, Option, subst}
+use Rattle.std.specs.Prelude.{Ok}
 use Rattle.dt_calls.specs.Call.{served}
+use Rattle.dt_calls.specs.Delivery.{after_delivery}
 use Rattle.dt_calls.specs.InCode.{shared_of}
-use Rattle.dt_calls.proofs.Held.{serves-time}
+use Rattle.dt_calls.specs.Sound.{Serves, hand}
+use Rattle.dt_calls.proofs.Delivering.{serves-delivered}
+use Rattle.dt_calls.proofs.Held.{own-signalled}
 use Rattle.dt_calls.proofs.call.serve.Goals as goal
 
-pub returns-in-Counter : goal.returns-in-Counter
-unfolding served
-returns-in-Counter g c =
+pub deliver_at-requires : goal.deliver_at-requires
+deliver_at-requires g c =
+    own-signalled c.serve_stop.new.shared c.serve_stop.new.own (g.H.Host.view c.serve_stop.new.host) c.in_ok-effect.ensures.kept.sound
+
+pub returns : goal.returns
+returns g c =
     let shared = c.args.shared.now in
     let own = c.args.own.now in
     let m = c.args.machine.now in
-    let world = g.H.Host.view c.args.host.now in
-    let before = shared_of shared world in
-    let read = c.read_counter.ensures in
-    serves-time (served before shared.pids.next own m c.args.stop) shared own world c.read_counter.new.machine c.read_counter.result (g.H.Host.count c.args.host.now) c.requires read.child
-    c.read_counter.new.shared read.rest read.files (ap (served before shared.pids.next own m) c.in-Counter.is ∙ read.served world own)
+    let w = g.H.Host.view c.args.host.now in
+    let mid = c.serve_stop.new.shared in
+    let v = g.H.Host.view c.serve_stop.new.host in
+    let e = c.in_ok-effect.effect in
+    let d = c.deliver_at in
+    subst (λ (forced : Option ℕ). Serves (after_delivery forced (served (shared_of shared w) shared.pids.next own m c.args.stop)) (hand shared own w)
+    (hand (record mid { signals = d.new.signals }) d.new.own v) d.new.machine (Ok (record e { outcome = d.new.outcome }))
+    (g.H.Host.count c.args.host.now) (g.H.Host.count c.serve_stop.new.host)) c.forced_by-forced.ensures
+    (serves-delivered _ _ _ mid c.serve_stop.new.own v c.serve_stop.new.machine e d.new.signals d.new.own d.new.machine d.new.outcome _ _
+    c.in_ok-effect.ensures d.ensures.delivers _ d.ensures.rest)

@@ -1,5 +1,4 @@
-use Rattle.std.proofs.Common.{◌≡◌, ◌==◌, false, length, refl, sym, ap, ◌∙◌, arith}
-use Rattle.std.specs.Prelude.{min}
+use Rattle.std.proofs.Common.{◌≡◌, length, refl, sym, ap, ◌∙◌, arith}
 use Rattle.dt_base.specs.declared.answer.Answer.TheVariants.{Refused}
 use Rattle.dt_base.specs.declared.errno.Errno.TheVariants.{Fault as BadAddress}
 use Rattle.dt_fds.proofs.Piped.{no_zero}

@@ -1,4 +1,4 @@
-use Rattle.dt_iocalls.proofs.Flows.{has_ends}
+use Rattle.dt_fds.proofs.Moving.{has_ends}
 use Rattle.dt_iocalls.proofs.reading.reads_pipe.Goals as goal
 
 pub held-held-requires : goal.held-held-requires

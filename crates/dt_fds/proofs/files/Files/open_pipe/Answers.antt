@@ -1,18 +1,16 @@
-use Rattle.std.proofs.Common.{◌≡◌, ◌<◌, true, None, Some, refl, sym, ap, subst, ◌∙◌, arith}
+use Rattle.std.proofs.Common.{◌≡◌, true, None, sym, ap, subst, ◌∙◌, arith}
 use Rattle.std.specs.Prelude.{IsSome}
 use Rattle.std.specs.FinMap.{get, insert}
 use Rattle.dt_base.specs.Abi.{has}
 use Rattle.dt_base.specs.declared.abi.TheConstants.{O_CLOEXEC}
 use Rattle.dt_tree.specs.Table.{tree_of, Stands}
-use Rattle.dt_pipes.specs.Table as pipes
 use Rattle.dt_pipes.specs.Table.{pipes_of}
-use Rattle.dt_fds.specs.declared.ends.Ends.{Ends}
-use Rattle.dt_fds.specs.Descriptions.{Descriptions, slot_at, opened}
+use Rattle.dt_fds.specs.Descriptions.{slot_at, opened}
 use Rattle.dt_fds.specs.Ends.{AreCounted}
 use Rattle.dt_fds.specs.OpenFiles.{pipes_at}
-use Rattle.dt_fds.specs.Pipes.{Pipes, with_new_pipe}
-use Rattle.dt_fds.specs.Holding.{Holding, over, with_pipe, read_end, write_end}
-use Rattle.dt_fds.specs.Backs.{Backs, KeepsOthers, at, holding}
+use Rattle.dt_fds.specs.Pipes.{with_new_pipe}
+use Rattle.dt_fds.specs.Holding.{Holding, over, read_end, write_end}
+use Rattle.dt_fds.specs.Backs.{Backs, KeepsOthers}
 use Rattle.dt_fds.proofs.Slots.{slot-opened_other, table-opened}
 use Rattle.dt_fds.proofs.Piping.{backs-pipe, others-pipe, counted-pipe, next-free}
 use Rattle.dt_fds.proofs.files.Files.open_pipe.Goals as goal

@@ -1,4 +1,4 @@
-use Rattle.std.proofs.Common.{◌≡◌, ◌==◌, false, ◌++◌, arith, refl, sym, ap, subst, ◌∙◌, length, take, drop}
+use Rattle.std.proofs.Common.{◌≡◌, ◌==◌, false, ◌++◌, arith, sym, ap, subst, ◌∙◌, length, take, drop}
 use Rattle.std.proofs.lemmas.Bool.Decides.{nat_tests}
 use Rattle.std.specs.Prelude.{IsSome, Ok, min, if◌then◌else◌}
 use Rattle.std.specs.FinMap.{get, insert}
@@ -6,7 +6,6 @@ use Rattle.dt_tree.specs.Table.{tree_of}
 use Rattle.dt_pipes.specs.Table.{pipes_of}
 use Rattle.dt_pipes.proofs.Held.{has-pipes_of}
 use Rattle.dt_fds.specs.Descriptions.{description_at, writers}
-use Rattle.dt_fds.specs.OpenFiles.{pipes_at}
 use Rattle.dt_fds.specs.Pipes.{content, holds, none_held}
 use Rattle.dt_fds.specs.Holding.{over, done, pipe_read_call, bytes_read}
 use Rattle.dt_fds.specs.declared.flow.Flow.TheVariants.{Moved}

@@ -1,71 +1,12 @@
-use Rattle.std.proofs.Common.{◌≡◌, ◌==◌, ◌+◌, ◌≤◌, ◌++◌, Bool, true, false, arith, refl, sym, ap, subst, ◌∙◌, length, take, drop}
-use Rattle.std.specs.Prelude.{IsSome, Ok, not, if◌then◌else◌}
-use Rattle.std.specs.FinMap.{get, insert}
-use Rattle.dt_base.specs.declared.limits.TheConstants.{PIPE_LIMIT}
-use Rattle.dt_tree.specs.Table.{tree_of}
-use Rattle.dt_pipes.specs.Table.{pipes_of}
-use Rattle.dt_pipes.proofs.Held.{has-pipes_of}
-use Rattle.dt_fds.specs.Descriptions.{description_at, readers}
-use Rattle.dt_fds.specs.OpenFiles.{pipes_at}
-use Rattle.dt_fds.specs.Pipes.{content, goes, write_flow}
-use Rattle.dt_fds.specs.Holding.{over, done, write_on, pipe_write_call}
-use Rattle.dt_fds.specs.declared.flow.Flow.TheVariants.{Broken}
-use Rattle.dt_fds.specs.Backs.{at, holding}
-use Rattle.dt_fds.proofs.Ending.{of-described, write-there, write-by, none-if}
-use Rattle.dt_fds.proofs.Piped.{backed-piped, others-piped, does-as, unless-as, never-as}
+use Rattle.std.proofs.Common.{refl, sym, ap, ◌∙◌, take, drop}
+use Rattle.dt_fds.proofs.Moving.{has_ends}
 use Rattle.dt_fds.proofs.files.Files.pipe_write.Goals as goal
 
-pub held-requires : goal.held-requires
-held-requires g c =
-    let f = c.args.self.now in
-    let host = (g.H.Host.view c.args.host.now).pipes in
-    let found = description_at f.descriptors c.args.pid c.args.fd in
-    sym (has-pipes_of f.pipes host c.in-Some.q)
-    ∙ write-there found c.in-Some.q c.in-Some.nonblock (λ q. IsSome (get (pipes_of f.pipes host) q)) (of-described f.descriptors c.args.pid c.args.fd (λ q. IsSome (get (pipes_of f.pipes host) q)) c.requires.piped.there) (sym c.in-Some.ensures)
-
-pub put-requires-clause-there : goal.put-requires-clause-there
-put-requires-clause-there g c =
-    let f = c.args.self.now in
-    let host = (g.H.Host.view c.args.host.now).pipes in
-    let found = description_at f.descriptors c.args.pid c.args.fd in
-    sym (has-pipes_of f.pipes host c.in-Some.q)
-    ∙ write-there found c.in-Some.q c.in-Some.nonblock (λ q. IsSome (get (pipes_of f.pipes host) q)) (of-described f.descriptors c.args.pid c.args.fd (λ q. IsSome (get (pipes_of f.pipes host) q)) c.requires.piped.there) (sym c.in-Some.ensures)
-
-pub goes-moved-requires-clause-count : goal.goes-moved-requires-clause-count
-goes-moved-requires-clause-count g c = c.held.ensures.within (g.H.Host.view c.args.host.now).pipes c.requires.piped.stands
+pub pipe_moves-moved-requires-clause-ends : goal.pipe_moves-moved-requires-clause-ends
+pipe_moves-moved-requires-clause-ends g c = has_ends c.args.self.now (g.H.Host.view c.args.host.now).pipes c.requires.piped
 
 pub returns-clause-makes : goal.returns-clause-makes
-unfolding pipe_write_call
 returns-clause-makes g c = λ table backed.
-    let f = c.args.self.now in
-    let world = g.H.Host.view c.args.host.now in
-    let h = holding (at f table world) in
-    let found = description_at f.descriptors c.args.pid c.args.fd in
-    let q = c.in-Some.q in
-    let nonblock = c.in-Some.nonblock in
-    let bytes = c.args.bytes.now in
-    let old = content h.pipes q in
-    let whole = length bytes in
-    let put = c.in_ok-put.ensures in
-    let answer = write_flow whole c.args.done c.goes-moved.result nonblock in
-    let read : (readers f.descriptors q == 0) ≡ false = none-if (readers f.descriptors q) _ (c.requires.piped.counted.reading q) ∙ ap not (sym c.is_read.ensures ∙ c.if-not-is_read.false) in
-    let moved = c.goes-moved.ensures.value ∙ ap (λ n. goes n whole c.args.done) (c.held.ensures.count world.pipes c.requires.piped.stands) in
-    let piece = c.split_at-2.ensures.front ∙ ap (take c.goes-moved.result) c.split_at.ensures.back in
-    let contents = put.pipes ∙ ap (λ xs. insert (pipes_of f.pipes world.pipes) q (old ++ xs)) piece in
-    let made = write-by h bytes c.args.done found q nonblock (sym c.in-Some.ensures)
-    ∙ ap (λ b. if b then done h (Broken c.args.done) else write_on h nonblock bytes c.args.done q) read
-    ∙ ap (λ n. record {
-      answer = write_flow whole c.args.done n nonblock;
-      next = record h { pipes = record h.pipes { contents = insert (pipes_of f.pipes world.pipes) q (old ++ take n (drop c.args.done bytes)) } };
-    }) (sym moved)
-    ∙ (λ i. record {
-      answer = answer;
-      next = over (tree_of table (sym put.rest.forest i)) (record { contents = sym contents i; next = sym put.next i }) f.descriptors;
-    }) in
-    record {
-      made = does-as answer c.write_flow.result _ _ c.write_flow.ensures made;
-      backed = unless-as answer c.write_flow.result _ c.write_flow.ensures (backed-piped f c.put.new.self world (g.H.Host.view c.put.new.host) table backed put.stands put.there put.rest);
-      others = unless-as answer c.write_flow.result _ c.write_flow.ensures (others-piped f c.put.new.self world (g.H.Host.view c.put.new.host) table backed put.stands put.there put.rest c.args.pid);
-      rest = put.rest.pids;
-      cause = record { later = put.cause.later; rose = λ failed. absurd (never-as answer c.write_flow.result c.write_flow.ensures failed) };
-    }
+    c.pipe_write_part.ensures.makes table c.args.bytes.now backed refl
+    (ap (λ n. take n (drop c.args.done c.args.bytes.now)) c.split_at-2.ensures.front_len
+    ∙ sym (c.split_at-2.ensures.front ∙ ap (take c.pipe_moves-moved.result) c.split_at.ensures.back))

@@ -1,0 +1,66 @@
+-- Signals that a process sends: kill(2), tkill(2), tgkill(2). A process has one thread, whose number is the process's.
+use Rattle.std.specs.Prelude.{ℕ, ◌^◌, ◌==◌, ◌||◌, ◌&&◌, not, nat_lt, nat_le, Bool, is_some, if◌then◌else◌}
+use Rattle.dt_base.specs.declared.abi.TheConstants.{A0, A1, A2}
+use Rattle.dt_base.specs.Abi.{low_word}
+use Rattle.dt_base.specs.declared.errno.Errno.TheVariants.{Inval, Srch}
+use Rattle.dt_procs.specs.Members.{parent_of}
+use Rattle.dt_rv64.specs.declared.machine.Machine.{Machine}
+use Rattle.dt_rv64.specs.Effects.{register}
+use Rattle.dt_signals.specs.declared.numbers.TheConstants.{SIGCHLD, SIGNAL_LIMIT}
+use Rattle.dt_calls.specs.declared.call.effect.Outcome.TheVariants.{Unsupported}
+use Rattle.dt_calls.specs.declared.numbers.TheConstants.{KILL, TKILL, TGKILL}
+use Rattle.dt_calls.specs.declared.shared.Process.{Process}
+use Rattle.dt_calls.specs.Container.{Shared, raised_at}
+use Rattle.dt_calls.specs.Effect.{Effect, quiet, done, refused}
+
+-- the low 32 bits as a signed number are below 1: no process has this pid
+abbrev pub is_below_one : ℕ → Bool
+is_below_one pid = (pid == 0) || nat_le (2 ^ 31) pid
+
+-- a signal that is never sent: SIGCHLD is the last that is
+abbrev pub is_unsent : ℕ → Bool
+is_unsent signal = nat_lt SIGCHLD signal && nat_le signal SIGNAL_LIMIT
+
+-- a process of this pid is there, a zombie included
+abbrev pub is_there : Shared → ℕ → Bool
+is_there c pid = is_some (parent_of c.members pid)
+
+-- a signal is pending at a process that lives; signal 0 asks whether it is there
+abbrev pub sends : Shared → Process → Machine → ℕ → ℕ → Effect
+sends c own m pid signal =
+    if signal == 0 then done c own m 0 else done (record c { signals = raised_at pid signal c.signals }) own m 0
+
+-- a signal is sent: EINVAL where there is none of this number, ESRCH where no such process is there
+abbrev pub sends_to : Shared → Process → Machine → ℕ → ℕ → Effect
+sends_to c own m pid signal =
+    if nat_lt SIGNAL_LIMIT signal then refused c own m Inval
+    else if not (is_there c pid) then refused c own m Srch
+    else sends c own m pid signal
+
+-- kill(2) of one process; to a group of processes it isn't supported
+unfoldable pub kill_call : Shared → Process → Machine → Effect
+kill_call c own m =
+    let pid = low_word (register m A0) in
+    let signal = low_word (register m A1) in
+    if is_below_one pid || is_unsent signal then quiet c own m (Unsupported KILL)
+    else sends_to c own m pid signal
+
+-- tkill(2)
+unfoldable pub tkill_call : Shared → Process → Machine → Effect
+tkill_call c own m =
+    let tid = low_word (register m A0) in
+    let signal = low_word (register m A1) in
+    if is_unsent signal then quiet c own m (Unsupported TKILL)
+    else if is_below_one tid then refused c own m Inval
+    else sends_to c own m tid signal
+
+-- tgkill(2): ESRCH also where the thread is of another process
+unfoldable pub tgkill_call : Shared → Process → Machine → Effect
+tgkill_call c own m =
+    let tgid = low_word (register m A0) in
+    let tid = low_word (register m A1) in
+    let signal = low_word (register m A2) in
+    if is_unsent signal then quiet c own m (Unsupported TGKILL)
+    else if is_below_one tgid || is_below_one tid || nat_lt SIGNAL_LIMIT signal then refused c own m Inval
+    else if not (tgid == tid) then refused c own m Srch
+    else sends_to c own m tid signal

@@ -1,0 +1,107 @@
+// Signals that a process sends.
+ghost use Rattle.std.specs.Prelude.{◌≡◌, None};
+ghost use Rattle.dt_host.specs.World.{World};
+ghost use Rattle.dt_calls.specs.Kill.{is_below_one, is_unsent, kill_call, tkill_call, tgkill_call, sends_to};
+ghost use Rattle.dt_calls.specs.InCode.{shared_of, effect_as};
+ghost use Rattle.dt_calls.specs.Sound.{StillSignalled};
+
+use super::{Effect, Outcome};
+use crate::numbers::{KILL, TGKILL, TKILL};
+use crate::shared::Shared;
+use dt_base::Errno;
+use dt_base::abi::{A0, A1, A2, low_word};
+use dt_rv64::Machine;
+use dt_signals::numbers::{SIGCHLD, SIGNAL_LIMIT};
+use std::alloc::Global;
+
+/// kill(2) of one process; to a group of processes it isn't supported.
+#[tactic(auto, unfolding(crate::specs::Kill::kill_call))]
+pub fn kill(alloc: Global, shared: &mut Shared, machine: &mut Machine) -> Effect
+    ensures served { (w : World) → (own : _) → kill_call (shared_of shared.old w) own machine.old
+        ≡ effect_as (shared_of shared.new w) own machine.new result }
+    ensures rest { shared.new ≡ record shared.old { signals = shared.new.signals } }
+    ensures still { StillSignalled shared.old.signals shared.new.signals }
+    ensures child { result.child ≡ None }
+{
+    let (pid, signal) = (low_word(machine.reg(A0)), low_word(machine.reg(A1)));
+    if is_below_one(pid) || is_unsent(signal) {
+        return Effect::quiet(alloc, Outcome::Unsupported(KILL));
+    }
+    send(alloc, shared, machine, pid, signal)
+}
+
+/// tkill(2)
+#[tactic(auto, unfolding(crate::specs::Kill::tkill_call))]
+pub fn tkill(alloc: Global, shared: &mut Shared, machine: &mut Machine) -> Effect
+    ensures served { (w : World) → (own : _) → tkill_call (shared_of shared.old w) own machine.old
+        ≡ effect_as (shared_of shared.new w) own machine.new result }
+    ensures rest { shared.new ≡ record shared.old { signals = shared.new.signals } }
+    ensures still { StillSignalled shared.old.signals shared.new.signals }
+    ensures child { result.child ≡ None }
+{
+    let (tid, signal) = (low_word(machine.reg(A0)), low_word(machine.reg(A1)));
+    if is_unsent(signal) {
+        return Effect::quiet(alloc, Outcome::Unsupported(TKILL));
+    }
+    if is_below_one(tid) {
+        return Effect::refused(alloc, machine, Errno::Inval);
+    }
+    send(alloc, shared, machine, tid, signal)
+}
+
+/// tgkill(2): ESRCH also where the thread is of another process.
+#[tactic(auto, unfolding(crate::specs::Kill::tgkill_call))]
+pub fn tgkill(alloc: Global, shared: &mut Shared, machine: &mut Machine) -> Effect
+    ensures served { (w : World) → (own : _) → tgkill_call (shared_of shared.old w) own machine.old
+        ≡ effect_as (shared_of shared.new w) own machine.new result }
+    ensures rest { shared.new ≡ record shared.old { signals = shared.new.signals } }
+    ensures still { StillSignalled shared.old.signals shared.new.signals }
+    ensures child { result.child ≡ None }
+{
+    let (tgid, tid) = (low_word(machine.reg(A0)), low_word(machine.reg(A1)));
+    let signal = low_word(machine.reg(A2));
+    if is_unsent(signal) {
+        return Effect::quiet(alloc, Outcome::Unsupported(TGKILL));
+    }
+    if is_below_one(tgid) || is_below_one(tid) || signal > SIGNAL_LIMIT as u32 {
+        return Effect::refused(alloc, machine, Errno::Inval);
+    }
+    if tgid != tid {
+        return Effect::refused(alloc, machine, Errno::Srch);
+    }
+    send(alloc, shared, machine, tid, signal)
+}
+
+// Whether a pid, as a signed number, is below 1: no process has it.
+fn is_below_one(pid: u32) -> bool
+    ensures { result ≡ is_below_one pid }
+{
+    pid == 0 || pid >= 0x8000_0000
+}
+
+// Whether a signal is one that is never sent.
+fn is_unsent(signal: u32) -> bool
+    ensures { result ≡ is_unsent signal }
+{
+    signal > u32::from(SIGCHLD) && signal <= SIGNAL_LIMIT as u32
+}
+
+// Sends a signal to a process: EINVAL where there is none of this number, ESRCH where no such process is there.
+fn send(alloc: Global, shared: &mut Shared, machine: &mut Machine, pid: u32, signal: u32) -> Effect
+    ensures served { (w : World) → (own : _) → sends_to (shared_of shared.old w) own machine.old pid signal
+        ≡ effect_as (shared_of shared.new w) own machine.new result }
+    ensures rest { shared.new ≡ record shared.old { signals = shared.new.signals } }
+    ensures still { StillSignalled shared.old.signals shared.new.signals }
+    ensures child { result.child ≡ None }
+{
+    if signal > SIGNAL_LIMIT as u32 {
+        return Effect::refused(alloc, machine, Errno::Inval);
+    }
+    if shared.pids.parent(pid).is_none() {
+        return Effect::refused(alloc, machine, Errno::Srch);
+    }
+    if signal != 0 {
+        shared.raise(pid, signal as u8);
+    }
+    Effect::done(alloc, machine, 0)
+}

@@ -1,0 +1,77 @@
+// rt_sigprocmask(2)
+ghost use Rattle.std.specs.Prelude.{◌≡◌, Ok};
+ghost use Rattle.dt_space.specs.Space.{IsSpace};
+ghost use Rattle.dt_sigcalls.specs.Called.{called};
+ghost use Rattle.dt_sigcalls.specs.Sigprocmask.{new_set, changed, by_set, sigprocmask_of};
+
+use crate::buffers::tell;
+use crate::numbers::{SIG_BLOCK, SIG_SETMASK, SIG_UNBLOCK, SIGSET_SIZE};
+use dt_base::abi::low_word;
+use dt_base::{Answer, Errno};
+use dt_signals::Sig;
+use dt_space::{Miss, Space};
+
+/// rt_sigprocmask(2): puts the old mask into a buffer, and changes it by a set of signals; either address may be 0.
+/// EINVAL for a set of another size than 8; EFAULT where the set can't be read; EINVAL then for a way to change the
+/// mask that isn't known; EFAULT then where the old mask can't be put into its buffer. A call that is refused changes
+/// nothing.
+#[tactic(auto, unfolding(crate::specs::Sigprocmask::sigprocmask_of))]
+pub fn rt_sigprocmask(
+    sig: &mut Sig,
+    space: &mut Space,
+    how: u64,
+    set: u64,
+    old: u64,
+    size: u64,
+) -> Answer
+    ensures called { sigprocmask_of sig.old space.old how set old size ≡ called sig.new space.new result }
+    ensures sound { IsSpace space.new }
+{
+    let _sound = space.pages();
+    if size != SIGSET_SIZE {
+        return Answer::Refused(Errno::Inval);
+    }
+    let Ok(set) = new_set(space, set) else {
+        return Answer::Refused(Errno::Fault);
+    };
+    change(sig, space, low_word(how), old, set)
+}
+
+// Puts the old mask into its buffer, and changes it by a set, if there is one.
+fn change(sig: &mut Sig, space: &mut Space, how: u32, old: u64, set: Option<u64>) -> Answer
+    ensures called { by_set sig.old space.old how old (Ok set) ≡ called sig.new space.new result }
+    ensures sound { IsSpace space.new }
+{
+    let _sound = space.pages();
+    if set.is_some() && how > SIG_SETMASK {
+        return Answer::Refused(Errno::Inval);
+    }
+    if tell(space, old, &sig.mask().to_le_bytes()).is_err() {
+        return Answer::Refused(Errno::Fault);
+    }
+    if let Some(set) = set {
+        sig.set_mask(changed(how, set, sig.mask()));
+    }
+    Answer::Value(0)
+}
+
+// The set that is handed in, or none where the address is 0.
+fn new_set(space: &Space, address: u64) -> Result<Option<u64>, Miss>
+    ensures { result ≡ new_set space.now address }
+{
+    if address == 0 {
+        return Ok(None);
+    }
+    Ok(Some(space.load8(address)?))
+}
+
+// A mask with the signals of a set added or taken out, or the set itself.
+fn changed(how: u32, set: u64, mask: u64) -> u64
+    ensures { result ≡ changed how set mask }
+{
+    match how {
+        SIG_BLOCK => mask | set,
+        SIG_UNBLOCK => mask & !set,
+        _ => set,
+    }
+}

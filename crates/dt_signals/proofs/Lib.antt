@@ -1,0 +1,9 @@
+pub mod Sets
+pub mod Frames
+pub mod Deliveries
+pub mod Actions
+pub mod Stored
+pub mod Kept
+pub mod GivenBack
+pub mod Readback
+pub mod Entries

@@ -1,0 +1,31 @@
+-- The return from a handler (sigreturn(2)): the frame at the stack pointer gives back what the handler's entry kept.
+use Rattle.std.specs.Prelude.{ℕ, List, Result, Ok, Err}
+use Rattle.dt_base.specs.declared.abi.TheConstants.{SP}
+use Rattle.dt_rv64.specs.declared.machine.Machine.{Machine}
+use Rattle.dt_rv64.specs.Effects.{register}
+use Rattle.dt_space.specs.declared.access.Miss.{Miss}
+use Rattle.dt_space.specs.declared.access.TheConstants.{READ}
+use Rattle.dt_space.specs.Space.{load}
+use Rattle.dt_signals.specs.declared.numbers.TheConstants.{FRAME_SIZE, FRAME_MASK}
+use Rattle.dt_signals.specs.declared.signals.Sig.{Sig}
+use Rattle.dt_signals.specs.Signals.{with_mask}
+use Rattle.dt_signals.specs.Frame.{given_back, word_in}
+
+-- the signal state and the machine after a return
+pub record Returned : Type 0 where
+  pub signals : Sig
+  pub machine : Machine
+
+-- the signal state and the machine are these
+abbrev pub came_back : Sig → Machine → Returned
+came_back g m = record { signals = g; machine = m }
+
+-- by the frame's bytes: all of them must be readable
+abbrev pub returned_by : Sig → Machine → Result (List ℕ) Miss → Result Returned Miss
+returned_by g m (Err miss) = Err miss
+returned_by g m (Ok frame) =
+    Ok (came_back (with_mask (word_in frame FRAME_MASK) g) (given_back frame m))
+
+-- sigreturn(2)
+unfoldable pub returned : Sig → Machine → Result Returned Miss
+returned g m = returned_by g m (load m.space READ (register m SP) FRAME_SIZE)

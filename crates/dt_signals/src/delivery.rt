@@ -1,0 +1,130 @@
+// Delivery of a signal at the end of a process's turn.
+ghost use Rattle.std.specs.Prelude.{◌≡◌, ◌≤◌, IfSome};
+ghost use Rattle.dt_rv64.specs.Valid.{IsMachine};
+ghost use Rattle.dt_signals.specs.Signals.{action_of};
+ghost use Rattle.dt_signals.specs.Delivery.{came, interrupted, at_handler, enters, acts, forced, delivered};
+
+use crate::action::Action;
+use crate::frame::{frame_address, frame_of};
+use crate::numbers::{RA, SA_RESTART, SIGNAL_LIMIT};
+use crate::signals::{Sig, bit_of, is_in, is_signal};
+use dt_base::Errno;
+use dt_base::abi::{A0, A1, A2, SIGSEGV, SP};
+use dt_elf::layout::TRAMPOLINE;
+use dt_rv64::Machine;
+
+/// Whether a process is in a call that waits, which a handler interrupts.
+#[derive(Clone, Copy, Debug, PartialEq, Eq)]
+pub enum CallState {
+    Plain,
+    /// A call that waits, with so many bytes moved.
+    Waits(u64),
+}
+
+/// What a delivery came to.
+#[derive(Clone, Copy, Debug, PartialEq, Eq)]
+pub enum Delivery {
+    Nothing,
+    /// The machine stands at the start of a handler.
+    Handler,
+    /// The process ends by this signal.
+    Ends(u8),
+}
+
+/// Delivers the signal of a fault, which ends the process where it is masked or ignored; else drops the pending signals that would do nothing, and
+/// delivers the lowest that is left and not masked (signal(7)). A call that waits is over before a handler runs.
+#[tactic(auto, unfolding(crate::specs::Delivery::delivered))]
+pub fn deliver(
+    machine: &mut Machine,
+    sig: &mut Sig,
+    forced: Option<u8>,
+    call: CallState,
+) -> Delivery
+    ensures delivered { delivered forced call sig.old machine.old ≡ came result sig.new machine.new }
+    ensures sound { IsMachine machine.old → IsMachine machine.new }
+{
+    match forced {
+        Some(signal) => force(machine, sig, signal, call),
+        None => deliver_pending(machine, sig, call),
+    }
+}
+
+// Delivers the signal of a fault.
+fn force(machine: &mut Machine, sig: &mut Sig, signal: u8, call: CallState) -> Delivery
+    ensures forced { forced sig.old signal call machine.old ≡ came result sig.new machine.new }
+    ensures sound { IsMachine machine.old → IsMachine machine.new }
+{
+    if !is_signal(signal) || is_in(signal, sig.mask) {
+        return Delivery::Ends(signal);
+    }
+    act(machine, sig, signal, call)
+}
+
+// Delivers the lowest pending signal that can be delivered.
+#[tactic(auto, unfolding(crate::specs::Delivery::delivered))]
+fn deliver_pending(machine: &mut Machine, sig: &mut Sig, call: CallState) -> Delivery
+    ensures delivered { delivered None call sig.old machine.old ≡ came result sig.new machine.new }
+    ensures sound { IsMachine machine.old → IsMachine machine.new }
+{
+    sig.drop_ignored();
+    match sig.deliverable() {
+        Some(signal) => {
+            sig.take(signal);
+            act(machine, sig, signal, call)
+        }
+        None => Delivery::Nothing,
+    }
+}
+
+// A signal acts: its handler is entered, or it ends the process.
+fn act(machine: &mut Machine, sig: &mut Sig, signal: u8, call: CallState) -> Delivery
+    requires least { 1 ≤ signal }
+    requires greatest { signal ≤ SIGNAL_LIMIT }
+    ensures acted { acts sig.old signal (action_of sig.old signal) call machine.old ≡ came result sig.new machine.new }
+    ensures sound { IsMachine machine.old → IsMachine machine.new }
+{
+    let action = sig.action(signal);
+    if !action.has_handler() {
+        return Delivery::Ends(signal);
+    }
+    interrupt(machine, call, action);
+    enter(machine, sig, signal, action)
+}
+
+// Ends the call that waits: with how many bytes it has moved, else it is made again or refused.
+fn interrupt(machine: &mut Machine, call: CallState, action: Action)
+    ensures interrupted { machine.new ≡ interrupted call action machine.old }
+    ensures sound { IsMachine machine.old → IsMachine machine.new }
+{
+    match call {
+        CallState::Plain => {}
+        CallState::Waits(0) => {
+            if action.flags & SA_RESTART != SA_RESTART {
+                machine.answer(u64::from(Errno::Intr.number()).wrapping_neg());
+            }
+        }
+        CallState::Waits(done) => machine.answer(done),
+    }
+}
+
+// Enters a handler, if its frame can be written.
+fn enter(machine: &mut Machine, sig: &mut Sig, signal: u8, action: Action) -> Delivery
+    requires least { 1 ≤ signal }
+    requires greatest { signal ≤ SIGNAL_LIMIT }
+    ensures entered { enters sig.old signal action machine.old ≡ came result sig.new machine.new }
+    ensures sound { IsMachine machine.old → IsMachine machine.new }
+{
+    let at = frame_address(machine.reg(SP));
+    let frame = frame_of(signal, machine, sig.mask);
+    if machine.space.write_bytes(at, &frame).is_err() {
+        return Delivery::Ends(SIGSEGV);
+    }
+    machine.regs[usize::from(SP)] = at;
+    machine.regs[usize::from(RA)] = TRAMPOLINE;
+    machine.regs[usize::from(A0)] = u64::from(signal);
+    machine.regs[usize::from(A1)] = at;
+    machine.regs[usize::from(A2)] = 0;
+    machine.pc = action.handler;
+    sig.set_mask(sig.mask | action.mask | bit_of(signal));
+    Delivery::Handler
+}
