@@ -3,13 +3,6 @@
 
 static char bytes[65536];
 
-static i32 is_same(const char *a, const char *b)
-{
-    while (*a && *a == *b)
-        a++, b++;
-    return *a == *b;
-}
-
 static void tell(const char *line, u64 times)
 {
     number(times);

@@ -4,22 +4,6 @@
 
 enum { PROGRAMS = 8 };
 
-/* The last write end of a pipe goes when the process goes that writes to it, since a program gets its own ends alone:
- * all of them are closed when it starts, but for those that became its input and its output. */
-static i64 start(char **words, i64 in, i64 out)
-{
-    i64 child = call(SYS_clone, SIGCHLD, 0, 0, 0);
-    if (child == 0) {
-        if (in != IN)
-            call(SYS_dup3, in, IN, 0, 0);
-        if (out != OUT)
-            call(SYS_dup3, out, OUT, 0, 0);
-        call(SYS_execve, (i64)words[0], (i64)words, 0, 0);
-        call(SYS_exit, 127, 0, 0, 0);
-    }
-    return child;
-}
-
 /* Ends the words of a program with a null pointer, and answers those of the next one, or none. */
 static char **cut(char **words)
 {
@@ -33,12 +17,10 @@ static char **cut(char **words)
 
 static void tell(i64 child)
 {
-    i32 status = 0;
-    call(SYS_wait4, child, (i64)&status, 0, 0);
+    i32 status = wait_for(child);
     text("pipeline: ");
     number((u64)child);
-    text(status & 127 ? " ended by signal " : " ended with code ");
-    number((u64)(status & 127 ? status & 127 : status >> 8));
+    ending(status);
     put('\n');
     flush(ERR);
 }
@@ -52,9 +34,11 @@ int main(int argc, char **argv)
     for (char **words = argv + 1; words && count < PROGRAMS;) {
         char **next = cut(words);
         i32 ends[2] = { IN, OUT };
+        /* The last write end of a pipe goes when the process goes that writes to it, since a program gets its own ends
+         * alone: all others are closed when it starts. */
         if (next && call(SYS_pipe2, (i64)ends, O_CLOEXEC, 0, 0) < 0)
             return 3;
-        children[count++] = start(words, in, ends[1]);
+        children[count++] = start_between((const char *const *)words, in, ends[1]);
         if (in != IN)
             call(SYS_close, in, 0, 0, 0);
         if (ends[1] != OUT)

@@ -17,8 +17,7 @@ int main(int argc, char **argv)
 {
     if (argc != 2)
         return 2;
-    i64 file = call(SYS_openat, AT_FDCWD, (i64)argv[1], O_RDONLY, 0);
-    u64 count = read_all(file, bytes, sizeof bytes - 1);
+    u64 count = read_all(open_source(argv[1]), bytes, sizeof bytes - 1);
     for (u64 i = 0; i < count; i++) {
         if (is_letter(bytes[i]))
             put(small(bytes[i]));

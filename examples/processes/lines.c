@@ -54,9 +54,9 @@ int main(int argc, char **argv)
         if (!words[0] || words[0][0] == '#')
             continue;
         tell(argv[1]);
-        i32 code = wait_for(start(words));
-        if (code)
-            return code;
+        i32 status = wait_for(start(words));
+        if (status)
+            return code_of(status);
     }
     return 0;
 }

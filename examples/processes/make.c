@@ -26,13 +26,12 @@ static i64 begin(const char *const words[])
 
 static i32 finish(i64 child)
 {
-    i32 code = wait_for(child);
+    i32 status = wait_for(child);
     begin_line("make");
     number((u64)child);
-    text(" ended with code ");
-    number((u64)code);
+    ending(status);
     end_line();
-    return code;
+    return status;
 }
 
 int main(void)

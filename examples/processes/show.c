@@ -9,6 +9,6 @@ int main(int argc, char **argv)
         return 2;
     i64 source = open_source(argv[1]), got;
     while ((got = call(SYS_read, source, (i64)buffer, sizeof buffer, 0)) > 0)
-        call(SYS_write, 1, (i64)buffer, got, 0);
+        call(SYS_write, OUT, (i64)buffer, got, 0);
     return 0;
 }

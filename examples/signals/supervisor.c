@@ -5,24 +5,18 @@
 /* The children that have not ended. */
 static volatile u64 left = 3;
 
-static i64 start(char *worker, char *name, char *rounds)
+static i64 employ(const char *worker, const char *name, const char *rounds)
 {
-    char *words[] = { worker, name, rounds, 0 };
-    i64 child = call(SYS_clone, SIGCHLD, 0, 0, 0);
-    if (child == 0) {
-        call(SYS_execve, (i64)worker, (i64)words, 0, 0);
-        call(SYS_exit, 127, 0, 0, 0);
-    }
-    return child;
+    const char *const words[] = { worker, name, rounds, 0 };
+    return start(words);
 }
 
 static void tell(i64 child, i32 status)
 {
     text("supervisor: ");
     number((u64)child);
-    text(status & 127 ? " ended by signal " : " ended with code ");
-    number((u64)(status & 127 ? status & 127 : status >> 8));
-    line();
+    ending(status);
+    end_line();
 }
 
 /* One signal may stand for several ends. */
@@ -48,14 +42,14 @@ int main(int argc, char **argv)
     if (argc != 2)
         return 2;
     handle(SIGCHLD, reap);
-    start(argv[1], "north", "3");
-    start(argv[1], "south", "20");
-    i64 third = start(argv[1], "east", 0);
+    employ(argv[1], "north", "3");
+    employ(argv[1], "south", "20");
+    i64 third = employ(argv[1], "east", 0);
     wait_until(1);
     text("supervisor: two have ended, and ");
     number((u64)third);
     text(" is told to stop");
-    line();
+    end_line();
     call(SYS_kill, third, SIGTERM, 0, 0);
     wait_until(0);
     return 0;

@@ -10,7 +10,7 @@ static void say(const char *what)
     text(name);
     text(what);
     number(done);
-    line();
+    end_line();
 }
 
 static void stop(i32 signal)

@@ -1,0 +1,1 @@
+"""The parts of tools/image, which packs, lists, checks and unpacks the images that dettrace runs."""

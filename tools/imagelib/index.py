@@ -1,0 +1,343 @@
+"""An image's index: its entries, how they are written, and whether the program takes them.
+
+Each rule of the program stands here once, as a function that gives the reasons against entries (none where all keep
+it), in the order in which the program looks for them."""
+from __future__ import annotations
+
+import json
+from collections import Counter
+from typing import Any, Callable, Dict, List, NamedTuple, Optional, Tuple
+
+from . import strict_json
+from .errors import BAD_INDEX, BAD_PATH, NO_BLOB, NO_INDEX, NO_PARENT, TOO_BIG, TOO_MANY, TWICE
+from .errors import Kind, Refused, StoreFault
+from .store import Store
+from .texts import counted, shown
+
+INDEX = "image.json"
+
+INDEX_LIMIT = 4_194_304
+FILE_LIMIT = 16_777_216
+ENTRY_LIMIT = 4_095
+PATH_LIMIT = 4_095
+NAME_LIMIT = 255
+MODE_LIMIT = 0o7777
+LINK_MODE = 0o777
+
+FILE, DIR, LINK = "file", "dir", "link"
+
+# What an entry is called in a sentence.
+CALLED = {FILE: "a file", DIR: "a directory", LINK: "a symbolic link"}
+
+BLOB_CHARACTERS = frozenset("ABCDEFGHIJKLMNOPQRSTUVWXYZabcdefghijklmnopqrstuvwxyz0123456789._-")
+
+
+class Entry(NamedTuple):
+    """An entry: a file has a mode and a blob, a directory a mode, a link a target; `number` is its place, from 1."""
+
+    number: int
+    path: str
+    type: str
+    mode: int = LINK_MODE
+    blob: str = ""
+    target: str = ""
+
+    def key(self) -> bytes:
+        """What entries are put in order by."""
+        return self.path.encode()
+
+    def said(self, reason: str) -> str:
+        return f"entry {self.number}, {shown(self.path)}: {reason}"
+
+
+class Image(NamedTuple):
+    """A good image: its entries in byte order of their paths, and the sizes of its blobs."""
+
+    store: Store
+    entries: List[Entry]
+    sizes: Dict[str, int]
+
+    def summary(self) -> str:
+        """What it holds, in counts."""
+        return summary(Counter(entry.type for entry in self.entries), self.sizes)
+
+
+def summary(types: Counter, sizes: Dict[str, int]) -> str:
+    """What an image holds: so many entries of each type, and blobs of these sizes."""
+    return ", ".join(
+        [
+            counted(types[DIR], "directory", "directories"),
+            counted(types[FILE], "file", "files"),
+            counted(types[LINK], "link", "links"),
+            counted(len(sizes), "blob", "blobs"),
+            counted(sum(sizes.values()), "byte", "bytes"),
+        ]
+    )
+
+
+def parent_of(path: str) -> str:
+    """A path without its last name and the `/` before that; empty for what stands in the root."""
+    return path.rpartition("/")[0]
+
+
+# ---- writing
+
+
+def index_text(entries: List[Entry]) -> str:
+    """The text of an index, an entry a line."""
+    lines = ",\n               ".join(entry_text(entry) for entry in entries)
+    return '{ "version": 1,\n  "entries": ' + (f"[ {lines} ]" if lines else "[]") + " }\n"
+
+
+def entry_text(entry: Entry) -> str:
+    members: Dict[str, Any] = {"path": entry.path, "type": entry.type}
+    if entry.type == LINK:
+        members["target"] = entry.target
+    else:
+        members["mode"] = entry.mode
+    if entry.type == FILE:
+        members["blob"] = entry.blob
+    return "{ " + json.dumps(members, ensure_ascii=False)[1:-1] + " }"
+
+
+# ---- reading
+
+
+def read_image(folder: str) -> Image:
+    """The image of a folder; Refused or StoreFault where the program would say so."""
+    store = Store(folder)
+    entries = entries_of(index_value(store))
+    for kind, reasons in RULES:
+        refuse_if(kind, reasons(entries))
+    order = sorted(entries, key=Entry.key)
+    sizes = sizes_of(store, order)
+    refuse_if(TOO_BIG, too_big(entries, sizes))
+    refuse_if(TOO_MANY, too_many(len(entries)))
+    for entry in order:
+        if entry.type == FILE:
+            store.look(entry.blob, sizes[entry.blob])
+    return Image(store, order, sizes)
+
+
+def refuse_if(kind: Kind, reasons: List[str]) -> None:
+    if reasons:
+        raise Refused(kind, reasons)
+
+
+def index_value(store: Store) -> Any:
+    """The JSON value of an index."""
+    size = store.size(INDEX)
+    if size is None:
+        raise Refused(NO_INDEX, [f"there is no file {shown(store.path(INDEX))}: is it a folder that was not packed?"])
+    if size > INDEX_LIMIT:
+        raise Refused(BAD_INDEX, [f"{INDEX} has {size} bytes, more than {INDEX_LIMIT}"])
+    data = b"".join(store.pieces(INDEX, size))
+    try:
+        return strict_json.read(data.decode("utf-8"))
+    except UnicodeDecodeError as error:
+        raise Refused(BAD_INDEX, [f"{INDEX}, byte {error.start + 1}: it is no UTF-8 from there on"]) from error
+    except strict_json.JsonError as error:
+        raise Refused(BAD_INDEX, [f"{INDEX}, {error}"]) from error
+
+
+def entries_of(value: Any) -> List[Entry]:
+    """The entries that an index lists."""
+    if not isinstance(value, dict):
+        raise Refused(BAD_INDEX, [f"{INDEX} is {described(value)}, and no object"])
+    reasons = []
+    version = value.get("version")
+    if not (type(version) is int and version == 1):
+        reasons.append(f"{INDEX}: {lacking(value, 'version', 'the number 1')}")
+    items = value.get("entries")
+    if not isinstance(items, list):
+        reasons.append(f"{INDEX}: {lacking(value, 'entries', 'an array')}")
+        items = []
+    entries = []
+    for number, item in enumerate(items, 1):
+        faults = form_faults(item)
+        if faults:
+            path = item.get("path") if isinstance(item, dict) else None
+            place = f"entry {number}, {shown(path)}" if isinstance(path, str) else f"entry {number}"
+            reasons.append(f"{place}: {'; '.join(faults)}")
+        elif not reasons:
+            entries.append(entry_of(number, item))
+    refuse_if(BAD_INDEX, reasons)
+    return entries
+
+
+def form_faults(item: Any) -> List[str]:
+    """What is wrong with the form of an entry: its members, and what they hold."""
+    if not isinstance(item, dict):
+        return [f"it is {described(item)}, and no object"]
+    faults = []
+    if not isinstance(item.get("path"), str):
+        faults.append(lacking(item, "path", "a text"))
+    kind = item.get("type")
+    if not (isinstance(kind, str) and kind in CALLED):
+        faults.append(lacking(item, "type", "`file`, `dir` or `link`"))
+    if kind in (FILE, DIR) and not is_mode(item.get("mode")):
+        faults.append(lacking(item, "mode", f"a whole number from 0 to {MODE_LIMIT}"))
+    if kind == FILE and not isinstance(item.get("blob"), str):
+        faults.append(lacking(item, "blob", "a text"))
+    if kind == LINK and not isinstance(item.get("target"), str):
+        faults.append(lacking(item, "target", "a text"))
+    return faults
+
+
+def is_mode(value: Any) -> bool:
+    # A bool is an int for Python alone.
+    return type(value) is int and 0 <= value <= MODE_LIMIT
+
+
+def entry_of(number: int, item: Dict[str, Any]) -> Entry:
+    kind = item["type"]
+    if kind == FILE:
+        return Entry(number, item["path"], kind, mode=item["mode"], blob=item["blob"])
+    if kind == DIR:
+        return Entry(number, item["path"], kind, mode=item["mode"])
+    return Entry(number, item["path"], kind, target=item["target"])
+
+
+def lacking(value: Dict[str, Any], member: str, wanted: str) -> str:
+    if member not in value:
+        return f"the member `{member}` is missing"
+    return f"`{member}` is {described(value[member])}, and not {wanted}"
+
+
+def described(value: Any) -> str:
+    """A JSON value in a few words."""
+    if value is None or isinstance(value, bool):
+        return {None: "null", True: "true", False: "false"}[value]
+    if isinstance(value, str):
+        return f"the text `{shown(value)}`" if len(value) <= 40 else "a text"
+    if isinstance(value, (int, float)):
+        return f"the number {value}"
+    return "an array" if isinstance(value, list) else "an object"
+
+
+# ---- the rules
+
+
+def bad_paths(entries: List[Entry]) -> List[str]:
+    """Entries whose path, target or blob's name is not good."""
+    reasons = []
+    for entry in entries:
+        faults = [path_fault(entry.path)]
+        if entry.type == FILE:
+            faults.append(blob_fault(entry.blob))
+        if entry.type == LINK:
+            faults.append(target_fault(entry.target))
+        said = "; ".join(fault for fault in faults if fault)
+        if said:
+            reasons.append(entry.said(said))
+    return reasons
+
+
+def path_fault(path: str) -> Optional[str]:
+    """What is wrong with a path."""
+    length = len(path.encode())
+    if not path.startswith("/"):
+        return "the path doesn't begin with `/`"
+    if length > PATH_LIMIT:
+        return f"the path has {length} bytes, more than {PATH_LIMIT}"
+    if "\0" in path:
+        return "a NUL stands in the path"
+    for name in path[1:].split("/"):
+        if name == "":
+            return "the path has an empty name: a `/` stands at its end, or behind another"
+        if name in (".", ".."):
+            return f"the path has the name `{name}`"
+        if len(name.encode()) > NAME_LIMIT:
+            return f"the path has a name of {len(name.encode())} bytes, more than {NAME_LIMIT}"
+    return None
+
+
+def target_fault(target: str) -> Optional[str]:
+    """What is wrong with a link's target."""
+    length = len(target.encode())
+    if length == 0:
+        return "the target is empty"
+    if length > PATH_LIMIT:
+        return f"the target has {length} bytes, more than {PATH_LIMIT}"
+    return "a NUL stands in the target" if "\0" in target else None
+
+
+def blob_fault(blob: str) -> Optional[str]:
+    """What is wrong with a blob's name."""
+    if blob == "":
+        return "the blob's name is empty"
+    if len(blob) > NAME_LIMIT:
+        return f"the blob's name has {len(blob)} characters, more than {NAME_LIMIT}"
+    if blob.startswith("."):
+        return f"the blob's name `{shown(blob)}` begins with a `.`"
+    if not BLOB_CHARACTERS.issuperset(blob):
+        return f"the blob's name `{shown(blob)}` has more than letters and digits of ASCII, `.`, `_` and `-`"
+    return None
+
+
+def twice(entries: List[Entry]) -> List[str]:
+    """Entries whose path an earlier one has."""
+    first: Dict[str, int] = {}
+    reasons = []
+    for entry in entries:
+        before = first.setdefault(entry.path, entry.number)
+        if before != entry.number:
+            reasons.append(entry.said(f"entry {before} has this path too"))
+    return reasons
+
+
+def without_parent(entries: List[Entry]) -> List[str]:
+    """Entries that stand neither in the root nor in a directory of the index."""
+    types = {entry.path: entry.type for entry in entries}
+    reasons = []
+    for entry in entries:
+        parent = parent_of(entry.path)
+        found = types.get(parent)
+        if parent and found is None:
+            reasons.append(entry.said(f"nothing stands at {shown(parent)}"))
+        elif parent and found != DIR:
+            reasons.append(entry.said(f"{shown(parent)} is {CALLED[found]}, and no directory"))
+    return reasons
+
+
+def sizes_of(store: Store, order: List[Entry]) -> Dict[str, int]:
+    """The sizes of all blobs. Of a blob that is missing and one that cannot be read, the first in order counts."""
+    sizes: Dict[str, int] = {}
+    missing = []
+    for entry in order:
+        if entry.type != FILE or entry.blob in sizes:
+            continue
+        try:
+            size = store.size(entry.blob)
+        except StoreFault:
+            if missing:
+                continue
+            raise
+        if size is None:
+            missing.append(entry)
+        else:
+            sizes[entry.blob] = size
+    missing.sort(key=lambda entry: entry.number)
+    refuse_if(NO_BLOB, [entry.said(f"there is no file {shown(store.path(entry.blob))}") for entry in missing])
+    return sizes
+
+
+def too_big(entries: List[Entry], sizes: Dict[str, int]) -> List[str]:
+    """Entries whose blob is longer than a file may be."""
+    return [
+        entry.said(f"the blob {entry.blob} has {sizes[entry.blob]} bytes, more than {FILE_LIMIT}")
+        for entry in entries
+        if entry.type == FILE and sizes[entry.blob] > FILE_LIMIT
+    ]
+
+
+def too_many(count: int) -> List[str]:
+    return [f"there are {count} entries, more than {ENTRY_LIMIT}"] if count > ENTRY_LIMIT else []
+
+
+# The refusals that need no blob, in the program's order.
+RULES: Tuple[Tuple[Kind, Callable[[List[Entry]], List[str]]], ...] = (
+    (BAD_PATH, bad_paths),
+    (TWICE, twice),
+    (NO_PARENT, without_parent),
+)

@@ -1,0 +1,1 @@
+"""The parts of tools/report, which shows and compares the reports that dettrace writes."""
