@@ -202,11 +202,11 @@ def hard_links(items: List[Item]) -> List[str]:
         if item.kind != DIR:
             names[item.shared].append(shown(item.path))
     return [
-        f"{', '.join(found[:-1])} and {found[-1]} are one file there and {number_of(len(found))} here"
+        f"{', '.join(found[:-1])} and {found[-1]} are one file there and {number_word(len(found))} here"
         for found in names.values()
         if len(found) > 1
     ]
 
 
-def number_of(count: int) -> str:
+def number_word(count: int) -> str:
     return NUMBERS[count] if count < len(NUMBERS) else str(count)
