@@ -1,98 +1,110 @@
 // Which descriptors calls give and take.
-ghost use Rattle.std.specs.Prelude.{◌≢◌, OnOk};
-ghost use Rattle.dt_fds.specs.Backs.{IsBacked, at};
-
-use crate::scene::{CHILD, PID, Scene};
+use crate::image::NEXT;
+use crate::play::play;
+use crate::step::Call::{Close, Dup, Dup3, Exit, Fill, Fork, OpenInput};
+use crate::step::Outcome::{Absent, Bool, Count, Description, Done, Fd, Refused};
+use crate::step::Query::{CloexecOf, DescriptionOf, IsFull};
+use crate::step::Row::{self, Check, CheckInChild, Do, DoInChild};
+use crate::step::{RDONLY, RDWR};
 use dt_base::Errno;
 use dt_fds::DescKind;
-use dt_host::HostErr;
 use std::test::Fail;
 
-/// Opens the input again, 61 times or until that is refused, and answers how often it was done.
-pub fn fill(scene: &mut Scene) -> Result<u32, HostErr>
-    requires { IsBacked (at scene.old.files scene.old.tree scene.old.host.view) }
-    ensures { OnOk result (IsBacked (at scene.new.files scene.new.tree scene.new.host.view)) }
-{
-    for count in 0..61 {
-        if scene.add(DescKind::Input)?.is_err() {
-            return Ok(count);
-        }
-    }
-    Ok(61)
-}
-
-// Whether each call says that a descriptor is not open.
-fn is_closed(scene: &mut Scene, fd: u32) -> Result<bool, HostErr>
-    requires backed { IsBacked (at scene.old.files scene.old.tree scene.old.host.view) }
-    requires apart { fd ≢ 0 }
-    ensures { OnOk result (IsBacked (at scene.new.files scene.new.tree scene.new.host.view)) }
-{
-    let closed = scene.close(fd)? == Err(Errno::BadF);
-    let dup = scene.dup(fd, 0, false)? == Err(Errno::BadF);
-    let dup_at = scene.dup_at(fd, 0)? == Err(Errno::BadF);
-    let is_none = scene.files.look(PID, fd).is_none();
-    Ok(closed && dup && dup_at && is_none && scene.files.is_cloexec(PID, fd).is_none())
-}
+const LOWEST: &[Row] = &[
+    Do(OpenInput, Fd(3)),
+    Do(OpenInput, Fd(4)),
+    Do(Close(1), Done),
+    Do(Close(3), Done),
+    Do(OpenInput, Fd(1)),
+    Do(Dup { fd: 0, from: 0 }, Fd(3)),
+    Do(Dup { fd: 0, from: 9 }, Fd(9)),
+    Do(OpenInput, Fd(5)),
+];
 
 #[test]
 fn the_lowest_free_descriptor_is_given(rt: HostRuntime) -> Result<(), Fail> {
-    let mut scene = Scene::new(rt.alloc())?;
-    assert_eq!(rt; scene.add(DescKind::Input)?, Ok(3));
-    assert_eq!(rt; scene.add(DescKind::Input)?, Ok(4));
-    assert_eq!(rt; scene.close(1)?, Ok(()));
-    assert_eq!(rt; scene.close(3)?, Ok(()));
-    assert_eq!(rt; scene.add(DescKind::Input)?, Ok(1));
-    assert_eq!(rt; scene.dup(0, 0, false)?, Ok(3));
-    assert_eq!(rt; scene.dup(0, 9, false)?, Ok(9));
-    assert_eq!(rt; scene.add(DescKind::Input)?, Ok(5));
+    assert_eq!(rt; play(rt.alloc(), LOWEST)?, Ok(NEXT));
     Ok(())
 }
+
+const FULL: &[Row] = &[
+    Do(Fill, Count(61)),
+    Do(OpenInput, Refused(Errno::MFile)),
+    Do(Dup { fd: 0, from: 0 }, Refused(Errno::MFile)),
+    Do(Dup { fd: 99, from: 0 }, Refused(Errno::BadF)),
+    Do(Close(63), Done),
+    Do(Dup { fd: 0, from: 64 }, Refused(Errno::MFile)),
+    Do(Dup { fd: 0, from: 10 }, Fd(63)),
+];
 
 #[test]
 fn a_65th_descriptor_is_refused(rt: HostRuntime) -> Result<(), Fail> {
-    let mut scene = Scene::new(rt.alloc())?;
-    assert_eq!(rt; fill(&mut scene)?, 61);
-    assert_eq!(rt; scene.add(DescKind::Input)?, Err(Errno::MFile));
-    assert_eq!(rt; scene.dup(0, 0, false)?, Err(Errno::MFile));
-    assert_eq!(rt; scene.dup(99, 0, false)?, Err(Errno::BadF));
-    assert_eq!(rt; scene.close(63)?, Ok(()));
-    assert_eq!(rt; scene.dup(0, 64, false)?, Err(Errno::MFile));
-    assert_eq!(rt; scene.dup(0, 10, false)?, Ok(63));
+    assert_eq!(rt; play(rt.alloc(), FULL)?, Ok(NEXT));
     Ok(())
 }
+
+// The greatest number that a call can name a descriptor by.
+const MAX: u32 = u32::MAX;
+
+// Descriptor 0 stays, which dup3(2) closes only once it knows the other to be open.
+const NOT_OPEN: &[Row] = &[
+    Do(Close(3), Refused(Errno::BadF)),
+    Do(Dup { fd: 3, from: 0 }, Refused(Errno::BadF)),
+    Do(Dup3 { old: 3, new: 0 }, Refused(Errno::BadF)),
+    Check(DescriptionOf(3), Absent),
+    Check(CloexecOf(3), Absent),
+    Do(Close(63), Refused(Errno::BadF)),
+    Do(Dup { fd: 63, from: 0 }, Refused(Errno::BadF)),
+    Do(Dup3 { old: 63, new: 0 }, Refused(Errno::BadF)),
+    Check(DescriptionOf(63), Absent),
+    Check(CloexecOf(63), Absent),
+    Do(Close(64), Refused(Errno::BadF)),
+    Do(Dup { fd: 64, from: 0 }, Refused(Errno::BadF)),
+    Do(Dup3 { old: 64, new: 0 }, Refused(Errno::BadF)),
+    Check(DescriptionOf(64), Absent),
+    Check(CloexecOf(64), Absent),
+    Do(Close(MAX), Refused(Errno::BadF)),
+    Do(Dup { fd: MAX, from: 0 }, Refused(Errno::BadF)),
+    Do(Dup3 { old: MAX, new: 0 }, Refused(Errno::BadF)),
+    Check(DescriptionOf(MAX), Absent),
+    Check(CloexecOf(MAX), Absent),
+    Check(DescriptionOf(0), Description(DescKind::Input, RDONLY)),
+];
 
 #[test]
 fn descriptors_that_are_not_open_are_refused(rt: HostRuntime) -> Result<(), Fail> {
-    let mut scene = Scene::new(rt.alloc())?;
-    assert!(rt; is_closed(&mut scene, 3)?);
-    assert!(rt; is_closed(&mut scene, 63)?);
-    assert!(rt; is_closed(&mut scene, 64)?);
-    assert!(rt; is_closed(&mut scene, u32::MAX)?);
+    assert_eq!(rt; play(rt.alloc(), NOT_OPEN)?, Ok(NEXT));
     Ok(())
 }
+
+const PAST_THE_LIMIT: &[Row] = &[
+    Do(Dup3 { old: 0, new: 64 }, Refused(Errno::BadF)),
+    Do(Dup3 { old: 0, new: MAX }, Refused(Errno::BadF)),
+    Do(Dup3 { old: 0, new: 63 }, Done),
+    Check(DescriptionOf(63), Description(DescKind::Input, RDONLY)),
+];
 
 #[test]
 fn a_duplicate_is_refused_past_the_limit(rt: HostRuntime) -> Result<(), Fail> {
-    let mut scene = Scene::new(rt.alloc())?;
-    assert_eq!(rt; scene.dup_at(0, 64)?, Err(Errno::BadF));
-    assert_eq!(rt; scene.dup_at(0, u32::MAX)?, Err(Errno::BadF));
-    assert_eq!(rt; scene.dup_at(0, 63)?, Ok(()));
-    assert!(rt; scene.files.look(PID, 63).is_some());
+    assert_eq!(rt; play(rt.alloc(), PAST_THE_LIMIT)?, Ok(NEXT));
     Ok(())
 }
 
+const SHARED: &[Row] = &[
+    Do(Fill, Count(61)),
+    Do(Fork, Done),
+    CheckInChild(IsFull, Bool(true)),
+    CheckInChild(DescriptionOf(63), Description(DescKind::Input, RDWR)),
+    Do(Close(63), Done),
+    Check(IsFull, Bool(false)),
+    CheckInChild(IsFull, Bool(true)),
+    DoInChild(Exit, Done),
+    CheckInChild(DescriptionOf(63), Absent),
+    Check(DescriptionOf(62), Description(DescKind::Input, RDWR)),
+];
+
 #[test]
 fn a_full_table_is_shared(rt: HostRuntime) -> Result<(), Fail> {
-    let mut scene = Scene::new(rt.alloc())?;
-    assert_eq!(rt; fill(&mut scene)?, 61);
-    scene.share_all()?;
-    assert!(rt; scene.files.is_full(CHILD));
-    assert!(rt; scene.files.look(CHILD, 63).is_some());
-    assert_eq!(rt; scene.close(63)?, Ok(()));
-    assert!(rt; !scene.files.is_full(PID));
-    assert!(rt; scene.files.is_full(CHILD));
-    scene.drop_all(CHILD)?;
-    assert!(rt; scene.files.look(CHILD, 63).is_none());
-    assert!(rt; scene.files.look(PID, 62).is_some());
+    assert_eq!(rt; play(rt.alloc(), SHARED)?, Ok(NEXT));
     Ok(())
 }

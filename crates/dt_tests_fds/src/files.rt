@@ -3,8 +3,8 @@ use crate::scene::PID;
 use dt_fds::{Desc, DescKind, Files};
 use std::test::Fail;
 
-/// Whether a description is of this kind and has this access.
-pub fn is_of(desc: Option<&Desc>, kind: DescKind, access: u8) -> bool {
+// Whether a description is of this kind and has this access.
+fn is_of(desc: Option<&Desc>, kind: DescKind, access: u8) -> bool {
     match desc {
         Some(desc) => desc.kind == kind && desc.access == access,
         None => false,

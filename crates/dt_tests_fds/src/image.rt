@@ -10,6 +10,9 @@ pub const DIR: u64 = 2;
 /// The same of the file `/f`.
 pub const FILE: u64 = 3;
 
+/// The number that the host gives next, after the root and these.
+pub const NEXT: u64 = 4;
+
 /// An empty directory `/d`, and a file `/f` of the five bytes `hello`.
 pub fn image(alloc: Global) -> Result<Image, NoMemory> {
     let mut entries = Vec::new(alloc);

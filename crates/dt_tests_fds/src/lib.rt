@@ -12,6 +12,10 @@ mod nodes;
 #[cfg(test)]
 mod pipes;
 #[cfg(test)]
+mod play;
+#[cfg(test)]
 mod scene;
 #[cfg(test)]
 mod sharing;
+#[cfg(test)]
+mod step;

@@ -1,102 +1,111 @@
 // What descriptors of one description share.
-use crate::scene::{CHILD, PID, Scene};
-use dt_fds::{DescKind, Files, Spot};
+use crate::image::NEXT;
+use crate::play::play;
+use crate::step::Call::{
+    Close, Dup, Dup3, DupCloexec, Exec, Fork, Open, OpenInput, Seek, SetCloexec, SetFlags,
+};
+use crate::step::Outcome::{Absent, Bool, Done, Fd, Offset, StatusFlags};
+use crate::step::Query::{CloexecOf, FlagsOf, OffsetOf};
+use crate::step::Row::{self, Check, CheckInChild, Do, DoInChild};
+use dt_base::abi::{O_APPEND, O_NONBLOCK};
 use std::test::Fail;
 
-// The offset of a descriptor; none where it is not open, or is of a directory.
-fn offset(files: &Files, pid: u32, fd: u32) -> Option<u64> {
-    match files.look(pid, fd) {
-        Some(desc) => match &desc.spot {
-            Spot::At(offset) => Some(*offset),
-            Spot::After(_) => None,
+const PLACES: &[Row] = &[
+    Do(OpenInput, Fd(3)),
+    Do(Dup { fd: 3, from: 0 }, Fd(4)),
+    Do(Seek { fd: 3, offset: 9 }, Done),
+    Check(OffsetOf(4), Offset(9)),
+    Check(OffsetOf(0), Offset(0)),
+    Do(
+        Seek {
+            fd: 4,
+            offset: u64::MAX,
         },
-        None => None,
-    }
-}
-
-/// Whether writes go to the end, and whether calls don't wait; none where the descriptor is not open.
-pub fn flags(files: &Files, pid: u32, fd: u32) -> Option<(bool, bool)> {
-    match files.look(pid, fd) {
-        Some(desc) => Some((desc.append, desc.nonblock)),
-        None => None,
-    }
-}
+        Done,
+    ),
+    Check(OffsetOf(3), Offset(u64::MAX)),
+    Do(Seek { fd: 5, offset: 1 }, Done),
+    Check(OffsetOf(5), Absent),
+];
 
 #[test]
 fn a_duplicate_shares_the_place(rt: HostRuntime) -> Result<(), Fail> {
-    let mut scene = Scene::new(rt.alloc())?;
-    assert_eq!(rt; scene.add(DescKind::Input)?, Ok(3));
-    assert_eq!(rt; scene.dup(3, 0, false)?, Ok(4));
-    scene.seek(PID, 3, 9);
-    assert_eq!(rt; offset(&scene.files, PID, 4), Some(9));
-    assert_eq!(rt; offset(&scene.files, PID, 0), Some(0));
-    scene.seek(PID, 4, u64::MAX);
-    assert_eq!(rt; offset(&scene.files, PID, 3), Some(u64::MAX));
-    scene.seek(PID, 5, 1);
-    assert_eq!(rt; offset(&scene.files, PID, 5), None);
+    assert_eq!(rt; play(rt.alloc(), PLACES)?, Ok(NEXT));
     Ok(())
 }
+
+const FLAGS: &[Row] = &[
+    Do(OpenInput, Fd(3)),
+    Do(Dup3 { old: 3, new: 7 }, Done),
+    Do(SetFlags(7, O_APPEND), Done),
+    Check(FlagsOf(3), StatusFlags(O_APPEND)),
+    Do(SetFlags(3, O_NONBLOCK), Done),
+    Check(FlagsOf(7), StatusFlags(O_NONBLOCK)),
+    Do(SetFlags(8, O_APPEND | O_NONBLOCK), Done),
+    Check(FlagsOf(8), Absent),
+    Check(FlagsOf(0), StatusFlags(0)),
+];
 
 #[test]
 fn a_duplicate_shares_the_flags(rt: HostRuntime) -> Result<(), Fail> {
-    let mut scene = Scene::new(rt.alloc())?;
-    assert_eq!(rt; scene.add(DescKind::Input)?, Ok(3));
-    assert_eq!(rt; scene.dup_at(3, 7)?, Ok(()));
-    scene.set_flags(PID, 7, true, false);
-    assert_eq!(rt; flags(&scene.files, PID, 3), Some((true, false)));
-    scene.set_flags(PID, 3, false, true);
-    assert_eq!(rt; flags(&scene.files, PID, 7), Some((false, true)));
-    scene.set_flags(PID, 8, true, true);
-    assert_eq!(rt; flags(&scene.files, PID, 8), None);
-    assert_eq!(rt; flags(&scene.files, PID, 0), Some((false, false)));
+    assert_eq!(rt; play(rt.alloc(), FLAGS)?, Ok(NEXT));
     Ok(())
 }
+
+const BITS: &[Row] = &[
+    Do(DupCloexec { fd: 0, from: 0 }, Fd(3)),
+    Check(CloexecOf(0), Bool(false)),
+    Check(CloexecOf(3), Bool(true)),
+    Do(SetCloexec(0, true), Done),
+    Do(SetCloexec(3, false), Done),
+    Check(CloexecOf(0), Bool(true)),
+    Check(CloexecOf(3), Bool(false)),
+    Do(SetCloexec(4, true), Done),
+    Check(CloexecOf(4), Absent),
+];
 
 #[test]
 fn a_duplicate_has_a_close_on_exec_bit_of_its_own(rt: HostRuntime) -> Result<(), Fail> {
-    let mut scene = Scene::new(rt.alloc())?;
-    assert_eq!(rt; scene.dup(0, 0, true)?, Ok(3));
-    assert_eq!(rt; scene.files.is_cloexec(PID, 0), Some(false));
-    assert_eq!(rt; scene.files.is_cloexec(PID, 3), Some(true));
-    scene.set_cloexec(PID, 0, true);
-    scene.set_cloexec(PID, 3, false);
-    assert_eq!(rt; scene.files.is_cloexec(PID, 0), Some(true));
-    assert_eq!(rt; scene.files.is_cloexec(PID, 3), Some(false));
-    scene.set_cloexec(PID, 4, true);
-    assert_eq!(rt; scene.files.is_cloexec(PID, 4), None);
+    assert_eq!(rt; play(rt.alloc(), BITS)?, Ok(NEXT));
     Ok(())
 }
+
+const CHILD_GOES_ON: &[Row] = &[
+    Do(Open(b"f"), Fd(3)),
+    Do(Seek { fd: 3, offset: 2 }, Done),
+    Do(Fork, Done),
+    CheckInChild(OffsetOf(3), Offset(2)),
+    Do(Seek { fd: 3, offset: 4 }, Done),
+    CheckInChild(OffsetOf(3), Offset(4)),
+    DoInChild(Seek { fd: 3, offset: 5 }, Done),
+    Check(OffsetOf(3), Offset(5)),
+    DoInChild(SetFlags(3, O_APPEND | O_NONBLOCK), Done),
+    Check(FlagsOf(3), StatusFlags(O_APPEND | O_NONBLOCK)),
+];
 
 #[test]
 fn a_child_goes_on_where_its_parent_stopped(rt: HostRuntime) -> Result<(), Fail> {
-    let mut scene = Scene::new(rt.alloc())?;
-    assert_eq!(rt; scene.open(b"f")?, Ok(3));
-    scene.seek(PID, 3, 2);
-    scene.share_all()?;
-    assert_eq!(rt; offset(&scene.files, CHILD, 3), Some(2));
-    scene.seek(PID, 3, 4);
-    assert_eq!(rt; offset(&scene.files, CHILD, 3), Some(4));
-    scene.seek(CHILD, 3, 5);
-    assert_eq!(rt; offset(&scene.files, PID, 3), Some(5));
-    scene.set_flags(CHILD, 3, true, true);
-    assert_eq!(rt; flags(&scene.files, PID, 3), Some((true, true)));
+    assert_eq!(rt; play(rt.alloc(), CHILD_GOES_ON)?, Ok(NEXT));
     Ok(())
 }
 
+const TABLE_OF_A_CHILD: &[Row] = &[
+    Do(DupCloexec { fd: 0, from: 0 }, Fd(3)),
+    Do(Fork, Done),
+    CheckInChild(CloexecOf(0), Bool(false)),
+    CheckInChild(CloexecOf(3), Bool(true)),
+    DoInChild(SetCloexec(3, false), Done),
+    Check(CloexecOf(3), Bool(true)),
+    Do(Close(0), Done),
+    CheckInChild(CloexecOf(0), Bool(false)),
+    Do(OpenInput, Fd(0)),
+    Do(Exec, Done),
+    Check(CloexecOf(3), Absent),
+    CheckInChild(CloexecOf(3), Bool(false)),
+];
+
 #[test]
 fn a_child_has_descriptors_of_its_own(rt: HostRuntime) -> Result<(), Fail> {
-    let mut scene = Scene::new(rt.alloc())?;
-    assert_eq!(rt; scene.dup(0, 0, true)?, Ok(3));
-    scene.share_all()?;
-    assert_eq!(rt; scene.files.is_cloexec(CHILD, 0), Some(false));
-    assert_eq!(rt; scene.files.is_cloexec(CHILD, 3), Some(true));
-    scene.set_cloexec(CHILD, 3, false);
-    assert_eq!(rt; scene.files.is_cloexec(PID, 3), Some(true));
-    assert_eq!(rt; scene.close(0)?, Ok(()));
-    assert_eq!(rt; scene.files.is_cloexec(CHILD, 0), Some(false));
-    assert_eq!(rt; scene.add(DescKind::Input)?, Ok(0));
-    scene.close_exec()?;
-    assert_eq!(rt; scene.files.is_cloexec(PID, 3), None);
-    assert_eq!(rt; scene.files.is_cloexec(CHILD, 3), Some(false));
+    assert_eq!(rt; play(rt.alloc(), TABLE_OF_A_CHILD)?, Ok(NEXT));
     Ok(())
 }

@@ -1,6 +1,6 @@
 -- What is live at the start of a host, and after its first calls.
 use Rattle.std.proofs.Common.{◌≡◌, ◌≢◌, ℕ, ◌||◌, true, List, [], Option, Some, None, refl, sym, ap, subst, ◌∙◌}
-use Rattle.std.specs.Prelude.{IsSome, MatchOption, OnOk, Result, Ok, Err, option_and_then, unwrap_or}
+use Rattle.std.specs.Prelude.{IsSome, MatchOption, Result, Ok, Err, option_and_then, unwrap_or}
 use Rattle.std.proofs.lemmas.Cmp.{tied_itself}
 use Rattle.std.specs.Ordering.{nat_cmp, is_eq}
 use Rattle.std.specs.Cmp.{nat_cmp_total}
@@ -9,10 +9,10 @@ use Rattle.std.specs.FinMap.{get, empty, get-empty, nat_cmp-IsAntisymmetric}
 use Rattle.std.specs.FinSet.{contains, contains-insert}
 use Rattle.dt_host.specs.declared.kind.NodeKind.TheVariants.{File}
 use Rattle.dt_host.specs.World.{World, Forest, Node, file, dir, IsLive, IsFile, IsDir, IsNameless, IsBare, IsEmptyStart, node_at, entry, names_at, file_bytes, dir_names}
-use Rattle.dt_host.specs.Legal.{Binds, Unbinds, Cuts, MadeAt, MadePid, MayGo, NodeMayGo}
+use Rattle.dt_host.specs.Legal.{Binds, Unbinds, Cuts, WritesAll, MadeAt, MadePid, MayGo, NodeMayGo}
 use Rattle.dt_host.proofs.Changes.{IsDir-start, IsDir-bound, IsLive-made, node_at-start, root-made}
 use Rattle.dt_host.proofs.Maps.{at_insert}
-use Rattle.dt_host.proofs.Worlds.{IsFile-with_bytes}
+use Rattle.dt_host.proofs.Worlds.{IsFile-with_bytes, IsFile-with_write}
 use Rattle.dt_host.proofs.Gone.{IsDir-without_entry}
 
 -- the root is a directory at the start
@@ -38,9 +38,9 @@ IsLive-file v n is = of_node (node_at v n) is
     of_node (Some node) h = refl
 
 -- a directory stays one when an entry was added to it
-pub IsDir-binds : {A E : Type 0} (result : Result A E) (old new : World) (d : ℕ) (name : List ℕ) (n : ℕ) → Binds old d name n result new → OnOk result (IsDir new.forest d)
-IsDir-binds (Ok a) old new d name n bound = subst (λ (w : World). IsDir w.forest d) (sym bound) (IsDir-bound old.forest d name n)
-IsDir-binds (Err e) old new d name n bound = tt
+pub IsDir-binds : {A E : Type 0} (result : Result A E) (old new : World) (d : ℕ) (name : List ℕ) (n : ℕ) → Binds old d name n result new → IsDir old.forest d → IsDir new.forest d
+IsDir-binds (Ok a) old new d name n bound is = subst (λ (w : World). IsDir w.forest d) (sym bound) (IsDir-bound old.forest d name n)
+IsDir-binds (Err e) old new d name n stays is = subst (λ (w : World). IsDir w.forest d) (sym stays) is
 
 -- and when one was taken away
 pub IsDir-unbinds : {A E : Type 0} (result : Result A E) (old new : World) (d : ℕ) (name : List ℕ) → Unbinds old d name result new → IsDir old.forest d → IsDir new.forest d
@@ -51,6 +51,11 @@ IsDir-unbinds (Err e) old new d name stays is = subst (λ (w : World). IsDir w.f
 pub IsFile-cuts : {A E : Type 0} (result : Result A E) (old new : World) (n len : ℕ) → Cuts old n len result new → IsFile old.forest n → IsFile new.forest n
 IsFile-cuts (Ok a) old new n len cut is = subst (λ (w : World). IsFile w.forest n) (sym cut) (IsFile-with_bytes old.forest n _)
 IsFile-cuts (Err e) old new n len stays is = subst (λ (w : World). IsFile w.forest n) (sym stays) is
+
+-- and when something was written to it
+pub IsFile-writes : {A E : Type 0} (result : Result A E) (old new : World) (n off : ℕ) (bytes : List ℕ) → WritesAll old n off bytes result new → IsFile new.forest n
+IsFile-writes (Ok a) old new n off bytes wrote = subst (λ (w : World). IsFile w.forest n) (sym wrote) (IsFile-with_write old n off bytes)
+IsFile-writes (Err e) old new n off bytes part = subst (λ (w : World). IsFile w.forest n) (sym part.prefix) (IsFile-with_write old n off _)
 
 -- a file that was made beside nothing but a root
 module _ (old new : World) (n : ℕ) (start : IsEmptyStart old) (made : MadeAt old File new n) where

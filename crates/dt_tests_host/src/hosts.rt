@@ -1,15 +1,26 @@
 // A host in memory: what it keeps, what its words choose, and which calls fail.
-ghost use Rattle.std.specs.Prelude.{OnOk};
-ghost use Rattle.dt_host.specs.World.{IsDir, IsEmptyStart};
+ghost use Rattle.std.specs.Prelude.{IfOk};
+ghost use Rattle.dt_host.specs.World.{IsFile, IsEmptyStart};
 
+use crate::play::play;
+use crate::scene::{At, Script};
+use crate::step::Ask::{Clock, Cycles, NextStop, Random};
+use crate::step::DirCall::{self, BindItself, Names, SortedNames, Unbind};
+use crate::step::FileCall::{self, Cut, Read, Write};
+use crate::step::Outcome::{Count, Done, Failed, Number, Raw};
+use crate::step::Query::{self, Faults};
+use crate::step::Row::{self, Ask, Check, InDir, InFile};
 use dt_base::Blob;
-use dt_host::{Host, HostEntry, HostErr, NodeKind, RawStat, read_whole, sorted_names, write_whole};
+use dt_host::{Host, HostErr, NodeKind, RawStat, read_whole, write_whole};
 use dt_memhost::{MemHost, Picker};
+use std::alloc::Global;
 use std::test::Fail;
 
-// The first words of the ChaCha8 key stream of a key of zeros and a nonce of zeros, from the
-// test vectors of draft-strombergson-chacha-test-vectors-01 (TC1, 8 rounds).
-const ZERO_KEY: [u32; 8] = [
+// Two words of a list, and then the first ones of the ChaCha8 key stream of a key of zeros and a nonce of zeros, from
+// the test vectors of draft-strombergson-chacha-test-vectors-01 (TC1, 8 rounds).
+const LISTED_AND_STREAM: [u64; 10] = [
+    7,
+    9,
     0x2fef_003e,
     0xd640_5f89,
     0xe8b8_5b7f,
@@ -20,33 +31,70 @@ const ZERO_KEY: [u32; 8] = [
     0x1e1a_71ef,
 ];
 
+// What the clock of a host says that has two words: the first ten times.
+fn times(alloc: Global) -> Result<Vec<u64>, HostErr> {
+    let script = Script {
+        words: &[7, 9],
+        stream: 0,
+        fails: &[],
+    };
+    let mut host = script.host(alloc)?;
+    let mut times = Vec::new(alloc);
+    for _ in 0..10 {
+        times.push(host.clock()?)?;
+    }
+    Ok(times)
+}
+
 #[test]
 fn picks_listed_words_and_then_the_stream(rt: HostRuntime) -> Result<(), Fail> {
-    let alloc = rt.alloc();
-    let picker = Picker::new(vec![in alloc; 7, 9]?, 0);
-    let mut host = MemHost::new(alloc, picker, Vec::new(alloc))?;
-    assert_eq!(rt; host.clock()?, 7);
-    assert_eq!(rt; host.clock()?, 9);
-    for word in ZERO_KEY {
-        assert_eq!(rt; host.clock()?, u64::from(word));
-    }
+    let times = times(rt.alloc())?;
+    assert_eq!(rt; times.as_slice(), LISTED_AND_STREAM.as_slice());
     Ok(())
+}
+
+// Makes a file beside nothing but a root, and names it there: its number, and what is found under the name.
+fn make_named(host: &mut MemHost, name: &[u8]) -> Result<(u64, Option<u64>), HostErr>
+    requires { IsEmptyStart host.old.view }
+    ensures { IfOk result (λ made. IsFile host.new.view.forest made.0) }
+{
+    let root = host.root()?;
+    let file = host.make(NodeKind::File)?;
+    host.bind(root, name, file)?;
+    let found = host.find(root, name)?;
+    Ok((file, found))
+}
+
+// Writes some bytes to a file, and reads what comes from the sixth on.
+fn write_and_read(host: &mut MemHost, alloc: Global, file: u64) -> Result<Vec<u8>, HostErr>
+    requires { IsFile host.old.view.forest file }
+{
+    write_whole(host, file, 0, b"some bytes")?;
+    let mut buf = vec![in alloc; 0; 16]?;
+    let count = read_whole(host, file, 5, &mut buf)?;
+    buf.truncate(count);
+    Ok(buf)
+}
+
+// The number of a file that is made and named, what is found under its name, and what is read of what was written to it.
+fn kept(alloc: Global) -> Result<(u64, Option<u64>, Vec<u8>), HostErr> {
+    let script = Script {
+        words: &[0, 2, 1, 0],
+        stream: 5,
+        fails: &[],
+    };
+    let mut host = script.host(alloc)?;
+    let (file, found) = make_named(&mut host, b"hello")?;
+    let bytes = write_and_read(&mut host, alloc, file)?;
+    Ok((file, found, bytes))
 }
 
 #[test]
 fn host_keeps_what_was_written(rt: HostRuntime) -> Result<(), Fail> {
-    let alloc = rt.alloc();
-    let picker = Picker::new(vec![in alloc; 0, 2, 1, 0]?, 5);
-    let mut host = MemHost::new(alloc, picker, Vec::new(alloc))?;
-    let root = host.root()?;
-    let file = host.make(NodeKind::File)?;
+    let (file, found, bytes) = kept(rt.alloc())?;
     assert_eq!(rt; file, 2);
-    host.bind(root, b"hello", file)?;
-    assert_eq!(rt; host.find(root, b"hello")?, Some(2));
-    write_whole(&mut host, file, 0, b"some bytes")?;
-    let mut buf = [0; 16];
-    let count = read_whole(&mut host, file, 5, &mut buf)?;
-    assert_eq!(rt; &buf[..count], b"bytes".as_slice());
+    assert_eq!(rt; found, Some(2));
+    assert_eq!(rt; bytes.as_slice(), b"bytes".as_slice());
     Ok(())
 }
 
@@ -62,139 +110,142 @@ fn a_word_chooses_among_16384_numbers(rt: HostRuntime) -> Result<(), Fail> {
     Ok(())
 }
 
-// Names a directory in itself, where it has no such name yet.
-fn bind_itself(host: &mut MemHost, dir: u64, name: &[u8]) -> Result<(), HostErr>
-    requires { IsDir host.old.view.forest dir }
-    ensures { OnOk result (IsDir host.new.view.forest dir) }
-{
-    match host.find(dir, name)? {
-        Some(_) => Ok(()),
-        None => host.bind(dir, name, dir),
-    }
-}
-
-// Whether the entries have these names, in this order, and are all of that node.
-fn are_named(found: &[HostEntry], ino: u64, names: &[&str]) -> bool {
-    let named = |(entry, name): (&HostEntry, &&str)| {
-        entry.ino == ino && entry.name.as_slice() == name.as_bytes()
-    };
-    found.len() == names.len() && found.iter().zip(names).all(named)
-}
+const TWO_ORDERS: &[Row] = &[
+    InDir(BindItself("one"), Done),
+    InDir(BindItself("two"), Done),
+    InDir(BindItself("three"), Done),
+    InDir(Names(&["two", "three", "one"]), Done),
+    InDir(Names(&["one", "two", "three"]), Done),
+    Check(Query::Number, Number(1)),
+];
 
 #[test]
 fn names_come_in_the_order_of_words(rt: HostRuntime) -> Result<(), Fail> {
-    let alloc = rt.alloc();
-    let picker = Picker::new(vec![in alloc; 4, 7, 9, 3, 2, 5]?, 1);
-    let mut host = MemHost::new(alloc, picker, Vec::new(alloc))?;
-    let root = host.root()?;
-    bind_itself(&mut host, root, b"one")?;
-    bind_itself(&mut host, root, b"two")?;
-    bind_itself(&mut host, root, b"three")?;
-    let first = host.names(root)?;
-    assert!(rt; are_named(&first, 1, &["two", "three", "one"]));
-    let second = host.names(root)?;
-    assert!(rt; are_named(&second, 1, &["one", "two", "three"]));
+    let script = Script {
+        words: &[4, 7, 9, 3, 2, 5],
+        stream: 1,
+        fails: &[],
+    };
+    let mismatch = play(rt.alloc(), At::Root, &script, TWO_ORDERS)?;
+    assert!(rt; mismatch.is_none(), "{mismatch:?}");
     Ok(())
 }
 
+const SORTED: &[Row] = &[
+    Check(Query::Number, Number(7)),
+    InDir(BindItself("b"), Done),
+    InDir(BindItself("ab"), Done),
+    InDir(BindItself("a"), Done),
+    InDir(SortedNames(&["a", "ab", "b"]), Done),
+];
+
 #[test]
 fn sorted_names_are_in_byte_order(rt: HostRuntime) -> Result<(), Fail> {
-    let alloc = rt.alloc();
-    let picker = Picker::new(vec![in alloc; 6, 1, 1, 0]?, 1);
-    let mut host = MemHost::new(alloc, picker, Vec::new(alloc))?;
-    let dir = host.make(NodeKind::Dir)?;
-    assert_eq!(rt; dir, 7);
-    bind_itself(&mut host, dir, b"b")?;
-    bind_itself(&mut host, dir, b"ab")?;
-    bind_itself(&mut host, dir, b"a")?;
-    let found = sorted_names(&mut host, dir)?;
-    assert!(rt; are_named(&found, 7, &["a", "ab", "b"]));
+    let script = Script {
+        words: &[6, 1, 1, 0],
+        stream: 1,
+        fails: &[],
+    };
+    let mismatch = play(rt.alloc(), At::Dir, &script, SORTED)?;
+    assert!(rt; mismatch.is_none(), "{mismatch:?}");
     Ok(())
+}
+
+// The target of a new link, and why it is not found again.
+fn target(alloc: Global) -> Result<(Blob, Option<HostErr>), HostErr> {
+    let script = Script {
+        words: &[],
+        stream: 1,
+        fails: &[3],
+    };
+    let mut host = script.host(alloc)?;
+    let target = Blob::new(Vec::from_slice(alloc, b"../etc")?);
+    let link = host.make(NodeKind::Link(target))?;
+    let found = host.target(link)?;
+    let error = host.target(link).err();
+    Ok((found, error))
 }
 
 #[test]
 fn link_keeps_its_target(rt: HostRuntime) -> Result<(), Fail> {
-    let alloc = rt.alloc();
-    let fails = vec![in alloc; 3]?;
-    let mut host = MemHost::new(alloc, Picker::new(Vec::new(alloc), 1), fails)?;
-    let target = Blob::new(Vec::from_slice(alloc, b"../etc")?);
-    let link = host.make(NodeKind::Link(target))?;
-    let found = host.target(link)?;
+    let (found, error) = target(rt.alloc())?;
     assert_eq!(rt; found.as_slice(), b"../etc".as_slice());
-    assert_eq!(rt; host.target(link).err(), Some(HostErr::Failed));
+    assert_eq!(rt; error, Some(HostErr::Failed));
     Ok(())
 }
+
+const CHOSEN: &[Row] = &[
+    InFile(Write(b"some bytes"), Done),
+    InFile(
+        FileCall::Raw,
+        Raw(RawStat {
+            size: 10,
+            device: 7,
+            mtime: 8,
+            blocks: 9,
+        }),
+    ),
+    Ask(NextStop(&[4, 1, 3]), Count(2)),
+    Ask(Clock, Number(11)),
+    Ask(Cycles, Number(12)),
+    Ask(Random(&[0, 0], &[0xff, 2]), Done),
+];
 
 #[test]
 fn words_choose_what_the_host_says(rt: HostRuntime) -> Result<(), Fail> {
-    let alloc = rt.alloc();
-    let picker = Picker::new(vec![in alloc; 5, 9, 7, 8, 9, 5, 11, 12, 0x1ff, 0x302]?, 1);
-    let mut host = MemHost::new(alloc, picker, Vec::new(alloc))?;
-    let file = host.make(NodeKind::File)?;
-    write_whole(&mut host, file, 0, b"some bytes")?;
-    let raw = RawStat {
-        size: 10,
-        device: 7,
-        mtime: 8,
-        blocks: 9,
+    let script = Script {
+        words: &[5, 9, 7, 8, 9, 5, 11, 12, 0x1ff, 0x302],
+        stream: 1,
+        fails: &[],
     };
-    assert_eq!(rt; host.raw(file)?, raw);
-    assert_eq!(rt; host.next_stop(&[4, 1, 3])?, 2);
-    assert_eq!(rt; host.clock()?, 11);
-    assert_eq!(rt; host.cycles()?, 12);
-    let mut buf = [0; 2];
-    host.random(&mut buf)?;
-    assert_eq!(rt; buf, [0xff, 2]);
+    let mismatch = play(rt.alloc(), At::File, &script, CHOSEN)?;
+    assert!(rt; mismatch.is_none(), "{mismatch:?}");
     Ok(())
 }
+
+const LISTED: &[Row] = &[
+    InDir(Names(&[]), Failed),
+    InDir(DirCall::Raw, Failed),
+    Ask(NextStop(&[4]), Failed),
+    Ask(Clock, Failed),
+    Ask(Cycles, Failed),
+    Ask(Random(&[3], &[3]), Failed),
+    Check(Faults, Number(6)),
+    Ask(Clock, Number(21)),
+];
 
 #[test]
 fn listed_calls_fail_and_take_no_word(rt: HostRuntime) -> Result<(), Fail> {
-    let alloc = rt.alloc();
-    let fails = vec![in alloc; 2, 3, 4, 5, 6, 7]?;
-    let mut host = MemHost::new(alloc, Picker::new(vec![in alloc; 21]?, 1), fails)?;
-    let root = host.root()?;
-    let failed = Some(HostErr::Failed);
-    assert_eq!(rt; host.names(root).err(), failed);
-    assert_eq!(rt; host.raw(root).err(), failed);
-    assert_eq!(rt; host.next_stop(&[4]).err(), failed);
-    assert_eq!(rt; host.clock().err(), failed);
-    assert_eq!(rt; host.cycles().err(), failed);
-    let mut buf = [3];
-    assert_eq!(rt; host.random(&mut buf).err(), failed);
-    assert_eq!(rt; buf, [3]);
-    assert_eq!(rt; host.faults(), 6);
-    assert_eq!(rt; host.clock()?, 21);
+    let script = Script {
+        words: &[21],
+        stream: 1,
+        fails: &[2, 3, 4, 5, 6, 7],
+    };
+    let mismatch = play(rt.alloc(), At::Root, &script, LISTED)?;
+    assert!(rt; mismatch.is_none(), "{mismatch:?}");
     Ok(())
 }
 
-// Takes a name out of a directory, where it has that name.
-fn unbind_there(host: &mut MemHost, dir: u64, name: &[u8]) -> Result<(), HostErr>
-    requires { IsDir host.old.view.forest dir }
-    ensures { IsDir host.new.view.forest dir }
-{
-    match host.find(dir, name)? {
-        Some(_) => host.unbind(dir, name),
-        None => Ok(()),
-    }
-}
+const NAMES_LEFT: &[Row] = &[
+    InDir(BindItself("one"), Done),
+    InDir(BindItself("two"), Done),
+    InDir(BindItself("three"), Done),
+    InDir(Unbind("one"), Done),
+    InDir(Names(&["two", "three"]), Done),
+    InDir(Unbind("two"), Failed),
+    InDir(Names(&["two", "three"]), Done),
+    Check(Query::Number, Number(1)),
+];
 
 #[test]
 fn names_left_keep_their_order(rt: HostRuntime) -> Result<(), Fail> {
-    let alloc = rt.alloc();
-    let picker = Picker::new(vec![in alloc; 0, 0, 0, 0]?, 1);
-    let mut host = MemHost::new(alloc, picker, vec![in alloc; 12]?)?;
-    let root = host.root()?;
-    bind_itself(&mut host, root, b"one")?;
-    bind_itself(&mut host, root, b"two")?;
-    bind_itself(&mut host, root, b"three")?;
-    unbind_there(&mut host, root, b"one")?;
-    let left = host.names(root)?;
-    assert!(rt; are_named(&left, 1, &["two", "three"]));
-    let failed = unbind_there(&mut host, root, b"two").err();
-    assert_eq!(rt; failed, Some(HostErr::Failed));
-    let left = host.names(root)?;
-    assert!(rt; are_named(&left, 1, &["two", "three"]));
+    let script = Script {
+        words: &[0, 0, 0, 0],
+        stream: 1,
+        fails: &[12],
+    };
+    let mismatch = play(rt.alloc(), At::Root, &script, NAMES_LEFT)?;
+    assert!(rt; mismatch.is_none(), "{mismatch:?}");
     Ok(())
 }
 
@@ -206,32 +257,42 @@ fn forget_new(host: &mut MemHost) -> Result<(), HostErr>
     host.forget(file)
 }
 
-#[test]
-fn number_is_free_once_its_node_is_gone(rt: HostRuntime) -> Result<(), Fail> {
-    let alloc = rt.alloc();
-    let picker = Picker::new(vec![in alloc; 4, 4]?, 1);
-    let mut host = MemHost::new(alloc, picker, Vec::new(alloc))?;
-    forget_new(&mut host)?;
-    assert_eq!(rt; host.make(NodeKind::File)?, 5);
-    let picker = Picker::new(vec![in alloc; 4, 4]?, 1);
-    let mut host = MemHost::new(alloc, picker, vec![in alloc; 2]?)?;
-    assert_eq!(rt; forget_new(&mut host).err(), Some(HostErr::Failed));
-    assert_eq!(rt; host.make(NodeKind::File)?, 6);
-    Ok(())
+// Why a new file doesn't go, if it doesn't, and the number of a file that is made then.
+fn made_after(alloc: Global, fails: &[u64]) -> Result<(Option<HostErr>, u64), HostErr> {
+    let script = Script {
+        words: &[4, 4],
+        stream: 1,
+        fails,
+    };
+    let mut host = script.host(alloc)?;
+    let error = forget_new(&mut host).err();
+    Ok((error, host.make(NodeKind::File)?))
 }
 
 #[test]
+fn number_is_free_once_its_node_is_gone(rt: HostRuntime) -> Result<(), Fail> {
+    assert_eq!(rt; made_after(rt.alloc(), &[])?, (None, 5));
+    let failed = Some(HostErr::Failed);
+    assert_eq!(rt; made_after(rt.alloc(), &[2])?, (failed, 6));
+    Ok(())
+}
+
+const SIZES: &[Row] = &[
+    InFile(Write(b"some bytes"), Done),
+    InFile(Cut(4), Done),
+    InFile(Cut(6), Done),
+    InFile(Cut(2), Failed),
+    InFile(Read(8, b"some\0\0"), Done),
+];
+
+#[test]
 fn file_is_cut_and_gets_zeros(rt: HostRuntime) -> Result<(), Fail> {
-    let alloc = rt.alloc();
-    let picker = Picker::new(vec![in alloc; 5, 9]?, 1);
-    let mut host = MemHost::new(alloc, picker, vec![in alloc; 5]?)?;
-    let file = host.make(NodeKind::File)?;
-    write_whole(&mut host, file, 0, b"some bytes")?;
-    host.cut(file, 4)?;
-    host.cut(file, 6)?;
-    assert_eq!(rt; host.cut(file, 2).err(), Some(HostErr::Failed));
-    let mut buf = [1; 8];
-    let count = read_whole(&mut host, file, 0, &mut buf)?;
-    assert_eq!(rt; &buf[..count], b"some\0\0".as_slice());
+    let script = Script {
+        words: &[5, 9],
+        stream: 1,
+        fails: &[5],
+    };
+    let mismatch = play(rt.alloc(), At::File, &script, SIZES)?;
+    assert!(rt; mismatch.is_none(), "{mismatch:?}");
     Ok(())
 }

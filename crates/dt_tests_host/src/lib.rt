@@ -2,10 +2,24 @@
 #![tactic(auto)]
 
 #[cfg(test)]
+mod ask;
+#[cfg(test)]
+mod directory;
+#[cfg(test)]
+mod file;
+#[cfg(test)]
 mod hosts;
 #[cfg(test)]
 mod outputs;
 #[cfg(test)]
 mod pids;
 #[cfg(test)]
+mod pipe;
+#[cfg(test)]
 mod pipes;
+#[cfg(test)]
+mod play;
+#[cfg(test)]
+mod scene;
+#[cfg(test)]
+mod step;

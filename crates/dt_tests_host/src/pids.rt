@@ -1,18 +1,65 @@
 // The pids of a host in memory: which one a word chooses, and what a failing call leaves.
+use crate::ask::number;
+use crate::pids::PidCall::{Faults, Greatest, New, NewAndDrop};
+use crate::scene::Script;
+use crate::step::Outcome::{self, Failed, Number};
 use dt_host::{Host, HostErr};
-use dt_memhost::{MemHost, Picker};
+use dt_memhost::MemHost;
+use std::alloc::Global;
 use std::test::Fail;
 
-#[test]
-fn a_word_chooses_among_128_pids(rt: HostRuntime) -> Result<(), Fail> {
-    let alloc = rt.alloc();
-    // The second 5 gives the next one upwards, and the second 127 goes round.
-    let picker = Picker::new(vec![in alloc; 5, 5, 127, 127, 128, 133]?, 0);
-    let mut host = MemHost::new(alloc, picker, Vec::new(alloc))?;
-    for pid in [6, 7, 128, 1, 2, 8] {
-        assert_eq!(rt; host.new_pid()?, pid);
+// What is done with pids, or looked up.
+#[derive(Clone, Copy, Debug)]
+enum PidCall {
+    // A pid is made.
+    New,
+    // A pid is made and let go.
+    NewAndDrop,
+    // So many pids are made: the greatest of them.
+    Greatest(u32),
+    // How many calls failed so far.
+    Faults,
+}
+
+// A call, and what it is to come to.
+type PidRow = (PidCall, Outcome);
+
+// The first row that came to something else than it wants.
+#[derive(Clone, Copy, Debug)]
+struct Mismatch {
+    index: usize,
+    call: PidCall,
+    found: Outcome,
+}
+
+// Makes these calls of a new host, up to the first that comes to something else than it is to come to.
+fn first_mismatch(
+    alloc: Global,
+    script: &Script<'_>,
+    rows: &[PidRow],
+) -> Result<Option<Mismatch>, HostErr> {
+    let mut host = script.host(alloc)?;
+    for (index, (call, want)) in rows.iter().enumerate() {
+        let found = make(&mut host, *call)?;
+        if found != *want {
+            return Ok(Some(Mismatch {
+                index,
+                call: *call,
+                found,
+            }));
+        }
     }
-    Ok(())
+    Ok(None)
+}
+
+// Makes a call.
+fn make(host: &mut MemHost, call: PidCall) -> Result<Outcome, HostErr> {
+    match call {
+        New => number(host.new_pid()),
+        NewAndDrop => number(drop_new(host)),
+        Greatest(count) => number(greatest(host, count)),
+        Faults => Ok(Number(host.faults())),
+    }
 }
 
 // Makes a pid and lets it go.
@@ -22,41 +69,88 @@ fn drop_new(host: &mut MemHost) -> Result<u64, HostErr> {
     Ok(pid)
 }
 
-#[test]
-fn pid_is_the_least_above_128_that_are_live(rt: HostRuntime) -> Result<(), Fail> {
-    let alloc = rt.alloc();
-    let mut host = MemHost::new(alloc, Picker::new(Vec::new(alloc), 3), Vec::new(alloc))?;
-    for _ in 0..128 {
-        assert!(rt; host.new_pid()? <= 128);
+// The greatest of so many new pids.
+fn greatest(host: &mut MemHost, count: u32) -> Result<u64, HostErr> {
+    let mut greatest = 0;
+    for _ in 0..count {
+        greatest = host.new_pid()?.max(greatest);
     }
-    assert_eq!(rt; drop_new(&mut host)?, 129);
-    assert_eq!(rt; host.new_pid()?, 129);
-    assert_eq!(rt; host.new_pid()?, 130);
+    Ok(greatest)
+}
+
+// The second 5 gives the next one upwards, and the second 127 goes round.
+const CHOSEN: &[PidRow] = &[
+    (New, Number(6)),
+    (New, Number(7)),
+    (New, Number(128)),
+    (New, Number(1)),
+    (New, Number(2)),
+    (New, Number(8)),
+];
+
+#[test]
+fn a_word_chooses_among_128_pids(rt: HostRuntime) -> Result<(), Fail> {
+    let script = Script {
+        words: &[5, 5, 127, 127, 128, 133],
+        stream: 0,
+        fails: &[],
+    };
+    let mismatch = first_mismatch(rt.alloc(), &script, CHOSEN)?;
+    assert!(rt; mismatch.is_none(), "{mismatch:?}");
     Ok(())
 }
+
+// None of the first 128 is above 128.
+const ALL_LIVE: &[PidRow] = &[
+    (Greatest(128), Number(128)),
+    (NewAndDrop, Number(129)),
+    (New, Number(129)),
+    (New, Number(130)),
+];
+
+#[test]
+fn pid_is_the_least_above_128_that_are_live(rt: HostRuntime) -> Result<(), Fail> {
+    let script = Script {
+        words: &[],
+        stream: 3,
+        fails: &[],
+    };
+    let mismatch = first_mismatch(rt.alloc(), &script, ALL_LIVE)?;
+    assert!(rt; mismatch.is_none(), "{mismatch:?}");
+    Ok(())
+}
+
+const DROPPED: &[PidRow] = &[(NewAndDrop, Number(5)), (New, Number(5)), (New, Number(6))];
 
 #[test]
 fn dropped_pid_comes_again(rt: HostRuntime) -> Result<(), Fail> {
-    let alloc = rt.alloc();
-    let picker = Picker::new(vec![in alloc; 4, 4, 4]?, 0);
-    let mut host = MemHost::new(alloc, picker, Vec::new(alloc))?;
-    assert_eq!(rt; drop_new(&mut host)?, 5);
-    assert_eq!(rt; host.new_pid()?, 5);
-    assert_eq!(rt; host.new_pid()?, 6);
+    let script = Script {
+        words: &[4, 4, 4],
+        stream: 0,
+        fails: &[],
+    };
+    let mismatch = first_mismatch(rt.alloc(), &script, DROPPED)?;
+    assert!(rt; mismatch.is_none(), "{mismatch:?}");
     Ok(())
 }
 
+const LISTED: &[PidRow] = &[
+    (New, Failed),
+    (Faults, Number(1)),
+    // The second call makes the pid 6, which the third doesn't take away.
+    (NewAndDrop, Failed),
+    (Faults, Number(2)),
+    (New, Number(7)),
+];
+
 #[test]
 fn listed_calls_leave_words_and_pids(rt: HostRuntime) -> Result<(), Fail> {
-    let alloc = rt.alloc();
-    let picker = Picker::new(vec![in alloc; 5, 5]?, 0);
-    let mut host = MemHost::new(alloc, picker, vec![in alloc; 1, 3]?)?;
-    let failed = Some(HostErr::Failed);
-    assert_eq!(rt; host.new_pid().err(), failed);
-    assert_eq!(rt; host.faults(), 1);
-    // The second call makes the pid 6, which the third doesn't take away.
-    assert_eq!(rt; drop_new(&mut host).err(), failed);
-    assert_eq!(rt; host.faults(), 2);
-    assert_eq!(rt; host.new_pid()?, 7);
+    let script = Script {
+        words: &[5, 5],
+        stream: 0,
+        fails: &[1, 3],
+    };
+    let mismatch = first_mismatch(rt.alloc(), &script, LISTED)?;
+    assert!(rt; mismatch.is_none(), "{mismatch:?}");
     Ok(())
 }

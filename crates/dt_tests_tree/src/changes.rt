@@ -3,59 +3,16 @@ ghost use Rattle.std.specs.Prelude.{OnOk, IsTrue};
 ghost use Rattle.dt_tree.specs.FileTree.{is_entry_name};
 ghost use Rattle.dt_tree.specs.Table.{Stands};
 
-use crate::fixture::{file_in_root, host, load};
+use crate::fixture::{host, load};
+use crate::play::play;
+use crate::row::Call::{Cut, TellFile, Write};
+use crate::row::Outcome::{Done, Refused, Sized};
+use crate::row::Row;
 use dt_base::{Errno, What};
 use dt_host::{CallErr, HostErr};
 use dt_memhost::MemHost;
 use dt_tree::{ROOT, Tree};
 use std::test::Fail;
-
-// Writes to the file `/hello`; ENOENT where it is not there.
-fn write(
-    host: &mut MemHost,
-    tree: &mut Tree,
-    off: u64,
-    bytes: &[u8],
-) -> Result<Result<(), Errno>, HostErr>
-    requires { Stands tree.old host.old.view.forest }
-    ensures { OnOk result (Stands tree.new host.new.view.forest) }
-{
-    let Some(inode) = file_in_root(host, tree, b"hello")? else {
-        return Ok(Err(Errno::NoEnt));
-    };
-    match tree.write_at(host, inode, off, bytes, 1_000) {
-        Ok(()) => Ok(Ok(())),
-        Err(CallErr::Errno(errno)) => Ok(Err(errno)),
-        Err(CallErr::Host(error)) => Err(error),
-    }
-}
-
-// Gives the file `/hello` another length; ENOENT where it is not there.
-fn cut(host: &mut MemHost, tree: &mut Tree, len: u64) -> Result<Result<(), Errno>, HostErr>
-    requires { Stands tree.old host.old.view.forest }
-    ensures { OnOk result (Stands tree.new host.new.view.forest) }
-{
-    let Some(inode) = file_in_root(host, tree, b"hello")? else {
-        return Ok(Err(Errno::NoEnt));
-    };
-    match tree.cut(host, inode, len, 2_000) {
-        Ok(()) => Ok(Ok(())),
-        Err(CallErr::Errno(errno)) => Ok(Err(errno)),
-        Err(CallErr::Host(error)) => Err(error),
-    }
-}
-
-// The size and the stamp of the file `/hello`, if it is there.
-fn size(host: &mut MemHost, tree: &Tree) -> Result<Option<(u64, u64)>, HostErr>
-    requires { Stands tree.now host.old.view.forest }
-    ensures { OnOk result (Stands tree.now host.new.view.forest) }
-{
-    let Some(inode) = file_in_root(host, tree, b"hello")? else {
-        return Ok(None);
-    };
-    let meta = tree.meta(host, inode)?;
-    Ok(Some((meta.size, meta.stamp)))
-}
 
 // Makes a directory in the root: its inode. EEXIST where the name is there.
 fn make(host: &mut MemHost, tree: &mut Tree, name: &[u8]) -> Result<Result<u64, Errno>, HostErr>
@@ -73,23 +30,26 @@ fn make(host: &mut MemHost, tree: &mut Tree, name: &[u8]) -> Result<Result<u64, 
     }
 }
 
+const FILE: &[u8] = b"hello";
+
+const LENGTHS: &[Row] = &[
+    Row(Write(FILE, 16_777_216, b"x"), Refused(Errno::FBig)),
+    Row(Write(FILE, 16_777_215, b"xy"), Refused(Errno::FBig)),
+    Row(Write(FILE, u64::MAX, b"x"), Refused(Errno::FBig)),
+    Row(Cut(FILE, 16_777_217), Refused(Errno::FBig)),
+    Row(TellFile(FILE), Sized(5, 0)),
+    Row(Write(FILE, 16_777_215, b"x"), Done),
+    Row(TellFile(FILE), Sized(16_777_216, 1_000)),
+    Row(Cut(FILE, 3), Done),
+    Row(TellFile(FILE), Sized(3, 2_000)),
+    Row(Cut(FILE, 16_777_216), Done),
+    Row(TellFile(FILE), Sized(16_777_216, 2_000)),
+];
+
 #[test]
 fn a_file_has_16777216_bytes_at_most(rt: HostRuntime) -> Result<(), Fail> {
-    let alloc = rt.alloc();
-    let mut host = host(alloc, 1, 0)?;
-    let mut tree = load(alloc, &mut host)?;
-    let (h, t) = (&mut host, &mut tree);
-    assert_eq!(rt; write(h, t, 16_777_216, b"x")?, Err(Errno::FBig));
-    assert_eq!(rt; write(h, t, 16_777_215, b"xy")?, Err(Errno::FBig));
-    assert_eq!(rt; write(h, t, u64::MAX, b"x")?, Err(Errno::FBig));
-    assert_eq!(rt; cut(h, t, 16_777_217)?, Err(Errno::FBig));
-    assert_eq!(rt; size(h, t)?, Some((5, 0)));
-    assert_eq!(rt; write(h, t, 16_777_215, b"x")?, Ok(()));
-    assert_eq!(rt; size(h, t)?, Some((16_777_216, 1_000)));
-    assert_eq!(rt; cut(h, t, 3)?, Ok(()));
-    assert_eq!(rt; size(h, t)?, Some((3, 2_000)));
-    assert_eq!(rt; cut(h, t, 16_777_216)?, Ok(()));
-    assert_eq!(rt; size(h, t)?, Some((16_777_216, 2_000)));
+    let mismatch = play(rt.alloc(), 1, LENGTHS)?;
+    assert!(rt; mismatch.is_none(), "{mismatch:?}");
     Ok(())
 }
 

@@ -2,9 +2,8 @@
 ghost use Rattle.dt_host.specs.World.{IsEmptyStart};
 ghost use Rattle.dt_tree.specs.Table.{Stands};
 
+use crate::calls::{list, target_of};
 use crate::fixture::{bytewise, file_in_root, load};
-use crate::listings::list;
-use crate::nodes::target_of;
 use dt_host::{Host, HostErr};
 use dt_memhost::MemHost;
 use dt_tree::{ROOT, Tree};

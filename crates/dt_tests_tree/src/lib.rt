@@ -2,6 +2,8 @@
 #![tactic(auto)]
 
 #[cfg(test)]
+mod calls;
+#[cfg(test)]
 mod changes;
 #[cfg(test)]
 mod failures;
@@ -14,6 +16,10 @@ mod listings;
 #[cfg(test)]
 mod nodes;
 #[cfg(test)]
+mod play;
+#[cfg(test)]
 mod reads;
+#[cfg(test)]
+mod row;
 #[cfg(test)]
 mod walks;

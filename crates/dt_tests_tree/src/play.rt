@@ -1,0 +1,56 @@
+// Rows of a test, played at a new tree.
+ghost use Rattle.std.specs.Prelude.{OnOk};
+ghost use Rattle.dt_tree.specs.Table.{Stands};
+
+use crate::calls::{cut, dot_dot, go, list, path_of, target_of, told, told_of_file, write};
+use crate::fixture::{host, load};
+use crate::row::{Call, Found, Mismatch, Row, is_met};
+use dt_host::HostErr;
+use dt_memhost::MemHost;
+use dt_tree::Tree;
+use std::alloc::Global;
+
+/// Plays rows at the tree of the image, over a host that chooses by the stream of a number, up to the first that comes
+/// to something else.
+pub fn play<'a>(
+    alloc: Global,
+    stream: u64,
+    rows: &[Row<'a>],
+) -> Result<Option<Mismatch<'a>>, HostErr> {
+    let mut host = host(alloc, stream, 0)?;
+    let mut tree = load(alloc, &mut host)?;
+    for (index, row) in rows.iter().enumerate() {
+        let found = found_by(alloc, &mut host, &mut tree, row.0)?;
+        if !is_met(&row.1, &found) {
+            return Ok(Some(Mismatch {
+                index,
+                row: *row,
+                found,
+            }));
+        }
+    }
+    Ok(None)
+}
+
+// Makes a call.
+fn found_by(
+    alloc: Global,
+    host: &mut MemHost,
+    tree: &mut Tree,
+    call: Call,
+) -> Result<Found, HostErr>
+    requires { Stands tree.old host.old.view.forest }
+    ensures { OnOk result (Stands tree.new host.new.view.forest) }
+{
+    match call {
+        Call::Walk(path, last) => go(alloc, host, tree, path, last),
+        Call::Tell(path) => told(alloc, host, tree, path),
+        Call::TellFile(name) => told_of_file(host, tree, name),
+        Call::Target(name) => target_of(host, tree, name),
+        Call::PathOf(dir) => path_of(host, tree, dir),
+        Call::DotDot(dir) => Ok(dot_dot(tree, dir)),
+        Call::List(dir, last, most) => list(host, tree, dir, last, most),
+        Call::Write(name, off, bytes) => write(host, tree, name, off, bytes),
+        Call::Cut(name, len) => cut(host, tree, name, len),
+    }
+}
