@@ -100,8 +100,8 @@ pub fn cat1(alloc: Global) -> Result<Guest, NoMemory>
     Ok(guest)
 }
 
-/// Makes a child, kills it by SIGKILL before its first turn, waits for it, and ends with code 0. The child writes `x` to
-/// standard output, and would end with code 0.
+/// Makes a child, kills it by SIGKILL before its first turn, waits for it, and ends with code 0. The child writes `x`
+/// to standard output, and would end with code 0.
 pub fn late(alloc: Global) -> Result<Guest, NoMemory>
     ensures { IfOk result (λ guest. guest ≡ late_guest) }
 {

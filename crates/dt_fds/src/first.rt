@@ -19,7 +19,8 @@ use dt_pipes::Pipes;
 use std::alloc::Global;
 
 impl Files {
-    /// The open files of the first process: descriptor 0 is the input, 1 and 2 are the output streams. There is no pipe.
+    /// The open files of the first process: descriptor 0 is the input, 1 and 2 are the output streams. There is no
+    /// pipe.
     pub fn first(alloc: Global, pid: u32) -> Result<Files, NoMemory>
         ensures files { IfOk result (λ files. files.descriptors ≡ first_files pid) }
         ensures nodes { IfOk result (λ files. (n : ℕ) → descriptions_of files.descriptors n ≡ 0) }

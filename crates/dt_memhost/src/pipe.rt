@@ -3,22 +3,26 @@ ghost use Rattle.std.specs.Prelude.{◌≡◌, ◌≤◌, [], ◌++◌, length, 
 
 use dt_base::NoMemory;
 use std::alloc::Global;
-use std::collections::VecDeque;
-use std::io::{BufRead, Write};
 use std::marker::Model;
+use std::mem;
 
-/// The bytes that a pipe holds, the oldest first. A transfer moves none of those that stay.
+/// The bytes that a pipe holds, the oldest first: those of `front` that were not taken, and then those of `back`, where
+/// all go that come. So each byte is copied in and out once, and a transfer moves none of those that stay.
 #[derive(Drop)]
 pub(crate) struct MemPipe {
-    held: VecDeque<u8>,
+    front: Vec<u8>,
+    taken: usize,
+    back: Vec<u8>,
 }
 
 impl Model for MemPipe {
-    ghost use Rattle.std.specs.Prelude.{ℕ, List};
+    ghost use Rattle.std.specs.Prelude.{ℕ, List, ◌++◌, ◌≤◌, drop, vec_len};
 
     ghost Value = { List ℕ };
 
-    ghost view = { λ p. p.held.items };
+    ghost view = { λ p. drop p.taken p.front.items ++ p.back.items };
+
+    ghost invariant = { λ p. p.taken ≤ vec_len p.front };
 }
 
 impl MemPipe {
@@ -27,7 +31,9 @@ impl MemPipe {
         ensures { result ≡ [] }
     {
         MemPipe {
-            held: VecDeque::new(alloc),
+            front: Vec::new(alloc),
+            taken: 0,
+            back: Vec::new(alloc),
         }
     }
 
@@ -35,7 +41,7 @@ impl MemPipe {
     pub(crate) fn len(&self) -> usize
         ensures { result ≡ length self.now }
     {
-        self.held.len()
+        self.front.len() - self.taken + self.back.len()
     }
 
     /// Takes its oldest bytes, so many, into the start of the buffer.
@@ -45,14 +51,28 @@ impl MemPipe {
         ensures bytes { buf.new ≡ take count self.old ++ drop count buf.old }
         ensures left { self.new ≡ drop count self.old }
     {
-        // The queue is a ring, so what it holds lies in two rows.
-        let (first, second) = self.held.as_slices();
+        let (_, first) = self.front.split_at(self.taken);
         let inside = count.min(first.len());
         let (upper, _) = first.split_at(inside);
-        let (lower, _) = second.split_at(count - inside);
+        let (lower, _) = self.back.split_at(count - inside);
         buf[..inside].copy_from_slice(upper);
         buf[inside..count].copy_from_slice(lower);
-        self.held.consume(count);
+        self.let_go(count);
+    }
+
+    // Lets its oldest bytes go, so many.
+    fn let_go(&mut self, count: usize)
+        requires { count ≤ length self.old }
+        ensures { self.new ≡ drop count self.old }
+    {
+        let first = self.front.len() - self.taken;
+        if count < first {
+            self.taken += count;
+            return;
+        }
+        mem::swap(&mut self.front, &mut self.back);
+        self.taken = count - first;
+        self.back.clear();
     }
 
     /// Puts bytes behind those that it holds.
@@ -60,9 +80,7 @@ impl MemPipe {
         ensures ok { OnOk result (self.new ≡ self.old ++ bytes.now) }
         ensures err { OnErr result (self.new ≡ self.old) }
     {
-        match self.held.write(bytes) {
-            Ok(_) => Ok(()),
-            Err(_) => Err(NoMemory),
-        }
+        self.back.extend_from_slice(bytes)?;
+        Ok(())
     }
 }

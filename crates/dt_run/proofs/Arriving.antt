@@ -2,7 +2,7 @@
 use Rattle.std.proofs.Common.{◌≡◌, ◌≢◌, ℕ, zero, suc, ◌+◌, ◌<◌, ◌≤◌, ◌==◌, not, Bool, true, false, cond, List, [], ◌∷◌, map, length, Option, Some, None, refl, sym, ap, subst, ◌∙◌, arith}
 use Rattle.std.specs.Prelude.{IsSome, option_map}
 use Rattle.std.proofs.lemmas.Bool.Decides.{nat_tests}
-use Rattle.std.proofs.lemmas.List.Elements.{All-from_recursion, All-contains}
+use Rattle.std.proofs.lemmas.List.Elements.{All-from_recursion, All-contains, Contains-get_or}
 use Rattle.std.specs.List.{AllByRecursion, Contains, filter, slice_index_or}
 use Rattle.std.specs.Ordering.{nat_cmp}
 use Rattle.std.specs.Cmp.{nat_cmp_total}
@@ -71,6 +71,12 @@ owed s p good is =
     All-contains (IsOwed (home_of s.container.places) s.phases s.container.shared.pids.next) (owing s.core.queue) p
     (All-from_recursion (IsOwed (home_of s.container.places) s.phases s.container.shared.pids.next) (owing s.core.queue)
     (all-owed (home_of s.container.places) s.phases s.container.shared.pids.next s.core.queue good.placed)) is
+
+-- the process at an index of those that owe is one of them
+pub owed-held : (s : StateInCode) (index vpid : ℕ) → index < length (owing s.core.queue)
+    → vpid ≡ slice_index_or (owing s.core.queue) index 0 → Contains (owing s.core.queue) vpid
+owed-held s index vpid within is =
+    subst (Contains (owing s.core.queue)) (sym is) (Contains-get_or (owing s.core.queue) index 0 within)
 
 -- what the code has after the arrival
 pub record Arrived (s : StateInCode) (p : ℕ) (m : Machine) (seg : Seg) (new : StateInCode) : Type 0 where

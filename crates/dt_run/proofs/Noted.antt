@@ -2,8 +2,8 @@
 use Rattle.std.proofs.Common.{◌≡◌, ◌≢◌, ℕ, Bool, true, false, cond, List, Option, Some, None, refl, sym, ap, ◌∙◌}
 use Rattle.std.specs.Prelude.{IsSome}
 use Rattle.std.specs.Cmp.{nat_cmp_total}
-use Rattle.std.specs.FinMap.{empty, get, insert, remove, nat_cmp-IsAntisymmetric}
-use Rattle.dt_host.proofs.Maps.{get-insert_same, get-insert_other, get-remove_same, get-remove_other}
+use Rattle.std.specs.FinMap.{empty, get, insert, nat_cmp-IsAntisymmetric}
+use Rattle.dt_host.proofs.Maps.{get-insert_same, get-insert_other, get-remove_other}
 use Rattle.dt_base.specs.declared.event.Event.{Event}
 use Rattle.dt_rv64.specs.declared.machine.Machine.{Machine}
 use Rattle.dt_rv64.specs.declared.segments.Stop.{Stop}
@@ -23,17 +23,13 @@ use Rattle.dt_run.proofs.Works.{Only, works_in-insert, works_in-remove, works_in
 
 -- nothing else is noted otherwise
 pub noted-only : (phases : Phases) (p : ℕ) (served : Served) → Only p phases (noted phases p served)
-noted-only phases p Done q apart = get-remove_other nat_cmp_total nat_cmp-IsAntisymmetric phases p q apart
-noted-only phases p (Child vpid) q apart = get-remove_other nat_cmp_total nat_cmp-IsAntisymmetric phases p q apart
+noted-only phases p Done q apart = get-insert_other nat_cmp_total nat_cmp-IsAntisymmetric phases p _ q apart
+noted-only phases p (Child vpid) q apart = get-insert_other nat_cmp_total nat_cmp-IsAntisymmetric phases p _ q apart
 noted-only phases p (LastChild vpid) q apart = get-remove_other nat_cmp_total nat_cmp-IsAntisymmetric phases p q apart
 noted-only phases p Blocked q apart = get-insert_other nat_cmp_total nat_cmp-IsAntisymmetric phases p _ q apart
 noted-only phases p Moved q apart = get-insert_other nat_cmp_total nat_cmp-IsAntisymmetric phases p _ q apart
 noted-only phases p Ended q apart = get-remove_other nat_cmp_total nat_cmp-IsAntisymmetric phases p q apart
 noted-only phases p (Unsupported number) q apart = refl
-
--- nothing is noted of a process that goes on
-pub unnoted : (phases : Phases) (p : ℕ) → get (remove phases p) p ≡ None
-unnoted phases p = get-remove_same nat_cmp_total nat_cmp-IsAntisymmetric phases p
 
 -- a process that lives on has a machine, and one that ended has none
 abbrev pub FitsOwn : Served → Option Machine → Type 0
@@ -92,8 +88,8 @@ served-fits c next p stop m = settle-fits next p _
 
 noted-own : (phases : Phases) (p : ℕ) (served : Served) (m : Machine) → FitsOwn served (Some m)
     → phase_in (get (noted phases p served) p) ≡ phase_after (phase_in (get phases p)) served
-noted-own phases p Done m fits = ap phase_in (unnoted phases p)
-noted-own phases p (Child vpid) m fits = ap phase_in (unnoted phases p)
+noted-own phases p Done m fits = ap phase_in (get-insert_same nat_cmp_total nat_cmp-IsAntisymmetric phases p _)
+noted-own phases p (Child vpid) m fits = ap phase_in (get-insert_same nat_cmp_total nat_cmp-IsAntisymmetric phases p _)
 noted-own phases p (LastChild vpid) m fits = cc
 noted-own phases p Blocked m fits = ap phase_in (get-insert_same nat_cmp_total nat_cmp-IsAntisymmetric phases p _)
 noted-own phases p Moved m fits = ap phase_in (get-insert_same nat_cmp_total nat_cmp-IsAntisymmetric phases p _)

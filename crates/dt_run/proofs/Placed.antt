@@ -18,11 +18,11 @@ use Rattle.dt_calls.specs.declared.container.Served.{Served}
 use Rattle.dt_calls.specs.declared.container.Served.TheVariants.{Done, Child, LastChild, Blocked, Moved, Ended, Unsupported}
 use Rattle.dt_calls.specs.Container.{Machines}
 use Rattle.dt_calls.specs.Settle.{all_ended, with_own, with_child, next_after}
-use Rattle.dt_run.specs.declared.phase.Phase.TheVariants.{Waits}
+use Rattle.dt_run.specs.declared.phase.Phase.TheVariants.{Owes, Waits}
 use Rattle.dt_run.specs.Queue.{told}
 use Rattle.dt_run.specs.inner.InCode.{Phases, phase_in, known, noted}
 use Rattle.dt_run.specs.inner.Good.{IsPlaced}
-use Rattle.dt_run.proofs.Noted.{FitsOwn, FitsChild, noted-only, unnoted}
+use Rattle.dt_run.proofs.Noted.{FitsOwn, FitsChild, noted-only}
 
 all-append : {X : Type 0} (P : X → Type 0) (xs ys : List X) → AllByRecursion P xs → AllByRecursion P ys
     → AllByRecursion P (xs ++ ys)
@@ -100,9 +100,10 @@ module _ (machines : Machines) (phases : Phases) (next : ℕ) (q : Process) (own
     head-given = let later = next-later next child in omega (arith, head.given, later)
 
     -- the head owes again
-    owes-again : IsSome own → IsPlaced after_turn (remove phases q.vpid) (next_after next child) (owes q.vpid)
+    owes-again : IsSome own → IsPlaced after_turn (insert phases q.vpid Owes) (next_after next child) (owes q.vpid)
     owes-again lives = record {
-      stands = ap (λ found. known (phase_in found)) (sym (unnoted phases q.vpid));
+      stands = ap (λ found. known (phase_in found))
+          (sym (get-insert_same nat_cmp_total nat_cmp-IsAntisymmetric phases q.vpid Owes));
       home = head-home lives;
       given = head-given;
     }

@@ -1,6 +1,6 @@
 // A run between two turns, and the arrivals of segments that were run.
 ghost use Rattle.std.specs.Prelude.{◌≡◌, ◌<◌, length, IfOk, OnOk, IsErrOf};
-ghost use Rattle.std.specs.List.{Contains};
+ghost use Rattle.std.specs.List.{slice_index_or};
 ghost use Rattle.std.specs.FinMap.{empty, get};
 ghost use Rattle.dt_host.specs.Cause.{HasCause};
 ghost use Rattle.dt_host.specs.World.{World};
@@ -18,7 +18,7 @@ use dt_numbered::Numbered;
 use dt_sched::Core;
 use std::alloc::Global;
 
-/// A run between two turns: the container, the queue, and where each process stands that does not owe a segment.
+/// A run between two turns: the container, the queue, and where each process stands that has run a segment.
 #[derive(Drop)]
 pub struct State {
     pub container: Container,
@@ -62,26 +62,26 @@ impl State {
         ensures smaller { OnOk result (steps_left self.new.core < steps_left self.old.core) }
         ensures cause { HasCause (H.count host.old) (H.count host.new) (IsErrOf result HostErr.Failed) }
     {
-        let owing = self.core.owing();
-        let index = host.next_stop(owing)?;
-        let vpid = owing[index];
-        Ok(self.arrive(vpid)?)
+        let index = host.next_stop(self.core.owing())?;
+        Ok(self.arrive(index)?)
     }
 
-    // Runs the segment that a process owes, and lets it arrive.
-    fn arrive(&mut self, vpid: u32) -> Result<(), NoMemory>
+    // Runs a segment that is owed, by its process's index among those that owe one, and lets it arrive.
+    fn arrive(&mut self, index: usize) -> Result<(), NoMemory>
         requires good { IsGood self.old }
-        requires owing { Contains (owing self.old.core.queue) vpid }
-        ensures ran { (w : World) → OnOk result (state_of self.new w ≡ ran vpid (state_of self.old w)) }
+        requires owing { index < length (owing self.old.core.queue) }
+        ensures ran { (w : World) → OnOk result (state_of self.new w
+            ≡ ran (slice_index_or (owing self.old.core.queue) index 0) (state_of self.old w)) }
         ensures good { OnOk result (IsGood self.new) }
         ensures sound { (w : World) → IsSoundContainer self.old.container w
             → OnOk result (IsSoundContainer self.new.container w) }
         ensures verdict { OnOk result (self.new.core.verdict ≡ self.old.core.verdict) }
         ensures smaller { OnOk result (steps_left self.new.core < steps_left self.old.core) }
     {
+        let vpid = self.core.owing()[index];
         let seg = self.container.run_segment(vpid)?;
         self.phases.put(u64::from(vpid), Phase::Ran(seg))?;
-        self.core.arrived(vpid, seg.count);
+        self.core.arrived(index, seg.count);
         Ok(())
     }
 }

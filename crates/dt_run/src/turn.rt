@@ -4,7 +4,6 @@ ghost use Rattle.std.specs.FinMap.{get};
 ghost use Rattle.dt_host.specs.Cause.{HasCause};
 ghost use Rattle.dt_sched.specs.Core.{head, IsCore};
 ghost use Rattle.dt_sched.specs.declared.settled.Head.TheVariants.{Ready};
-ghost use Rattle.dt_calls.specs.declared.container.Served.TheVariants.{Blocked as blocked, Moved as moved};
 ghost use Rattle.dt_calls.specs.InCode.{container_of, home_of, turned_as};
 ghost use Rattle.dt_calls.specs.Settle.{serve};
 ghost use Rattle.dt_calls.specs.Sound.{IsSoundContainer};
@@ -75,15 +74,15 @@ fn serve<H: Host>(
 
 // Notes where a process stands after its stop was served.
 fn note(phases: &mut Numbered<Phase>, vpid: u32, served: Served)
-    requires blocked { served ≡ blocked → IsSome (get phases.old vpid) }
-    requires moved { served ≡ moved → IsSome (get phases.old vpid) }
+    requires { IsSome (get phases.old vpid) }
     ensures { phases.new ≡ noted phases.old vpid served }
 {
     match served {
-        Served::Done | Served::Child(_) | Served::LastChild(_) | Served::Ended => {
+        Served::Done | Served::Child(_) => phases.set(u64::from(vpid), Phase::Owes),
+        Served::Blocked | Served::Moved => phases.set(u64::from(vpid), Phase::Waits),
+        Served::LastChild(_) | Served::Ended => {
             phases.take(u64::from(vpid));
         }
-        Served::Blocked | Served::Moved => phases.set(u64::from(vpid), Phase::Waits),
         Served::Unsupported(_) => {}
     }
 }

@@ -1,17 +1,18 @@
 -- Processes that stand once, and what arrivals and moves make of them.
-use Rattle.std.proofs.Common.{ℕ, Bool, zero, suc, ◌≡◌, ◌≢◌, ◌+◌, ◌≤◌, ◌&&◌, ◌||◌, ◌==◌, true, false, not, List, [], ◌∷◌, ◌++◌, map, length, get_or, slice_set, remove, drop, IsTrue, refl, sym, ap, subst, ◌∙◌, ◌<◌, Option, Some, None, length-append, arith}
-use Rattle.std.proofs.lemmas.List.{length-map, drop_all}
+use Rattle.std.proofs.Common.{ℕ, Bool, zero, suc, ◌≡◌, ◌≢◌, ◌+◌, ◌-◌, ◌≤◌, ◌&&◌, ◌||◌, ◌==◌, true, false, not, cond, List, [], ◌∷◌, ◌++◌, map, length, get_or, slice_set, remove, take, drop, append-nil, IsTrue, refl, sym, ap, subst, ◌∙◌, ◌<◌, Option, Some, None, length-append, arith}
+use Rattle.std.proofs.lemmas.List.{length-map, drop_all, take_all}
 use Rattle.std.proofs.lemmas.Bool.Decides.{nat_tests}
+use Rattle.std.proofs.lemmas.Grind.{get_or_default_zero}
 use Rattle.std.specs.List.{filter}
 use Rattle.dt_sched.specs.declared.queue.TheConstants.{QUEUE_LIMIT}
 use Rattle.dt_sched.specs.declared.settled.Head.TheVariants.{Ready, Over}
 use Rattle.dt_base.specs.declared.event.Verdict.{Verdict}
-use Rattle.dt_sched.specs.Queue.{IsTable, first_of, queue_at, among, once, without}
+use Rattle.dt_sched.specs.Queue.{IsTable, owing_from, moved_up, first_of, is_ready, queue_at}
 use Rattle.dt_sched.specs.declared.process.Process.{Process}
 use Rattle.dt_sched.specs.declared.process.Phase.TheVariants.{Arrived}
 use Rattle.dt_sched.specs.declared.settled.Settled.{Settled}
 use Rattle.dt_sched.specs.declared.settled.Settled.TheVariants.{Again, Child, LastChild, Waits as Blocked, Moved, Gone, Stopped}
-use Rattle.dt_sched.specs.Core.{holds, each_once, owing, arrived_at, queue_after, blocked_after, verdict_after, GoesOn, CoreView, IsReady, head_by, is_count, all_counted}
+use Rattle.dt_sched.specs.Core.{holds, each_once, owing, is_owing, waits, arrived_at, queue_after, blocked_after, verdict_after, GoesOn, CoreView, IsReady, head_by, is_count, all_counted}
 
 -- two arrivals at one process
 pub arrived_at-twice : (p q first second : ℕ) (x : Process) → p ≢ q
@@ -89,6 +90,20 @@ arrived-index vpid cost (suc k) (x ∷ xs) p q within each here there is =
     let held = holds-index vpid k xs p (omega arith) (ap (λ (x : Process). x.vpid) (sym here) ∙ is) in
     grind (arith, nat_tests, arrived-index vpid cost k xs p q (omega arith) (second-of (not (holds x.vpid xs)) (each_once xs) each) here there is)
 
+-- a virtual pid is one of these
+abbrev pub among : ℕ → List ℕ → Bool
+among vpid [] = false
+among vpid (x ∷ xs) = (x == vpid) || among vpid xs
+
+-- none of these stands there twice
+abbrev pub once : List ℕ → Bool
+once [] = true
+once (x ∷ xs) = not (among x xs) && once xs
+
+-- the others
+abbrev pub without : ℕ → List ℕ → List ℕ
+without vpid xs = filter (λ other. not (other == vpid)) xs
+
 -- none of those that owe is there twice
 pub among-owing : (vpid : ℕ) (xs : List Process) → holds vpid xs ≡ false → among vpid (owing xs) ≡ false
 among-owing vpid [] absent = refl
@@ -116,36 +131,178 @@ without-index vpid (suc k) (x ∷ xs) d within each here is =
     let held = among-index vpid k xs d (omega arith) (sym here ∙ is) in
     grind (arith, nat_tests, without-index vpid k xs d (omega arith) (second-of (not (among x xs)) (once xs) each) here is)
 
--- where none of a whole list was it, it is not there
-pub none-held : (vpid n : ℕ) (xs : List Process) → holds vpid xs ≡ holds vpid (drop n xs) → length xs ≤ n → holds vpid xs ≡ false
-none-held vpid n xs none all = none ∙ ap (holds vpid) (drop_all n xs all)
+-- one that waits is before or behind
+pub waits_append : (vpid : ℕ) (xs ys : List Process) → waits vpid (xs ++ ys) ≡ (waits vpid xs || waits vpid ys)
+waits_append vpid [] ys = refl
+waits_append vpid (x ∷ xs) ys = grind (arith, nat_tests, waits_append vpid xs ys)
 
-pub none-among : (vpid n : ℕ) (xs : List ℕ) → among vpid xs ≡ among vpid (drop n xs) → length xs ≤ n → among vpid xs ≡ false
-none-among vpid n xs none all = none ∙ ap (among vpid) (drop_all n xs all)
+-- as many indices as processes owe
+pub length-from : (first : ℕ) (xs : List Process) → length (owing_from first xs) ≡ length (owing xs)
+length-from first [] = refl
+length-from first (x ∷ xs) = grind (arith, length-from (first + 1) xs)
+
+-- the indices of those before and of those behind
+pub from-append : (first : ℕ) (xs ys : List Process)
+    → owing_from first (xs ++ ys) ≡ owing_from first xs ++ owing_from (first + length xs) ys
+from-append first [] ys = grind arith
+from-append first (x ∷ xs) ys = grind (arith, from-append (first + 1) xs ys)
+
+-- all move up by one
+pub from-moved_up : (first : ℕ) (xs : List Process) → moved_up (owing_from (first + 1) xs) ≡ owing_from first xs
+from-moved_up first [] = refl
+from-moved_up first (x ∷ xs) = grind (arith, from-moved_up (first + 1) xs)
+
+-- a process stands at an index, where the first of all has this one
+pub record StandsAt (first index vpid : ℕ) (xs : List Process) : Type 0 where
+  pub behind : ℕ
+  pub is : index ≡ first + behind
+  pub within : behind < length xs
+  pub there : (d : Process) → (get_or xs behind d).vpid ≡ vpid
+
+stands-by : (first n : ℕ) (x : Process) (xs : List Process) (d e : ℕ) (b : Bool)
+    → n < length (cond b (x.vpid ∷ owing xs) (owing xs))
+    → ((m : ℕ) → m < length (owing xs) → StandsAt (first + 1) (get_or (owing_from (first + 1) xs) m d) (get_or (owing xs) m e) xs)
+    → StandsAt first (get_or (cond b (first ∷ owing_from (first + 1) xs) (owing_from (first + 1) xs)) n d)
+    (get_or (cond b (x.vpid ∷ owing xs) (owing xs)) n e) (x ∷ xs)
+stands-by first zero x xs d e true within rest = record { behind = 0; is = omega arith; within = omega arith; there = λ d. refl }
+stands-by first (suc n) x xs d e true within rest =
+    let h = rest n (omega arith) in
+    record { behind = suc h.behind; is = omega (arith, h.is); within = omega (arith, h.within); there = h.there }
+stands-by first n x xs d e false within rest =
+    let h = rest n within in
+    record { behind = suc h.behind; is = omega (arith, h.is); within = omega (arith, h.within); there = h.there }
+
+-- each that owes stands at its index
+pub stands : (first n : ℕ) (xs : List Process) (d e : ℕ) → n < length (owing xs)
+    → StandsAt first (get_or (owing_from first xs) n d) (get_or (owing xs) n e) xs
+stands first n [] d e within = absurd (omega arith)
+stands first n (x ∷ xs) d e within = stands-by first n x xs d e (is_owing x.phase) within (λ m less. stands (first + 1) m xs d e less)
+
+owing-held : (n : ℕ) (xs : List Process) (e : ℕ) → n < length (owing xs) → holds (get_or (owing xs) n e) xs ≡ true
+owing-held n xs e within =
+    let h = stands 0 n xs 0 e within in
+    holds-index (get_or (owing xs) n e) h.behind xs (record { vpid = 0; phase = Arrived 0 }) h.within
+    (h.there (record { vpid = 0; phase = Arrived 0 }))
+
+removed-by : (first n cost e : ℕ) (x : Process) (xs : List Process) (b : Bool) → is_owing x.phase ≡ b
+    → holds x.vpid xs ≡ false → n < length (cond b (x.vpid ∷ owing xs) (owing xs))
+    → ((m : ℕ) → m < length (owing xs) → remove (owing_from (first + 1) xs) m
+    ≡ owing_from (first + 1) (map (arrived_at (get_or (owing xs) m e) cost) xs))
+    → remove (cond b (first ∷ owing_from (first + 1) xs) (owing_from (first + 1) xs)) n
+    ≡ owing_from first (map (arrived_at (get_or (cond b (x.vpid ∷ owing xs) (owing xs)) n e) cost) (x ∷ xs))
+removed-by first zero cost e x xs true is apart within rest = grind (arith, nat_tests, absent-arrived x.vpid cost xs)
+removed-by first (suc n) cost e x xs true is apart within rest =
+    let held = owing-held n xs e (omega arith) in
+    let less = rest n (omega arith) in
+    grind (arith, nat_tests)
+removed-by first n cost e x xs false is apart within rest = let less = rest n within in grind (arith, nat_tests)
+
+-- one that arrives owes no longer
+pub indices-removed : (first n cost e : ℕ) (xs : List Process) → IsTrue (each_once xs) → n < length (owing xs)
+    → remove (owing_from first xs) n ≡ owing_from first (map (arrived_at (get_or (owing xs) n e) cost) xs)
+indices-removed first n cost e [] each within = absurd (omega arith)
+indices-removed first n cost e (x ∷ xs) each within =
+    removed-by first n cost e x xs (is_owing x.phase) refl (grind (arith, nat_tests)) within
+    (λ m less. indices-removed (first + 1) m cost e xs (second-of (not (holds x.vpid xs)) (each_once xs) each) less)
+
+pub owed-removed : (n cost e : ℕ) (xs : List Process) → IsTrue (each_once xs) → n < length (owing xs)
+    → remove (owing xs) n ≡ owing (map (arrived_at (get_or (owing xs) n e) cost) xs)
+owed-removed n cost e xs each within =
+    without-index (get_or (owing xs) n e) n (owing xs) (get_or (owing xs) n e) within (once-owing xs each)
+    (get_or_default_zero (owing xs) n e within ∙ sym (get_or_default_zero (owing xs) n (get_or (owing xs) n e) within)) refl
+    ∙ sym (owing-arrived (get_or (owing xs) n e) cost xs)
+
+-- as many indices as processes owe
+pub index-there : (n : ℕ) (xs queue : List Process) (owed indices : List ℕ) → IsTable xs owed indices → xs ≡ queue
+    → n < length (owing queue) → n < length indices
+index-there n xs queue owed indices table same within =
+    let many = ap length table.placed ∙ length-from 0 xs ∙ ap (λ l. length (owing l)) same in omega arith
+
+-- the process at the index that is kept beside its virtual pid
+pub place-there : (n place : ℕ) (xs queue : List Process) (owed indices : List ℕ) → IsTable xs owed indices → xs ≡ queue
+    → n < length (owing queue) → place ≡ get_or indices n place → StandsAt 0 place (get_or (owing xs) n 0) xs
+place-there n place xs queue owed indices table same within is =
+    subst (λ p. StandsAt 0 p (get_or (owing xs) n 0) xs) (sym (is ∙ ap (λ l. get_or l n place) table.placed))
+    (stands 0 n xs place 0 (subst (λ l. n < length (owing l)) (sym same) within))
+
+-- the queue once that process has its cost
+pub arrived-there : (n place cost : ℕ) (xs queue : List Process) (owed indices : List ℕ) (q : Process)
+    → IsTable xs owed indices → xs ≡ queue → n < length (owing queue) → place ≡ get_or indices n place
+    → q ≡ get_or xs place q
+    → slice_set xs place (record { vpid = q.vpid; phase = Arrived cost }) ≡ map (arrived_at (get_or (owing xs) n 0) cost) xs
+arrived-there n place cost xs queue owed indices q table same within is here =
+    let h = place-there n place xs queue owed indices table same within is in
+    let at : place ≡ h.behind = omega (arith, h.is) in
+    arrived-index (get_or (owing xs) n 0) cost place xs q q (omega (arith, h.within)) table.each_once here here
+    (ap (λ (x : Process). x.vpid) (here ∙ ap (λ k. get_or xs k q) at) ∙ h.there q)
+
+-- the indices once all have moved up, as a whole
+pub moved-whole : (len : ℕ) (new items : List ℕ) → len ≡ length items → new ≡ moved_up items
+    → take len (new ++ drop (length new) items) ≡ moved_up items
+moved-whole len new items size is =
+    let same : length new ≡ length items = ap length is ∙ length-map items (λ index. index - 1) in
+    ap (λ xs. take len (new ++ xs)) (drop_all (length new) items (omega (arith, same)))
+    ∙ ap (take len) (append-nil new) ∙ take_all len new (omega (arith, same, size)) ∙ is
+
+-- the table without its head
+pub table-taken : (p : Process) (xs ys : List Process) (owed indices others : List ℕ) → IsTable xs owed indices
+    → xs ≡ p ∷ ys → is_owing p.phase ≡ false → others ≡ moved_up indices → IsTable ys owed others
+table-taken p xs ys owed indices others table joined ready up =
+    let first = subst (λ l. IsTable l owed indices) joined table in
+    let few = first.few in
+    record {
+      each_once = second-of (not (holds p.vpid ys)) (each_once ys) first.each_once;
+      few = omega arith;
+      exact = first.exact ∙ ap (λ b. cond b (p.vpid ∷ owing ys) (owing ys)) ready;
+      placed = up ∙ ap moved_up (first.placed ∙ ap (λ b. cond b (0 ∷ owing_from 1 ys) (owing_from 1 ys)) ready) ∙ from-moved_up 0 ys;
+    }
+
+-- what its turn costs is known of a head that is ready
+pub ready-first : (p : Process) (xs ys queue : List Process) → xs ≡ queue → xs ≡ p ∷ ys → IsTrue (is_ready queue)
+    → is_owing p.phase ≡ false
+ready-first p xs ys queue same joined ready =
+    let first : IsTrue (not (is_owing p.phase)) = subst (λ l. IsTrue (is_ready l)) (sym same ∙ joined) ready in
+    grind (arith, nat_tests)
+
+-- fewer owe than there is room for
+pub owed-few : (xs queue : List Process) (owed indices : List ℕ) → IsTable xs owed indices → xs ≡ queue
+    → length queue < QUEUE_LIMIT → (length owed < QUEUE_LIMIT) × (length indices < QUEUE_LIMIT)
+owed-few xs queue owed indices table same room =
+    let size : length xs ≡ length queue = ap length same in
+    let most = length-owing xs in
+    let exact : length owed ≡ length (owing xs) = ap length table.exact in
+    let placed : length indices ≡ length (owing xs) = ap length table.placed ∙ length-from 0 xs in
+    (omega arith, omega arith)
 
 -- the table after an arrival
-pub table-arrived : (vpid cost : ℕ) (xs ys : List Process) (owed left : List ℕ) (room ys_room owed_room left_room : ℕ)
-    → IsTable xs owed room owed_room → ys ≡ map (arrived_at vpid cost) xs
-    → left ≡ without vpid owed → ys_room ≡ room → left_room ≡ owed_room → IsTable ys left ys_room left_room
-table-arrived vpid cost xs ys owed left room ys_room owed_room left_room table new less as_big same = record {
-  each_once = subst (λ l. IsTrue (each_once l)) (sym new) (subst IsTrue (sym (each_once-arrived vpid cost xs)) table.each_once);
-  few = rw (new, length-map) table.few;
-  exact = rw (less, table.exact, new) (sym (owing-arrived vpid cost xs));
-  has_room = rw as_big table.has_room;
-  has_owed_room = rw same table.has_owed_room;
-}
+pub table-arrived : (n cost e : ℕ) (xs queue ys : List Process) (owed left indices others : List ℕ)
+    → IsTable xs owed indices → xs ≡ queue → n < length (owing queue)
+    → ys ≡ map (arrived_at (get_or (owing xs) n e) cost) xs
+    → left ≡ remove owed n → others ≡ remove indices n → IsTable ys left others
+table-arrived n cost e xs queue ys owed left indices others table same inside new less fewer =
+    let within = subst (λ l. n < length (owing l)) (sym same) inside in
+    record {
+      each_once = subst (λ l. IsTrue (each_once l)) (sym new) (subst IsTrue (sym (each_once-arrived _ cost xs)) table.each_once);
+      few = rw (new, length-map) table.few;
+      exact = rw (less, table.exact, new) (owed-removed n cost e xs table.each_once within);
+      placed = rw (fewer, table.placed, new) (indices-removed 0 n cost e xs table.each_once within);
+    }
 
 -- the table with a new process
-pub table-push : (xs ys : List Process) (x : Process) (owed more : List ℕ) (room ys_room owed_room more_room : ℕ)
-    → IsTable xs owed room owed_room → holds x.vpid xs ≡ false → length xs + 1 ≤ QUEUE_LIMIT → ys ≡ xs ++ x ∷ []
-    → more ≡ owed ++ owing (x ∷ []) → room ≤ ys_room → owed_room ≤ more_room → IsTable ys more ys_room more_room
-table-push xs ys x owed more room ys_room owed_room more_room table new fits joined longer above above_owed = record {
-  each_once = subst (λ l. IsTrue (each_once l)) (sym joined) (each_once-push xs x table.each_once new);
-  few = rw (joined, length-append) fits;
-  exact = rw (longer, table.exact, joined) (sym (owing-append xs (x ∷ [])));
-  has_room = omega (arith, table.has_room);
-  has_owed_room = omega (arith, table.has_owed_room);
-}
+pub table-push : (xs queue ys : List Process) (x : Process) (index : ℕ) (owed more indices others : List ℕ)
+    → IsTable xs owed indices → xs ≡ queue → holds x.vpid queue ≡ false → length queue < QUEUE_LIMIT
+    → index ≡ length xs → ys ≡ xs ++ x ∷ [] → more ≡ owed ++ owing (x ∷ [])
+    → others ≡ indices ++ owing_from index (x ∷ []) → IsTable ys more others
+table-push xs queue ys x index owed more indices others table same new fits last joined longer further =
+    let size : length xs ≡ length queue = ap length same in
+    let long : length ys ≡ length xs + 1 = ap length joined ∙ length-append xs (x ∷ []) in
+    record {
+      each_once = subst (λ l. IsTrue (each_once l)) (sym joined)
+          (each_once-push xs x table.each_once (subst (λ l. holds x.vpid l ≡ false) (sym same) new));
+      few = omega arith;
+      exact = rw (longer, table.exact, joined) (sym (owing-append xs (x ∷ [])));
+      placed = rw (further, table.placed, joined, last) (grind (arith, from-append 0 xs (x ∷ [])));
+    }
 
 -- process 1 lives on where there is no verdict
 pub first-after : (p : Process) (rest : List Process) (blocked : ℕ) (turn : Settled) → IsTrue (holds 1 (p ∷ rest))

@@ -1,18 +1,28 @@
 -- The table of the processes.
-use Rattle.std.specs.Prelude.{ℕ, ◌≡◌, ◌≤◌, ◌==◌, ◌&&◌, ◌||◌, Bool, true, false, not, List, [], ◌∷◌, length, Option, Some, None, IsTrue}
-use Rattle.std.specs.List.{filter}
+use Rattle.std.specs.Prelude.{ℕ, ◌≡◌, ◌+◌, ◌-◌, ◌≤◌, Bool, false, not, List, [], ◌∷◌, map, length, Option, Some, None, IsTrue, if◌then◌else◌}
 use Rattle.dt_sched.specs.declared.queue.TheConstants.{QUEUE_LIMIT}
 use Rattle.dt_sched.specs.declared.process.Process.{Process}
 use Rattle.dt_sched.specs.declared.settled.Settled.{Settled}
 use Rattle.dt_sched.specs.Core.{each_once, owing, is_owing, queue_after}
 
--- processes, those of them that owe a segment, and room for a whole queue of each
-pub record IsTable (processes : List Process) (owed : List ℕ) (room owed_room : ℕ) : Type 0 where
+-- the indices of those that owe a segment, where the first of all has this index
+abbrev pub owing_from : ℕ → List Process → List ℕ
+owing_from index [] = []
+owing_from index (p ∷ ps) =
+    if is_owing p.phase then index ∷ owing_from (index + 1) ps else owing_from (index + 1) ps
+
+-- processes, and those of them that owe a segment, with the index of each
+pub record IsTable (processes : List Process) (owed indices : List ℕ) : Type 0 where
   pub each_once : IsTrue (each_once processes)
   pub few : length processes ≤ QUEUE_LIMIT
   pub exact : owed ≡ owing processes
-  pub has_room : QUEUE_LIMIT ≤ room
-  pub has_owed_room : QUEUE_LIMIT ≤ owed_room
+  pub placed : indices ≡ owing_from 0 processes
+
+-- room for a whole queue
+pub record HasRoom (processes_room owed_room indices_room : ℕ) : Type 0 where
+  pub processes : QUEUE_LIMIT ≤ processes_room
+  pub owed : QUEUE_LIMIT ≤ owed_room
+  pub indices : QUEUE_LIMIT ≤ indices_room
 
 -- the process at the head
 abbrev pub first_of : List Process → Option Process
@@ -29,16 +39,6 @@ abbrev pub queue_at : List Process → Settled → List Process
 queue_at [] turn = []
 queue_at (p ∷ rest) turn = queue_after p rest turn
 
--- a virtual pid is one of these
-abbrev pub among : ℕ → List ℕ → Bool
-among vpid [] = false
-among vpid (x ∷ xs) = (x == vpid) || among vpid xs
-
--- none of these stands there twice
-abbrev pub once : List ℕ → Bool
-once [] = true
-once (x ∷ xs) = not (among x xs) && once xs
-
--- the others
-abbrev pub without : ℕ → List ℕ → List ℕ
-without vpid xs = filter (λ other. not (other == vpid)) xs
+-- the indices once the head is gone
+abbrev pub moved_up : List ℕ → List ℕ
+moved_up indices = map (λ index. index - 1) indices

@@ -1,14 +1,16 @@
 // The live processes in the order of their turns, in a table that is made once.
 ghost use Rattle.std.specs.Prelude.{◌≡◌, ◌<◌, ◌≤◌, ◌++◌, ◌∷◌, [], IfOk, IsTrue, false, length, vec_len, vec_capacity};
 ghost use Rattle.std.specs.Prelude.{map, if◌then◌else◌, ◌==◌};
+ghost use Rattle.std.specs.List.{slice_index_or};
 ghost use Rattle.dt_sched.specs.Core.{owes, holds, each_once, owing, waits, arrived_at, is_owing, is_waiting, has_room};
 ghost use Rattle.dt_sched.specs.declared.queue.TheConstants.{QUEUE_LIMIT};
-ghost use Rattle.dt_sched.specs.Queue.{first_of, is_ready, queue_at, once, without};
+ghost use Rattle.dt_sched.specs.Queue.{first_of, is_ready, queue_at, moved_up, owing_from};
 
 use crate::process::{Phase, Process};
 use crate::settled::Settled;
 use dt_base::NoMemory;
 use std::alloc::Global;
+use std::collections::VecDeque;
 use std::marker::Model;
 
 /// How many processes a queue has room for.
@@ -30,50 +32,49 @@ impl Phase {
     }
 }
 
-/// The live processes in the order of their turns, and which of them owe a segment.
+/// The live processes in the order of their turns, and which of them owe a segment: the virtual pid of each, and its
+/// index in the queue. So no process is looked for.
 #[derive(Drop)]
 pub struct Queue {
-    processes: Vec<Process>,
+    processes: VecDeque<Process>,
     owed: Vec<u32>,
+    indices: Vec<usize>,
 }
 
 impl Model for Queue {
     ghost use Rattle.std.specs.Prelude.{List, vec_capacity};
+    ghost use Rattle.std.specs.VecDeque.{deque_capacity};
     ghost use Rattle.dt_sched.specs.declared.process.Process.{Process};
-    ghost use Rattle.dt_sched.specs.Queue.{IsTable};
+    ghost use Rattle.dt_sched.specs.Queue.{IsTable, HasRoom};
 
     ghost Value = { List Process };
 
     ghost view = { λ q. q.processes.items };
 
-    ghost invariant = { λ q. IsTable q.processes.items q.owed.items (vec_capacity q.processes) (vec_capacity q.owed) };
+    ghost invariant = { λ q. record {
+      table : IsTable q.processes.items q.owed.items q.indices.items;
+      room : HasRoom (deque_capacity q.processes) (vec_capacity q.owed) (vec_capacity q.indices);
+    } };
 }
 
-// Lets the segment of a process arrive, which stands there once.
-fn mark(processes: &mut Vec<Process>, vpid: u32, cost: u32)
-    requires { IsTrue (each_once processes.old.items) }
-    ensures items { processes.new.items ≡ map (arrived_at vpid cost) processes.old.items }
-    ensures room { vec_capacity processes.new ≡ vec_capacity processes.old }
+// Whether the process of this virtual pid is one of these and waits.
+fn waits(processes: &[Process], vpid: u32) -> bool
+    ensures { result ≡ waits vpid processes.now }
 {
-    for index in 0..processes.len() {
-        if processes[index].vpid == vpid {
-            processes[index].phase = Phase::Arrived(cost);
-            return;
+    for process in processes {
+        if process.vpid == vpid && process.phase.is_waiting() {
+            return true;
         }
     }
+    false
 }
 
-// Takes a process from those that owe a segment, if it is one, where each stands once.
-fn forget(owed: &mut Vec<u32>, vpid: u32)
-    requires { IsTrue (once owed.old.items) }
-    ensures items { owed.new.items ≡ without vpid owed.old.items }
-    ensures room { vec_capacity owed.new ≡ vec_capacity owed.old }
+// Takes one off each index, as the head goes.
+fn move_up(indices: &mut [usize])
+    ensures { indices.new ≡ moved_up indices.old }
 {
-    for index in 0..owed.len() {
-        if owed[index] == vpid {
-            owed.remove(index);
-            return;
-        }
+    for index in indices.iter_mut() {
+        *index = index.saturating_sub(1);
     }
 }
 
@@ -89,14 +90,18 @@ fn put<T: Drop>(items: &mut Vec<T>, item: T)
     }
 }
 
-// Notes a process that owes a segment, where there is room for it.
-fn owe(owed: &mut Vec<u32>, vpid: u32, phase: Phase)
-    requires { vec_len owed.old < vec_capacity owed.old }
-    ensures items { owed.new.items ≡ owed.old.items ++ owing (record { vpid = vpid; phase = phase } ∷ []) }
-    ensures room { vec_capacity owed.old ≤ vec_capacity owed.new }
+// Notes a process at an index, where it owes a segment and there is room for it.
+fn owe(owed: &mut Vec<u32>, indices: &mut Vec<usize>, process: Process, index: usize)
+    requires owed { vec_len owed.old < vec_capacity owed.old }
+    requires indices { vec_len indices.old < vec_capacity indices.old }
+    ensures owed { owed.new.items ≡ owed.old.items ++ owing (process ∷ []) }
+    ensures indices { indices.new.items ≡ indices.old.items ++ owing_from index (process ∷ []) }
+    ensures owed_room { vec_capacity owed.old ≤ vec_capacity owed.new }
+    ensures indices_room { vec_capacity indices.old ≤ vec_capacity indices.new }
 {
-    if phase.is_owing() {
-        put(owed, vpid);
+    if process.phase.is_owing() {
+        put(owed, process.vpid);
+        put(indices, index);
     }
 }
 
@@ -105,14 +110,20 @@ impl Queue {
     pub fn new(alloc: Global) -> Result<Self, NoMemory>
         ensures { IfOk result (λ queue. queue ≡ owes 1 ∷ []) }
     {
-        let mut processes = Vec::with_capacity(alloc, QUEUE_LIMIT)?;
+        let mut processes = VecDeque::with_capacity(alloc, QUEUE_LIMIT)?;
         let mut owed = Vec::with_capacity(alloc, QUEUE_LIMIT)?;
-        processes.push(Process {
+        let mut indices = Vec::with_capacity(alloc, QUEUE_LIMIT)?;
+        processes.push_back(Process {
             vpid: 1,
             phase: Phase::Owes,
         })?;
         owed.push(1)?;
-        Ok(Queue { processes, owed })
+        indices.push(0)?;
+        Ok(Queue {
+            processes,
+            owed,
+            indices,
+        })
     }
 
     /// The virtual pids of those that owe a segment which has not arrived, in the order of their turns.
@@ -135,30 +146,27 @@ impl Queue {
     pub fn first(&self) -> Option<Process>
         ensures { result ≡ first_of self.now }
     {
-        match self.processes.as_slice() {
-            [] => None,
-            [first, ..] => Some(*first),
-        }
+        self.processes.front().copied()
     }
 
     /// Whether the process of this virtual pid waits.
+    #[tactic(auto, using(crate::proofs::Tables::waits_append))]
     pub fn waits(&self, vpid: u32) -> bool
         ensures { result ≡ waits vpid self.now }
     {
-        for process in &self.processes {
-            if process.vpid == vpid && process.phase.is_waiting() {
-                return true;
-            }
-        }
-        false
+        // The queue is a ring, so what it holds lies in two rows.
+        let (first, second) = self.processes.as_slices();
+        waits(first, vpid) || waits(second, vpid)
     }
 
-    /// Lets the segment of a process arrive, with its cost in instructions.
-    pub fn arrived(&mut self, vpid: u32, cost: u32)
-        ensures { self.new ≡ map (arrived_at vpid cost) self.old }
+    /// Lets the segment of the process at an index of `owing` arrive, with its cost in instructions.
+    pub fn arrived(&mut self, index: usize, cost: u32)
+        requires { index < length (owing self.old) }
+        ensures { self.new ≡ map (arrived_at (slice_index_or (owing self.old) index 0) cost) self.old }
     {
-        mark(&mut self.processes, vpid, cost);
-        forget(&mut self.owed, vpid);
+        let place = self.indices.remove(index);
+        self.owed.remove(index);
+        self.processes[place].phase = Phase::Arrived(cost);
     }
 
     // Takes the head away, whose segment has arrived.
@@ -168,7 +176,11 @@ impl Queue {
         ensures apart { holds result.vpid self.new ≡ false }
         ensures room { length self.new < QUEUE_LIMIT }
     {
-        self.processes.remove(0)
+        let Some(first) = self.processes.pop_front() else {
+            unreachable!()
+        };
+        move_up(&mut self.indices);
+        first
     }
 
     // Puts a process at the tail.
@@ -178,8 +190,13 @@ impl Queue {
         requires room { length self.old < QUEUE_LIMIT }
         ensures { self.new ≡ self.old ++ record { vpid = vpid; phase = phase } ∷ [] }
     {
-        owe(&mut self.owed, vpid, phase);
-        put(&mut self.processes, Process { vpid, phase });
+        let process = Process { vpid, phase };
+        let index = self.processes.len();
+        owe(&mut self.owed, &mut self.indices, process, index);
+        match self.processes.push_back(process) {
+            Ok(()) => {}
+            Err(_) => unreachable!(),
+        }
     }
 
     // Takes all away.
@@ -188,6 +205,7 @@ impl Queue {
     {
         self.processes.clear();
         self.owed.clear();
+        self.indices.clear();
     }
 
     // The head has ended, and with process 1 all others.

@@ -1,5 +1,6 @@
 // The queue with the budget, the blocked turns in a row and the verdict.
-ghost use Rattle.std.specs.Prelude.{◌≡◌, ◌<◌, ◌≤◌, IfOk, IsTrue, true, Contains};
+ghost use Rattle.std.specs.Prelude.{◌≡◌, ◌<◌, ◌≤◌, IfOk, IsTrue, true, length};
+ghost use Rattle.std.specs.List.{slice_index_or};
 ghost use Rattle.dt_sched.specs.declared.queue.TheConstants.{QUEUE_LIMIT};
 ghost use Rattle.dt_sched.specs.Core.{started, owing, waits, arrived, cost_of, head, IsReady, settled, has_room};
 ghost use Rattle.dt_sched.specs.Core.{is_count, blocked_after, verdict_after, IsCore};
@@ -99,14 +100,14 @@ impl Core {
         self.queue.owing()
     }
 
-    /// The segment of a process arrives, with its cost of 1 to 65,536 instructions; nothing is charged. The process
-    /// must be one of `owing`.
-    pub fn arrived(&mut self, vpid: u32, cost: u32)
-        requires owing { Contains (owing self.old.queue) vpid }
+    /// The segment of the process at this index of `owing` arrives, with its cost of 1 to 65,536 instructions; nothing
+    /// is charged.
+    pub fn arrived(&mut self, index: usize, cost: u32)
+        requires owing { index < length (owing self.old.queue) }
         requires count { IsTrue (is_count cost) }
-        ensures { self.new ≡ arrived vpid cost self.old }
+        ensures { self.new ≡ arrived (slice_index_or (owing self.old.queue) index 0) cost self.old }
     {
-        self.queue.arrived(vpid, cost);
+        self.queue.arrived(index, cost);
     }
 
     /// What can be done next: over where there is a verdict, or where the head's turn costs more than is left of the

@@ -31,8 +31,9 @@ pub enum Delivery {
     Ends(u8),
 }
 
-/// Delivers the signal of a fault, which ends the process where it is masked or ignored; else drops the pending signals that would do nothing, and
-/// delivers the lowest that is left and not masked (signal(7)). A call that waits is over before a handler runs.
+/// Delivers the signal of a fault, which ends the process where it is masked or ignored; else drops the pending signals
+/// that would do nothing, and delivers the lowest that is left and not masked (signal(7)). A call that waits is over
+/// before a handler runs.
 #[tactic(auto, unfolding(crate::specs::Delivery::delivered))]
 pub fn deliver(
     machine: &mut Machine,

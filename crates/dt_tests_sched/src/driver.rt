@@ -98,12 +98,13 @@ impl Driver {
         if owing.is_empty() {
             return None;
         }
-        let vpid = owing[index.min(owing.len() - 1)];
+        let index = index.min(owing.len() - 1);
+        let vpid = owing[index];
         let cost = match costs.get(vpid as usize) {
             Some(cost) => (*cost).clamp(1, SEGMENT_LIMIT),
             None => 1,
         };
-        self.core.arrived(vpid, cost);
+        self.core.arrived(index, cost);
         Some(vpid)
     }
 

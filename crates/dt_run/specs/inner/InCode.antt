@@ -23,7 +23,7 @@ use Rattle.dt_run.specs.Queue.{Queue}
 use Rattle.dt_run.specs.Turn.{State, Turn}
 use Rattle.dt_run.specs.Run.{Run, run_turns}
 
--- where the processes stand that do not owe a segment
+-- where the processes stand; of one that has run no segment yet nothing may be noted
 abbrev pub Phases : Type 0
 Phases = FinMap nat_cmp Phase
 
@@ -74,8 +74,8 @@ known Waits = as_queued.Waits
 
 -- what is noted once the stop of a process was served
 abbrev pub noted : Phases → ℕ → Served → Phases
-noted phases p Done = remove phases p
-noted phases p (Child vpid) = remove phases p
+noted phases p Done = insert phases p Owes
+noted phases p (Child vpid) = insert phases p Owes
 noted phases p (LastChild vpid) = remove phases p
 noted phases p Blocked = insert phases p Waits
 noted phases p Moved = insert phases p Waits

@@ -7,11 +7,8 @@ use Rattle.dt_run.proofs.state.State.turn.Goals as goal
 pub serve-requires-clause-home : goal.serve-requires-clause-home
 serve-requires-clause-home g c = ready-home c.args.self.now c.args.vpid c.requires.good c.requires.ready
 
-pub note-requires-clause-blocked : goal.note-requires-clause-blocked
-note-requires-clause-blocked g c = λ _. ready-noted c.args.self.now c.args.vpid c.requires.good c.requires.ready
-
-pub note-requires-clause-moved : goal.note-requires-clause-moved
-note-requires-clause-moved g c = λ _. ready-noted c.args.self.now c.args.vpid c.requires.good c.requires.ready
+pub note-requires : goal.note-requires
+note-requires g c = ready-noted c.args.self.now c.args.vpid c.requires.good c.requires.ready
 
 pub settle-requires-clause-room : goal.settle-requires-clause-room
 settle-requires-clause-room g c =

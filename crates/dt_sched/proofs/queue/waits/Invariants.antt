@@ -1,7 +1,7 @@
 use Rattle.std.proofs.Common.{◌≡◌, drop}
 use Rattle.dt_sched.specs.Core.{waits}
-use Rattle.dt_sched.proofs.queue.Queue.waits.Given as goal
+use Rattle.dt_sched.proofs.queue.waits.Given as goal
 
 -- none so far is the one that is looked for and waits
 abbrev pub invariant-loop-process : goal.invariant-loop-process
-invariant-loop-process l = waits l.vpid l.process-items ≡ waits l.vpid (drop l.process-index l.process-items)
+invariant-loop-process l = waits l.vpid l.processes ≡ waits l.vpid (drop l.process-index l.processes)
