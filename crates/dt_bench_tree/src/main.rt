@@ -6,6 +6,7 @@ ghost use Rattle.std.specs.Prelude.{◌≡◌, Ok, IsErr, MatchResult};
 mod change;
 mod figure;
 mod image;
+mod scene;
 mod timed;
 
 use figure::{Figure, print};

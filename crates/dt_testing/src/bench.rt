@@ -1,5 +1,6 @@
 // What a test starts: a store with an image, a host and sinks, each with its choices and its faults.
 ghost use Rattle.std.specs.Prelude.{◌≡◌, [], None, IfOk, IsTrue, option_to_list};
+ghost use Rattle.dt_host.specs.World.{IsEmptyStart};
 ghost use Rattle.dt_run.specs.Statuses.{is_status};
 ghost use Rattle.dt_testing.specs.declared.bench.Words.TheVariants.{Stream};
 
@@ -51,7 +52,27 @@ pub struct Came {
     pub err: Vec<u8>,
 }
 
+// What a call of the program meets.
+#[derive(Drop)]
+struct Surroundings {
+    store: MemStore,
+    host: MemHost,
+    out: MemSink,
+    err: MemSink,
+}
+
 impl Came {
+    // A status, and what two sinks have.
+    fn of(alloc: Global, status: u8, out: &MemSink, err: &MemSink) -> Result<Self, Fail>
+        ensures { IfOk result (λ came. came.status ≡ status) }
+    {
+        Ok(Came {
+            status,
+            out: Vec::from_slice(alloc, out.bytes())?,
+            err: Vec::from_slice(alloc, err.bytes())?,
+        })
+    }
+
     /// What its report shows before the tree, without the last line's end.
     pub fn before_tree(&self) -> &[u8] {
         let mut end = self.out.len();
@@ -87,19 +108,36 @@ impl<'a> Call<'a> {
         ensures { IfOk result (λ came. IsTrue (is_status came.status)) }
     {
         let words = strings(alloc, self.words)?;
-        let mut store = self.store(alloc)?;
-        let picker = picker(alloc, self.choices)?;
-        let mut host = MemHost::new(alloc, picker, listed(alloc, self.host_fails)?)?;
-        let mut out = sink(alloc, self.choices, self.out_room)?;
-        let mut err = sink(alloc, self.choices, self.err_room)?;
+        let mut met = self.surroundings(alloc)?;
         let status = dettrace(
-            alloc, &words, &mut store, &mut host, &mut out, &mut err, &NoGate,
+            alloc,
+            &words,
+            &mut met.store,
+            &mut met.host,
+            &mut met.out,
+            &mut met.err,
+            &NoGate,
         );
-        Ok(Came {
-            status,
-            out: Vec::from_slice(alloc, out.bytes())?,
-            err: Vec::from_slice(alloc, err.bytes())?,
+        Came::of(alloc, status, &met.out, &met.err)
+    }
+
+    // What the program meets, with the choices and the faults of this call.
+    fn surroundings(&self, alloc: Global) -> Result<Surroundings, Fail>
+        ensures { IfOk result (λ met. IsEmptyStart met.host.view) }
+    {
+        Ok(Surroundings {
+            store: self.store(alloc)?,
+            host: self.host(alloc)?,
+            out: sink(alloc, self.choices, self.out_room)?,
+            err: sink(alloc, self.choices, self.err_room)?,
         })
+    }
+
+    fn host(&self, alloc: Global) -> Result<MemHost, Fail>
+        ensures { IfOk result (λ host. IsEmptyStart host.view) }
+    {
+        let picker = picker(alloc, self.choices)?;
+        Ok(MemHost::new(alloc, picker, listed(alloc, self.host_fails)?)?)
     }
 
     fn store(&self, alloc: Global) -> Result<MemStore, Fail> {

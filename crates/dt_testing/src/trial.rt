@@ -88,16 +88,32 @@ impl Setting {
 
     /// A run of the first of two programs that take these steps.
     pub fn trial(&self, alloc: Global, first: &[Step], second: &[Step]) -> Result<Trial, Fail> {
+        let first = guest(alloc, first)?;
+        let second = guest(alloc, second)?;
+        Ok(Trial {
+            words: String::from_str(alloc, "run\nimg\n--\n/p")?,
+            programs: self.programs(alloc, &first, &second)?,
+            files: self.files(alloc, first, second)?,
+            tree: self.tree.map(|tree| tree.lines),
+            hosts: self.hosts,
+        })
+    }
+
+    // The lines of the two programs, where the tree is looked at.
+    fn programs(&self, alloc: Global, first: &[u8], second: &[u8]) -> Result<String, Fail> {
+        match self.tree {
+            Some(tree) => lines(alloc, tree.inodes, first, second),
+            None => Ok(String::new(alloc)),
+        }
+    }
+
+    // The files of the image, with those of the two programs.
+    fn files(&self, alloc: Global, first: Vec<u8>, second: Vec<u8>) -> Result<Vec<Stored>, Fail> {
         let mut files = Vec::new(alloc);
         files.push(Stored::new(alloc, "img/image.json", self.index)?)?;
         for (name, bytes) in self.blobs {
             files.push(Stored::new(alloc, name, bytes)?)?;
         }
-        let (first, second) = (guest(alloc, first)?, guest(alloc, second)?);
-        let programs = match self.tree {
-            Some(tree) => lines(alloc, tree.inodes, &first, &second)?,
-            None => String::new(alloc),
-        };
         files.push(Stored {
             name: "img/p",
             bytes: first,
@@ -106,26 +122,25 @@ impl Setting {
             name: "img/q",
             bytes: second,
         })?;
-        Ok(Trial {
-            words: String::from_str(alloc, "run\nimg\n--\n/p")?,
-            files,
-            tree: self.tree.map(|tree| tree.lines),
-            programs,
-            hosts: self.hosts,
-        })
+        Ok(files)
+    }
+
+    // What comes of a run otherwise than its case says.
+    fn differences(&self, alloc: Global, case: &Case) -> Result<String, Fail> {
+        let trial = self.trial(alloc, case.first, case.second)?;
+        let outcome = Outcome {
+            shown: case.shown,
+            verdict: case.verdict,
+            status: case.status,
+        };
+        trial.differences(alloc, outcome)
     }
 
     /// Which of these runs come otherwise, and how.
     pub fn differing(&self, alloc: Global, cases: &[Case]) -> Result<String, Fail> {
         let mut wrong = String::new(alloc);
         for case in cases {
-            let trial = self.trial(alloc, case.first, case.second)?;
-            let outcome = Outcome {
-                shown: case.shown,
-                verdict: case.verdict,
-                status: case.status,
-            };
-            let differences = trial.differences(alloc, outcome)?;
+            let differences = self.differences(alloc, case)?;
             if !differences.is_empty() {
                 wrong.push_str(case.what)?;
                 wrong.push_str(" with ")?;
@@ -201,17 +216,27 @@ impl Trial {
         let want = self.report(alloc, shown)?;
         let mut wrong = String::new(alloc);
         for choices in self.hosts {
-            let came = self.came(alloc, *choices, None)?;
-            let ended = came.status;
-            if !self.is_report(&came.out, &want) || ended != status || !came.err.is_empty() {
-                let (offset, bytes) = difference(&came.out, &want);
-                let text = format!(in alloc;
-                    "{choices:?}: from {offset} on {bytes:?}, status {ended}; "
-                )?;
-                wrong.push_str(text.as_str())?;
-            }
+            wrong.push_str(self.difference(alloc, *choices, &want, status)?.as_str())?;
         }
         Ok(wrong)
+    }
+
+    // What comes of it under a host that chooses so, where that is not this report and this status; else nothing.
+    fn difference(
+        &self,
+        alloc: Global,
+        choices: Words,
+        want: &[u8],
+        status: u8,
+    ) -> Result<String, Fail> {
+        let came = self.came(alloc, choices, None)?;
+        let ended = came.status;
+        if self.is_report(&came.out, want) && ended == status && came.err.is_empty() {
+            return Ok(String::new(alloc));
+        }
+        let (offset, bytes) = first_difference(&came.out, want);
+        let text = format!(in alloc; "{choices:?}: from {offset} on {bytes:?}, status {ended}; ")?;
+        Ok(text)
     }
 }
 
@@ -231,7 +256,7 @@ fn line(alloc: Global, inode: u64, name: &str, file: &[u8]) -> Result<String, Fa
 }
 
 // The offset of the first byte by which a text differs from another one, and up to 80 bytes from there on.
-fn difference<'a>(came: &'a [u8], want: &[u8]) -> (usize, &'a [u8]) {
+fn first_difference<'a>(came: &'a [u8], want: &[u8]) -> (usize, &'a [u8]) {
     let mut offset = 0usize;
     for (byte, wanted) in came.iter().zip(want) {
         if byte != wanted {

@@ -24,8 +24,8 @@ pub fn differing(alloc: Global, rows: &[Row]) -> Result<Option<Mismatch>, HostEr
     first_mismatch(&mut scene, alloc, rows)
 }
 
-/// The same, and where each comes to what it wants, the number that the host gives its next node: the least that no node
-/// and no pipe has, as long as it has chosen no more than a thousand times.
+/// The same, and where each comes to what it wants, the number that the host gives its next node: the least that no
+/// node and no pipe has, as long as it has chosen no more than a thousand times.
 pub fn play(alloc: Global, rows: &[Row]) -> Result<Result<u64, Mismatch>, HostErr> {
     let mut scene = Scene::new(alloc)?;
     match first_mismatch(&mut scene, alloc, rows)? {

@@ -365,7 +365,8 @@ fn answered(call: Result<Outcome, CallErr>) -> Result<Outcome, HostErr>
 
 // Whether a descriptor is open and of a directory.
 fn is_of_dir(files: &Files, pid: u32, fd: u32) -> bool
-    ensures { result ≡ false → IfSome (description_at files.now.descriptors pid fd) (λ desc. is_of_dir desc.kind ≡ false) }
+    ensures { result ≡ false →
+        IfSome (description_at files.now.descriptors pid fd) (λ desc. is_of_dir desc.kind ≡ false) }
 {
     match files.look(pid, fd) {
         Some(desc) => match desc.kind {

@@ -76,8 +76,8 @@ pub enum Call {
     SetCloexec(u32, bool),
     /// A pipe is made with these flags.
     Pipe(u32),
-    /// A descriptor is read from into a buffer that holds the first of these bytes, and is to hold the others then, which
-    /// are as many.
+    /// A descriptor is read from into a buffer that holds the first of these bytes, and is to hold the others then,
+    /// which are as many.
     Read(u32, &'static [u8], &'static [u8]),
     /// These bytes are written to a descriptor.
     Write(u32, &'static [u8]),

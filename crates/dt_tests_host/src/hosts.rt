@@ -76,7 +76,8 @@ fn write_and_read(host: &mut MemHost, alloc: Global, file: u64) -> Result<Vec<u8
     Ok(buf)
 }
 
-// The number of a file that is made and named, what is found under its name, and what is read of what was written to it.
+// The number of a file that is made and named, what is found under its name, and what is read of what was written to
+// it.
 fn kept(alloc: Global) -> Result<(u64, Option<u64>, Vec<u8>), HostErr> {
     let script = Script {
         words: &[0, 2, 1, 0],
