@@ -399,7 +399,7 @@ class Check(ImageCase):
     def test_places_that_are_no_folder(self) -> None:
         write(self.at("file"), b"")
         for word, line in (
-            ("nowhere", "refused: 1 NoIndex: there is no file nowhere/image.json: is it a folder that was not packed?"),
+            ("nowhere", "refused: 1 NoIndex: there is no folder nowhere"),
             ("file", "store fault: file/image.json: Not a directory"),
         ):
             with self.subTest(word):

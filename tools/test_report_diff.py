@@ -111,6 +111,14 @@ class WordsTest(Case):
             self.assertEqual(run("diff", "-", name, given=text), (0, b"equal\n", ""))
             self.assertEqual(run("diff", name, name), (0, b"equal\n", ""))
 
+    def test_equal_reports_of_runs_that_did_not_end_say_so(self) -> None:
+        for verdict, told in (("nostart 2", "nostart (errno 2)"), ("budget", "budget"), ("deadlock", "deadlock"),
+                              ("unsupported 1 435", "unsupported (system call 435 of process 1)")):
+            with self.subTest(verdict):
+                text = f"dettrace 1\nverdict {verdict}\ntree 0\n".encode()
+                line = f"equal, and neither run came to its end: the verdict is {told}\n"
+                self.assertEqual(run("diff", self.write("one", text), "-", given=text), (0, line.encode(), ""))
+
     def test_reports_that_are_cut_at_one_place_are_equal_and_cut(self) -> None:
         last = len(SMALL) - 1
         for length, where in [(0, "0 bytes, before the first line"), (1, "1 byte, in the first line"),

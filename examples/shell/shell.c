@@ -3,7 +3,8 @@
  * A line is a list of words, with blanks between them. A word in single quotes may hold blanks. A word $NAME is what a
  * variable holds, $? the code of the last program, and $(PROGRAM WORD ..) what a program writes, without the line's end
  * behind it. NAME=WORD sets a variable, `echo` writes its words, `exit` ends the shell with a code, and every other
- * line runs a program, in /bin where its name has no slash. A line that begins with # is skipped. */
+ * line runs a program, in /bin where its name has no slash. A line that begins with # is skipped. A script is given no
+ * words, and neither it nor its programs have an environment. */
 #include "guest.h"
 
 enum { WORDS = 32, NAMES = 32, ROOM = 16384, NOT_FOUND = 127, BY_SIGNAL = 128 };

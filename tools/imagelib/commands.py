@@ -57,7 +57,8 @@ stands where dettrace could not read the folder."""
 UNPACK = """Makes FOLDER, which must be empty or not exist, with the tree of IMAGE and its modes; FOLDER's own
 mode is 0755. An empty FOLDER is replaced by a new one, so it cannot be where a disk is mounted. Nothing is
 written outside FOLDER, whatever the links in the image say, and FOLDER is made whole or not at all. Where the
-system keeps back a set-user-id, set-group-id or sticky bit, a line on standard output says so."""
+system keeps back a set-user-id, set-group-id or sticky bit, a line on standard output says so; else nothing is
+printed."""
 
 
 class Parser(argparse.ArgumentParser):

@@ -124,11 +124,18 @@ def refuse_if(kind: Kind, reasons: List[str]) -> None:
         raise Refused(kind, reasons)
 
 
+def missing_index(store: Store) -> str:
+    """Why there is no index."""
+    if not store.is_there():
+        return f"there is no folder {shown(store.folder)}"
+    return f"there is no file {shown(store.path(INDEX))}: is it a folder that was not packed?"
+
+
 def index_value(store: Store) -> Any:
     """The JSON value of an index."""
     size = store.size(INDEX)
     if size is None:
-        raise Refused(NO_INDEX, [f"there is no file {shown(store.path(INDEX))}: is it a folder that was not packed?"])
+        raise Refused(NO_INDEX, [missing_index(store)])
     if size > INDEX_LIMIT:
         raise Refused(BAD_INDEX, [f"{INDEX} has {size} bytes, more than {INDEX_LIMIT}"])
     data = b"".join(store.pieces(INDEX, size))

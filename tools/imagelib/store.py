@@ -19,6 +19,10 @@ class Store:
     def __init__(self, folder: str) -> None:
         self.folder = folder
 
+    def is_there(self) -> bool:
+        """Whether anything stands at the folder's path."""
+        return os.path.lexists(self.folder)
+
     def path(self, name: str) -> str:
         """The program's name of a file; a join of paths would leave out the `/` after a folder `a/`."""
         return f"{self.folder}/{name}"

@@ -79,10 +79,10 @@ The JSON of what turns out to be no report ends where that is found. Numbers go 
 
 DIFF_HELP = """
 
-The first line says "equal", or what differs first: which event or tree line, and how. A line for each report that is
-cut says where. Then a unified diff shows the texts from three lines before the first difference on, at most 200 lines
-or 64 KiB of each. In it backslashes are doubled, and controls and bytes that are no UTF-8 are escaped as \\x and two
-hexadecimal digits."""
+The first line says "equal", and which verdict both have where that is not "ended"; or it says what differs first: which
+event or tree line, and how. A line for each report that is cut says where. Then a unified diff shows the texts from
+three lines before the first difference on, at most 200 lines or 64 KiB of each. In it backslashes are doubled, and
+controls and bytes that are no UTF-8 are escaped as \\x and two hexadecimal digits."""
 
 STATUSES = """exit status:
   0  done; for diff: the reports are equal, and whole
@@ -90,8 +90,8 @@ STATUSES = """exit status:
   2  used wrongly, a file cannot be read, it is no report, or the output cannot be written
 
 A report is cut where its run failed half-way: it is a prefix of a whole one, and may be empty. Of anything else the
-first byte that no report has there is told; bytes and lines are counted from 1. Names that begin with - stand behind a
-word --.
+first byte that no report has there is told; events, lines and bytes are counted from 1. Names that begin with - stand
+behind a word --.
 """
 
 

@@ -261,13 +261,22 @@ def unified(fork: Fork, a: Side, b: Side) -> Iterator[str]:
                   f"{number + len(lines) - 1}\n"
 
 
+def told_equal(reader: Reader, cut: Optional[Cut]) -> str:
+    """What two equal reports have in common that whoever compares them has to know."""
+    if cut:
+        return f"equal, and both are cut: they end {told_place(cut)}"
+    verdict = reader.verdict
+    if verdict is None or verdict.kind == "ended":
+        return "equal"
+    return f"equal, and neither run came to its end: the verdict is {told_verdict(verdict)}"
+
+
 def diff(first: Source, second: Source, sink: Sink) -> int:
     """Writes how two reports differ, once both are read to their ends, and answers the tool's status."""
     fork = fork_of(first, second)
     if not any(fork.rests):
         cut = end_of(fork.reader, first)
-        told = f"equal, and both are cut: they end {told_place(cut)}" if cut else "equal"
-        sink.write(f"{told}\n".encode())
+        sink.write(f"{told_equal(fork.reader, cut)}\n".encode())
         sink.flush()
         return 1 if cut else 0
     a, b = (Side(letter, source, copy.deepcopy(fork.reader), rest)

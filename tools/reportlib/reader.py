@@ -309,6 +309,7 @@ class Reader:
     def __init__(self) -> None:
         self.phase = Phase.HEADER
         self.events = self.entries = self.count = 0
+        self.verdict: Optional[Verdict] = None
         self.stream = self.size = self.done = 0
         self.path = b""
         self.pending, self.checked = bytearray(), 0
@@ -426,9 +427,9 @@ class Reader:
     def _event(self, cursor: Cursor) -> Item:
         word = cursor.word(b"out ", b"exit ", b"verdict ")
         if word == b"verdict ":
-            verdict = read_verdict(cursor, may_not_start=self.events == 0)
+            self.verdict = read_verdict(cursor, may_not_start=self.events == 0)
             self.phase = Phase.TREE
-            return verdict
+            return self.verdict
         if word == b"out ":
             stream = int(cursor.word(b"1 ", b"2 "))
             size = cursor.number(1)
