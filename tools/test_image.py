@@ -653,6 +653,8 @@ def stop_if_asked():
     real()
 pack.stop_if_asked = unpack.stop_if_asked = stop_if_asked
 signal.signal(signal.SIGINT, signal.default_int_handler)
+for number in (signal.SIGTERM, signal.SIGHUP):
+    signal.signal(number, signal.SIG_DFL)
 commands.stop_on_signals()
 sys.exit(commands.main(sys.argv[2:]))
 """

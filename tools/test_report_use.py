@@ -147,8 +147,10 @@ class ScriptTest(Case):
                 self.assertEqual((done.returncode, done.stdout, done.stderr.decode()), (2, b"", errors))
 
     def test_an_interrupt_is_told(self) -> None:
+        # What a shell runs in the background ignores interrupts, and so would the tool.
         with subprocess.Popen([sys.executable, TOOL, "output", "-"], stdin=subprocess.PIPE, stdout=subprocess.PIPE,
-                              stderr=subprocess.PIPE, bufsize=0) as process:
+                              stderr=subprocess.PIPE, bufsize=0,
+                              preexec_fn=lambda: signal.signal(signal.SIGINT, signal.SIG_DFL)) as process:
             process.stdin.write(report(out(1, b"ready")))
             self.assertEqual(process.stdout.read(5), b"ready")
             process.send_signal(signal.SIGINT)
