@@ -13,7 +13,7 @@ from .reader import (Cut, Entry, Exit, Item, NotReport, Output, Phase, Reader, T
 from .streams import BLOCK, Sink, Source, safe
 
 SHOWN_LINES = 200
-SHOWN_FRONT = 256
+SHOWN_PREFIX = 256
 CONTEXT = 3
 STREAM_NAMES = {1: "standard output", 2: "standard error"}
 
@@ -199,9 +199,9 @@ def lines_of(data: bytes) -> List[bytes]:
     return re.findall(rb"[^\n]*\n|[^\n]+", data)
 
 
-def shown_lines(front: bytes, side: Side) -> Tuple[List[bytes], bool]:
+def shown_lines(prefix: bytes, side: Side) -> Tuple[List[bytes], bool]:
     """The lines of a side that are shown, the first of which begins so, and whether more follows."""
-    lines = lines_of(front + side.text)
+    lines = lines_of(prefix + side.text)
     has_more = not side.is_whole or len(lines) > SHOWN_LINES
     if not side.is_whole and 1 < len(lines) <= SHOWN_LINES and not lines[-1].endswith(b"\n"):
         lines.pop()
@@ -242,17 +242,17 @@ def hunks(texts: Sequence[List[bytes]], has_more: Sequence[bool], first: int) ->
 def unified(fork: Fork, a: Side, b: Side) -> Iterator[str]:
     """The texts from three lines before the first difference on, as far as they are shown."""
     offset = fork.reader.offset
-    front_length = offset - fork.line_start
-    is_shortened = front_length > min(len(fork.before), 4 * SHOWN_FRONT)
-    earlier = lines_of(fork.before[:max(len(fork.before) - front_length, 0)])
+    prefix_length = offset - fork.line_start
+    is_shortened = prefix_length > min(len(fork.before), 4 * SHOWN_PREFIX)
+    earlier = lines_of(fork.before[:max(len(fork.before) - prefix_length, 0)])
     # The first line that is kept may lack its beginning.
     context = earlier[1 if len(fork.before) < offset else 0:][-CONTEXT:]
-    front = fork.before[len(fork.before) - (SHOWN_FRONT if is_shortened else front_length):]
+    prefix = fork.before[len(fork.before) - (SHOWN_PREFIX if is_shortened else prefix_length):]
     number = fork.reader.line_ends + 1
-    shown = [shown_lines(front, side) for side in (a, b)]
+    shown = [shown_lines(prefix, side) for side in (a, b)]
     yield f"--- A: {a.source.name}\n+++ B: {b.source.name}\n"
     if is_shortened:
-        yield f"\\ Line {number} is shown from its byte {front_length - SHOWN_FRONT + 1} on\n"
+        yield f"\\ Line {number} is shown from its byte {prefix_length - SHOWN_PREFIX + 1} on\n"
     has_more = [more for _, more in shown]
     yield from hunks([context + lines for lines, _ in shown], has_more, number - len(context))
     for side, (lines, more) in zip((a, b), shown):

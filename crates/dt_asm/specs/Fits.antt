@@ -22,15 +22,15 @@ is_register number = nat_lt number 32
 abbrev pub is_i_immediate : ℤ → Bool
 is_i_immediate immediate = is_signed 12 immediate
 
--- an immediate of B
+-- an immediate of B, whose lowest bit no word holds
 abbrev pub is_b_immediate : ℤ → Bool
 is_b_immediate immediate = is_signed 13 immediate && is_multiple 2 immediate
 
--- an immediate of U
+-- an immediate of U, whose lowest 12 bits no word holds
 abbrev pub is_u_immediate : ℤ → Bool
 is_u_immediate immediate = is_signed 32 immediate && is_multiple 4096 immediate
 
--- an immediate of J
+-- an immediate of J, whose lowest bit no word holds
 abbrev pub is_j_immediate : ℤ → Bool
 is_j_immediate immediate = is_signed 21 immediate && is_multiple 2 immediate
 
@@ -40,27 +40,27 @@ is_counter number = nat_le 0xC00 number && nat_le number 0xC02
 
 -- the fields of a format
 
--- R
+-- R, as of ADD
 abbrev pub fits_r : ℕ → ℕ → ℕ → Bool
 fits_r rd rs1 rs2 = is_register rd && is_register rs1 && is_register rs2
 
--- I
+-- I, as of ADDI and LW
 abbrev pub fits_i : ℕ → ℕ → ℤ → Bool
 fits_i rd rs1 immediate = is_register rd && is_register rs1 && is_i_immediate immediate
 
--- S
+-- S, as of SW
 abbrev pub fits_s : ℕ → ℕ → ℤ → Bool
 fits_s rs1 rs2 immediate = is_register rs1 && is_register rs2 && is_i_immediate immediate
 
--- B
+-- B, as of BEQ
 abbrev pub fits_b : ℕ → ℕ → ℤ → Bool
 fits_b rs1 rs2 immediate = is_register rs1 && is_register rs2 && is_b_immediate immediate
 
--- U
+-- U, as of LUI
 abbrev pub fits_u : ℕ → ℤ → Bool
 fits_u rd immediate = is_register rd && is_u_immediate immediate
 
--- J
+-- J, as of JAL
 abbrev pub fits_j : ℕ → ℤ → Bool
 fits_j rd immediate = is_register rd && is_j_immediate immediate
 

@@ -18,7 +18,6 @@ offsets = low_bytes 8 0x10078 ++ low_bytes 8 64 ++ low_bytes 8 0
 abbrev pub sizes : List ℕ
 sizes = low_bytes 4 0 ++ low_bytes 2 64 ++ low_bytes 2 56 ++ low_bytes 2 1 ++ low_bytes 2 0 ++ low_bytes 2 0 ++ low_bytes 2 0
 
--- the file header
 abbrev pub file_header : List ℕ
 file_header = ident ++ kind ++ offsets ++ sizes
 

@@ -2,7 +2,8 @@
 ghost use Rattle.std.specs.Prelude.{◌≡◌, ◌∷◌, [], IfOk, OnOk};
 ghost use Rattle.dt_rv64.specs.declared.instruction.Instr.TheVariants.{Lui, Addi};
 ghost use Rattle.dt_asm.specs.Item.{with_items};
-ghost use Rattle.dt_asm.specs.Guests.{instructions, hello_guest, forking, trio_guest, cat1_guest, late_guest, first_guest};
+ghost use Rattle.dt_asm.specs.Guests.{instructions, hello_guest, forking, trio_guest};
+ghost use Rattle.dt_asm.specs.Guests.{cat1_guest, late_guest, first_guest};
 
 use crate::guest::Guest;
 use dt_base::NoMemory;
@@ -153,14 +154,12 @@ fn fork(guest: &mut Guest) -> Result<(), NoMemory>
     guest.branch(0, A0, 0, CHILD)
 }
 
-// LUI.
 fn lui(rd: u8, imm: i64) -> Instr
     ensures { result ≡ Lui rd imm }
 {
     Instr::Lui { rd, imm }
 }
 
-// ADDI.
 fn addi(rd: u8, rs1: u8, imm: i64) -> Instr
     ensures { result ≡ Addi rd rs1 imm }
 {

@@ -72,7 +72,6 @@ fn hi52(number: i64) -> i64
     }
 }
 
-// Adds an instruction.
 fn add(items: &mut Vec<Item>, i: Instr) -> Result<(), NoMemory>
     ensures { OnOk result (items.new.items ≡ items.old.items ++ (Code i ∷ [])) }
 {

@@ -49,9 +49,9 @@ one_component (b ∷ bs) =
 
 -- the components are names exactly where the first is one, and the others are
 pub all_names : (rest name tail : List ℕ) (n : ℕ) → n ≡ position_or_len is_slash rest → name ≡ take n rest → tail ≡ drop n rest → list_all is_name (components_of rest) ≡ (is_name name && list_all is_name (later tail))
-all_names rest name tail n at front back =
+all_names rest name tail n at prefix back =
     ap (list_all is_name) (components_of-first rest ∙ ap (λ k. take k rest ∷ later (drop k rest)) (sym at))
-    ∙ ap (λ first. is_name first && list_all is_name (later (drop n rest))) (sym front)
+    ∙ ap (λ first. is_name first && list_all is_name (later (drop n rest))) (sym prefix)
     ∙ ap (λ others. is_name name && list_all is_name (later others)) (sym back)
 
 pub within : (bs : List ℕ) → position_or_len is_slash bs ≤ length bs

@@ -3,7 +3,6 @@ use Rattle.std.specs.Prelude.{ℕ}
 use Rattle.dt_base.specs.declared.errno.Errno.{Errno}
 use Rattle.dt_base.specs.declared.errno.Errno.TheVariants.{Perm, NoEnt, Srch, Intr, TooBig, NoExec, BadF, Child, Again, NoMem, Acces, Fault, Busy, Exist, NotDir, IsDir, Inval, MFile, NoTty, FBig, NoSpc, SPipe, Pipe, Range, NameTooLong, NoSys, NotEmpty, Loop}
 
--- the number of an errno
 abbrev pub errno_number : Errno → ℕ
 errno_number Perm = 1
 errno_number NoEnt = 2

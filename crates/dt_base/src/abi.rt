@@ -4,6 +4,9 @@ ghost use Rattle.dt_base.specs.Abi.{low_word, signed_word, byte_count, exit_code
 
 use crate::TRANSFER_LIMIT;
 
+/// The register of the return address (RISC-V ELF psABI, "Integer Register Convention").
+pub const RA: u8 = 1;
+
 /// The register of the stack pointer, sp (RISC-V ELF psABI, "Integer Register Convention").
 pub const SP: u8 = 2;
 
@@ -115,6 +118,12 @@ pub const EXIT: u64 = 93;
 /// exit_group(2)
 pub const EXIT_GROUP: u64 = 94;
 
+/// set_tid_address(2)
+pub const SET_TID_ADDRESS: u64 = 96;
+
+/// set_robust_list(2)
+pub const SET_ROBUST_LIST: u64 = 99;
+
 /// nanosleep(2)
 pub const NANOSLEEP: u64 = 101;
 
@@ -124,11 +133,56 @@ pub const CLOCK_GETTIME: u64 = 113;
 /// clock_nanosleep(2)
 pub const CLOCK_NANOSLEEP: u64 = 115;
 
+/// sched_yield(2)
+pub const SCHED_YIELD: u64 = 124;
+
+/// kill(2)
+pub const KILL: u64 = 129;
+
+/// tkill(2)
+pub const TKILL: u64 = 130;
+
+/// tgkill(2)
+pub const TGKILL: u64 = 131;
+
+/// rt_sigaction(2)
+pub const RT_SIGACTION: u64 = 134;
+
+/// rt_sigprocmask(2)
+pub const RT_SIGPROCMASK: u64 = 135;
+
+/// rt_sigreturn(2)
+pub const RT_SIGRETURN: u64 = 139;
+
+/// uname(2)
+pub const UNAME: u64 = 160;
+
 /// umask(2)
 pub const UMASK: u64 = 166;
 
 /// gettimeofday(2)
 pub const GETTIMEOFDAY: u64 = 169;
+
+/// getpid(2)
+pub const GETPID: u64 = 172;
+
+/// getppid(2)
+pub const GETPPID: u64 = 173;
+
+/// getuid(2)
+pub const GETUID: u64 = 174;
+
+/// geteuid(2)
+pub const GETEUID: u64 = 175;
+
+/// getgid(2)
+pub const GETGID: u64 = 176;
+
+/// getegid(2)
+pub const GETEGID: u64 = 177;
+
+/// gettid(2)
+pub const GETTID: u64 = 178;
 
 /// brk(2)
 pub const BRK: u64 = 214;
@@ -136,17 +190,41 @@ pub const BRK: u64 = 214;
 /// munmap(2)
 pub const MUNMAP: u64 = 215;
 
+/// mremap(2)
+pub const MREMAP: u64 = 216;
+
+/// clone(2)
+pub const CLONE: u64 = 220;
+
+/// execve(2)
+pub const EXECVE: u64 = 221;
+
 /// mmap(2)
 pub const MMAP: u64 = 222;
 
 /// mprotect(2)
 pub const MPROTECT: u64 = 226;
 
+/// madvise(2)
+pub const MADVISE: u64 = 233;
+
+/// wait4(2)
+pub const WAIT4: u64 = 260;
+
+/// prlimit64(2)
+pub const PRLIMIT64: u64 = 261;
+
 /// renameat2(2)
 pub const RENAMEAT2: u64 = 276;
 
 /// getrandom(2)
 pub const GETRANDOM: u64 = 278;
+
+/// statx(2)
+pub const STATX: u64 = 291;
+
+/// rseq(2)
+pub const RSEQ: u64 = 293;
 
 /// All rights that a page may be asked for: PROT_READ, PROT_WRITE and PROT_EXEC (mmap(2)).
 pub const PROT_ALL: u32 = 7;
@@ -206,7 +284,8 @@ pub const O_NOFOLLOW: u32 = 0x2_0000;
 /// The descriptor is closed at execve(2).
 pub const O_CLOEXEC: u32 = 0x8_0000;
 
-/// The lowest free descriptor from one on is a duplicate (fcntl(2), asm-generic/fcntl.h, as all that begin with F).
+/// The lowest free descriptor that is not below the argument is a duplicate (fcntl(2), asm-generic/fcntl.h, as all that
+/// begin with F).
 pub const F_DUPFD: u64 = 0;
 
 /// The flags of the descriptor are told.
@@ -263,6 +342,42 @@ pub const RENAME_NOREPLACE: u32 = 1;
 /// All that access may be asked for: R_OK, W_OK and X_OK (faccessat(2)).
 pub const ACCESS_ALL: u32 = 7;
 
+/// The bits of clone's flags that name the signal at the child's end (clone(2), CSIGNAL).
+pub const CSIGNAL: u64 = 0xff;
+
+/// The child's pid goes to an address in the parent (clone(2)).
+pub const CLONE_PARENT_SETTID: u64 = 0x10_0000;
+
+/// An address is cleared at the child's end, which has no effect on a process of one thread (clone(2)).
+pub const CLONE_CHILD_CLEARTID: u64 = 0x20_0000;
+
+/// The child's pid goes to an address in the child (clone(2)).
+pub const CLONE_CHILD_SETTID: u64 = 0x100_0000;
+
+/// wait4 answers 0 where no child has ended (wait4(2)).
+pub const WNOHANG: u32 = 1;
+
+/// The options that wait4 knows: WNOHANG, WUNTRACED and WCONTINUED (wait4(2)).
+pub const WAIT_OPTIONS: u32 = 0xb;
+
+/// Wall time, as a clock (linux/time.h, as all clocks here).
+pub const CLOCK_REALTIME: u32 = 0;
+
+/// The time since the start.
+pub const CLOCK_MONOTONIC: u32 = 1;
+
+/// Wall time, which may be read faster elsewhere.
+pub const CLOCK_REALTIME_COARSE: u32 = 5;
+
+/// The time since the start, and the last of the clocks that may be read.
+pub const CLOCK_BOOTTIME: u32 = 7;
+
+/// The flag of a sleep until a time, and not for one: the only one of clock_nanosleep(2) (linux/time.h).
+pub const TIMER_ABSTIME: u32 = 1;
+
+/// All flags of getrandom(2), which change nothing: GRND_NONBLOCK, GRND_RANDOM and GRND_INSECURE (linux/random.h).
+pub const GRND_ALL: u32 = 7;
+
 /// An illegal instruction (signal(7), as all numbers of signals here).
 pub const SIGILL: u8 = 4;
 
@@ -272,11 +387,47 @@ pub const SIGTRAP: u8 = 5;
 /// A program counter or a jump's target that is not a multiple of 4.
 pub const SIGBUS: u8 = 7;
 
+/// An end that can't be masked.
+pub const SIGKILL: u8 = 9;
+
 /// An access to memory that is not there, or lacks the right.
 pub const SIGSEGV: u8 = 11;
 
 /// A write to a pipe that nobody reads.
 pub const SIGPIPE: u8 = 13;
+
+/// A child has ended.
+pub const SIGCHLD: u8 = 17;
+
+/// A stop that can't be masked; it is never sent here.
+pub const SIGSTOP: u8 = 19;
+
+/// How many signals there are (signal(7)).
+pub const SIGNAL_LIMIT: usize = 64;
+
+/// All signals but SIGKILL and SIGSTOP, as a set in which signal `s` is bit `s - 1`.
+pub const MASKABLE: u64 = 0xffff_ffff_fffb_feff;
+
+/// Bytes of a set of signals, which each call is told (rt_sigaction(2), rt_sigprocmask(2)).
+pub const SIGSET_SIZE: u64 = 8;
+
+/// The signals of the set are masked too (sigprocmask(2), as the two below).
+pub const SIG_BLOCK: u32 = 0;
+
+/// The signals of the set are masked no longer.
+pub const SIG_UNBLOCK: u32 = 1;
+
+/// The signals of the set are masked, and no other.
+pub const SIG_SETMASK: u32 = 2;
+
+/// The default action (sigaction(2), asm-generic/signal-defs.h).
+pub const SIG_DFL: u64 = 0;
+
+/// The action that ignores a signal.
+pub const SIG_IGN: u64 = 1;
+
+/// A call that a handler interrupted is made again.
+pub const SA_RESTART: u64 = 0x1000_0000;
 
 /// The 32 bits that count of an argument with 32 bits: a descriptor, flags, a mode.
 pub fn low_word(argument: u64) -> u32
@@ -292,7 +443,7 @@ pub fn has(flags: u32, flag: u32) -> bool
     flags & flag == flag
 }
 
-/// The same 32 bits of an argument that may be negative: a dirfd, a count of buffers.
+/// The same 32 bits of an argument that may be negative: a dirfd, the size of a buffer for readlinkat(2).
 pub fn signed_word(argument: u64) -> i32
     ensures { result ≡ signed_word argument }
 {

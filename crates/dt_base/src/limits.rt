@@ -26,7 +26,7 @@ pub const PIPE_LIMIT: u64 = 65_536;
 /// A write of at most so many bytes to a pipe moves all of them at once or none (pipe(7), "PIPE_BUF").
 pub const PIPE_BUF: u64 = 4096;
 
-/// The greatest offset at which a read or a write may go on (lseek(2)): 2^62.
+/// The greatest offset that lseek(2) takes: 2^62.
 pub const OFFSET_LIMIT: u64 = 0x4000_0000_0000_0000;
 
 /// Bytes of an image's index.

@@ -16,7 +16,7 @@ const LOOKUPS: u64 = 4_000_000;
 // From one page to the next that is looked up: a number without a divisor in common with that of the pages.
 const STRIDE: u64 = 7_919;
 
-/// Prints the time of a load without a hint, in a space with as many pages as it may have.
+/// Prints the time of a load without a page hint, in a space with as many pages as it may have.
 pub fn print(rt: &HostRuntime) -> io::Result<()> {
     let space = short(full(rt.alloc()))?;
     let start = Instant::now(rt)?;

@@ -33,7 +33,6 @@ impl Figure {
         }
     }
 
-    // Two sizes.
     fn sizes(self) -> (u64, u64)
         ensures small { result.0 ≤ PAGE_LIMIT }
         ensures large { result.1 ≤ PAGE_LIMIT }

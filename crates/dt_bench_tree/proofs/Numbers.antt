@@ -1,20 +1,16 @@
 -- Entries under names that are numbers make an image.
-use Rattle.std.proofs.Common.{◌≡◌, ℕ, zero, suc, ◌+◌, ◌-◌, ◌/◌, ◌%◌, ◌<◌, ◌≤◌, Bool, true, false, ◌&&◌, List, [], ◌∷◌, ◌++◌, length, refl, sym, ap, ◌∙◌, ◌⊎◌, inl, inr, append_assoc, append-nil, arith}
+use Rattle.std.proofs.Common.{◌≡◌, ℕ, zero, suc, ◌+◌, ◌-◌, ◌/◌, ◌%◌, ◌<◌, ◌≤◌, Bool, true, false, List, [], ◌∷◌, ◌++◌, length, refl, sym, ap, ◌∙◌, ◌⊎◌, inl, inr, append_assoc, append-nil, arith}
 use Rattle.std.specs.Prelude.{nat_lt, if◌then◌else◌}
 use Rattle.std.specs.List.{list_all}
 use Rattle.std.specs.Ordering.{nat_cmp, is_lt}
 use Rattle.std.specs.Cmp.Lexicographic.{slice_cmp}
-use Rattle.std.proofs.lemmas.Bool.{ne_eqb, lt-ltb, eq-eqb, le-ltb}
+use Rattle.std.proofs.lemmas.Bool.{ne_eqb, lt-ltb, eq-eqb, le-ltb, and_from}
 use Rattle.dt_base.specs.declared.image.Entry.{Entry}
 use Rattle.dt_base.specs.declared.image.What.TheVariants.{File, Link}
 use Rattle.dt_base.specs.declared.limits.TheConstants.{ENTRY_LIMIT, LINK_MODE}
 use Rattle.dt_base.specs.Image.{IsImage, is_good_entry, is_good_what, is_rising, has_parent}
 use Rattle.dt_base.specs.Path.{is_path, is_top}
 use Rattle.dt_bench_tree.specs.Numbered.{name_of, what_of, entry_of, entries_from}
-
-both : (a b : Bool) → a ≡ true → b ≡ true → (a && b) ≡ true
-both true b _ good = good
-both false b bad _ = absurd (Rattle.std.proofs.lemmas.Bool.both_ways false refl bad)
 
 -- a name of two digits, neither of which is 0, `.` or `/`, is good in the root
 module _ (a b : ℕ) (first : 48 ≤ a) (second : 48 ≤ b) where
@@ -50,7 +46,7 @@ what_good links n = by (nat_lt n links)
     by false = file_good _ _ (from_48 (n / 64)) (from_48 (n % 64))
 
 entry_good : (links n : ℕ) → is_good_entry (entry_of links n) ≡ true
-entry_good links n = both _ _ (path_good _ _ (from_48 (n / 64)) (from_48 (n % 64))) (what_good links n)
+entry_good links n = and_from _ _ (path_good _ _ (from_48 (n / 64)) (from_48 (n % 64))) (what_good links n)
 
 entry_top : (links n : ℕ) (all : List Entry) → has_parent all (entry_of links n) ≡ true
 entry_top links n all = rw (top _ _ (from_48 (n / 64)) (from_48 (n % 64))) refl
@@ -77,18 +73,18 @@ count links first (suc n) = ap suc (count links (first + 1) n)
 all_good : (links first n : ℕ) → list_all is_good_entry (entries_from links first n) ≡ true
 unfolding entries_from
 all_good links first zero = refl
-all_good links first (suc n) = both _ _ (entry_good links first) (all_good links (first + 1) n)
+all_good links first (suc n) = and_from _ _ (entry_good links first) (all_good links (first + 1) n)
 
 all_top : (links first n : ℕ) (all : List Entry) → list_all (has_parent all) (entries_from links first n) ≡ true
 unfolding entries_from
 all_top links first zero all = refl
-all_top links first (suc n) all = both _ _ (entry_top links first all) (all_top links (first + 1) n all)
+all_top links first (suc n) all = and_from _ _ (entry_top links first all) (all_top links (first + 1) n all)
 
 all_rise : (links first n : ℕ) → is_rising (entries_from links first n) ≡ true
 unfolding entries_from
 all_rise links first zero = refl
 all_rise links first (suc zero) = refl
-all_rise links first (suc (suc n)) = both _ _ (entry_rises links first) (all_rise links (first + 1) (suc n))
+all_rise links first (suc (suc n)) = and_from _ _ (entry_rises links first) (all_rise links (first + 1) (suc n))
 
 -- they are the entries of an image
 pub IsImage-entries_from : (links n : ℕ) → n ≤ ENTRY_LIMIT → IsImage (entries_from links 0 n)

@@ -1,6 +1,7 @@
 -- What a call that is done leaves, by its parts.
 use Rattle.std.proofs.Common.{◌≡◌, ◌&&◌, ◌||◌, ◌==◌, ℕ, not, cond, Bool, true, false, List, [], Option, refl, sym, ap, ◌∙◌}
 use Rattle.std.specs.Prelude.{is_ok}
+use Rattle.std.proofs.lemmas.Bool.{and_parts}
 use Rattle.dt_base.specs.declared.abi.TheConstants.{A0}
 use Rattle.dt_base.specs.declared.errno.Errno.TheVariants.{Fault as BadAddress}
 use Rattle.dt_base.specs.declared.event.End.{End}
@@ -47,10 +48,6 @@ pub reaps-done : (c : Shared) (own : Process) (m : Machine) (status usage vpid :
 reaps-done c own m status usage vpid end is =
     ap (λ b. cond b (done (record c { members = without c.members vpid }) own (record m { space = with_bytes (with_bytes m.space status (status_bytes end)) usage usage_bytes }) vpid) (refused c own m BadAddress)) is
 
-second-of : (a b : Bool) → (a && b) ≡ true → b ≡ true
-second-of true b is = is
-second-of false b is = absurd (let e : false ≡ true = is in cc)
-
 or-kept : (a b c : Bool) → (b ≡ true → c ≡ true) → (a || b) ≡ true → (a || c) ≡ true
 or-kept true b c kept is = refl
 or-kept false b c kept is = kept is
@@ -63,4 +60,4 @@ still false pages at bytes address count is =
 
 -- what can be written still can after something was
 pub takes-second : (pages : List PageView) (status usage : ℕ) (bytes : List ℕ) → (takes pages status 4 && takes pages usage RUSAGE_SIZE) ≡ true → takes (with_bytes pages status bytes) usage RUSAGE_SIZE ≡ true
-takes-second pages status usage bytes is = still (status == 0) pages status bytes usage RUSAGE_SIZE (second-of (takes pages status 4) (takes pages usage RUSAGE_SIZE) is)
+takes-second pages status usage bytes is = still (status == 0) pages status bytes usage RUSAGE_SIZE (and_parts (takes pages status 4) (takes pages usage RUSAGE_SIZE) is).1

@@ -1,9 +1,8 @@
 -- What holds after a process has ended.
-use Rattle.std.proofs.Common.{arith, ◌≡◌, ◌≢◌, ℕ, ◌+◌, ◌<◌, ◌≤◌, ◌==◌, ◌&&◌, ◌||◌, List, [], ◌∷◌, map, length, drop, drop-cons, add-one, Bool, true, false, cond, Option, None, Some, refl, sym, ap, subst, ◌∙◌}
+use Rattle.std.proofs.Common.{arith, ◌≡◌, ◌≢◌, ℕ, ◌+◌, ◌<◌, ◌≤◌, ◌==◌, ◌&&◌, ◌||◌, List, [], ◌∷◌, length, drop, drop-cons, add-one, Bool, true, false, cond, Option, None, Some, refl, sym, ap, subst, ◌∙◌}
 use Rattle.std.proofs.Math.ListN.{get_or}
 use Rattle.std.proofs.lemmas.Bool.Decides.{nat_tests}
 use Rattle.std.specs.Prelude.{IsSome, IfSome, is_some, is_none}
-use Rattle.std.specs.List.{list_any}
 use Rattle.std.specs.Cmp.{nat_cmp_total}
 use Rattle.std.specs.FinMap.{get, remove, nat_cmp-IsAntisymmetric}
 use Rattle.dt_base.specs.declared.event.End.{End}
@@ -19,6 +18,7 @@ use Rattle.dt_procs.specs.Members.{ended, ended_member, lives}
 use Rattle.dt_procs.specs.Table as procs
 use Rattle.dt_procs.specs.Table.{members_of}
 use Rattle.dt_scene.proofs.Kept.{all_in-through}
+use Rattle.dt_tree.proofs.Namings.{one_for-same, one_for-swap}
 use Rattle.dt_tree.specs.FileTree.{FileTree, holds_of}
 use Rattle.dt_tree.specs.Shape.{one_for}
 use Rattle.dt_tree.specs.Changes.{released}
@@ -26,16 +26,10 @@ use Rattle.dt_tree.specs.Table.{Stands, shape_of, tree_of}
 use Rattle.dt_tree.proofs.Holding.{holds-released, IsFile-released, IsDir-released}
 use Rattle.dt_calls.specs.declared.shared.Process.{Process}
 use Rattle.dt_calls.specs.declared.shared.Shared.{Shared as SharedInCode}
-use Rattle.dt_signals.specs.declared.numbers.TheConstants.{SIGKILL}
+use Rattle.dt_base.specs.declared.abi.TheConstants.{SIGKILL}
 use Rattle.dt_calls.specs.Container.{Shared, Processes}
 use Rattle.dt_calls.specs.Settle.{ends_one, kills_each}
 use Rattle.dt_calls.specs.Sound.{directories_of, IsSound}
-
-one_for-swap : (a b : ℕ) → one_for a b ≡ one_for b a
-one_for-swap a b = grind (arith, nat_tests)
-
-one_for-here : (a : ℕ) → one_for a a ≡ 1
-one_for-here a = grind (arith, nat_tests)
 
 -- how often a process holds a node as its working directory
 abbrev pub by_own : ℕ → Process → ℕ
@@ -52,7 +46,7 @@ directories-without processes p own is n =
 pub directories-least : (processes : Processes) (p : ℕ) (own : Process) → get processes p ≡ Some own → 1 ≤ directories_of processes own.caller.cwd
 directories-least processes p own is =
     let sum = directories-without processes p own is own.caller.cwd in
-    omega (arith, one_for-here own.caller.cwd)
+    omega (arith, one_for-same own.caller.cwd)
 
 -- whether a member is the live process that is asked for
 abbrev is_live : ℕ → Member → Bool

@@ -1,5 +1,6 @@
 -- How open files and working directories hold their nodes, through each change of what processes share.
 use Rattle.std.proofs.Common.{arith, ◌≡◌, ◌≢◌, ℕ, ◌+◌, ◌<◌, ◌≤◌, ◌||◌, not, suc, zero, cond, Bool, true, false, List, [], ◌∷◌, length, get_or, Option, Some, None, refl, sym, ap, subst, ◌∙◌}
+use Rattle.std.proofs.Math.Bool.{or-true}
 use Rattle.std.specs.Prelude.{IsSome, IfSome, Ok}
 use Rattle.std.specs.List.{list_any, All}
 use Rattle.std.specs.Cmp.{nat_cmp_total}
@@ -28,6 +29,7 @@ use Rattle.dt_scene.specs.declared.fs.Fs.{Fs}
 use Rattle.dt_scene.specs.Sound.{Sound, KeepsOthers, stage, scene}
 use Rattle.dt_space.specs.Space.{PageView}
 use Rattle.dt_tree.proofs.Holding.{KeepsHeld-same, holds-held, shape-held}
+use Rattle.dt_tree.proofs.Namings.{one_for-same, one_for-swap}
 use Rattle.dt_tree.specs.Changes.{held}
 use Rattle.dt_tree.specs.FileTree.{FileTree, holds_of}
 use Rattle.dt_tree.specs.Shape.{one_for}
@@ -41,17 +43,8 @@ use Rattle.dt_calls.specs.Effect.{Effect}
 use Rattle.dt_calls.specs.InCode.{shared_of, effect_as}
 use Rattle.dt_signals.specs.declared.signals.Sig.{Sig}
 use Rattle.dt_calls.specs.Sound.{Hand, hand, directories_of, with_own, IsSoundHand, Keeps, Serves, StillSignalled}
+use Rattle.dt_calls.proofs.Ended.{by_own}
 use Rattle.dt_calls.proofs.Signalled.{signal-here, sound-signals, still-insert}
-
-one_for-swap : (a b : ℕ) → one_for a b ≡ one_for b a
-one_for-swap a b = grind (arith, nat_tests)
-
-one_for-here : (a : ℕ) → one_for a a ≡ 1
-one_for-here a = grind (arith, nat_tests)
-
--- what a process's working directory counts for
-abbrev cwd_of : ℕ → Process → ℕ
-cwd_of n own = one_for own.caller.cwd n
 
 same_key : (m : Processes) (k : ℕ) (own : Process) → get (insert m k own) k ≡ Some own
 same_key m k own = get-insert_same nat_cmp_total nat_cmp-IsAntisymmetric m k own
@@ -62,15 +55,15 @@ other_key m k own q apart = get-insert_other nat_cmp_total nat_cmp-IsAntisymmetr
 -- a part counts among the others
 count-at : (m : Processes) (k : ℕ) (own : Process) → get m k ≡ Some own → (n : ℕ) → one_for own.caller.cwd n ≤ directories_of m n
 count-at m k own is n =
-    let gone = total-remove nat_cmp_total (cwd_of n) nat_cmp-IsAntisymmetric m k in
-    let one = ap (weight (cwd_of n)) is in
+    let gone = total-remove nat_cmp_total (by_own n) nat_cmp-IsAntisymmetric m k in
+    let one = ap (weight (by_own n)) is in
     omega arith
 
 -- and so do two
 count-two : (m : Processes) (k q : ℕ) (own other : Process) → q ≢ k → get m k ≡ Some own → get m q ≡ Some other → (n : ℕ) → one_for own.caller.cwd n + one_for other.caller.cwd n ≤ directories_of m n
 count-two m k q own other apart is is_other n =
-    let gone = total-remove nat_cmp_total (cwd_of n) nat_cmp-IsAntisymmetric m k in
-    let one = ap (weight (cwd_of n)) is in
+    let gone = total-remove nat_cmp_total (by_own n) nat_cmp-IsAntisymmetric m k in
+    let one = ap (weight (by_own n)) is in
     let there = get-remove_other nat_cmp_total nat_cmp-IsAntisymmetric m k q apart ∙ is_other in
     let second = count-at (remove m k) q other there n in
     omega arith
@@ -78,8 +71,8 @@ count-two m k q own other apart is is_other n =
 -- another part in the place of a process's
 count-changed : (m : Processes) (k : ℕ) (own new : Process) (n : ℕ) → directories_of (insert m k new) n + one_for own.caller.cwd n ≡ directories_of (insert m k own) n + one_for new.caller.cwd n
 count-changed m k own new n =
-    let before = total-insert nat_cmp_total (cwd_of n) m k own in
-    let after = total-insert nat_cmp_total (cwd_of n) m k new in
+    let before = total-insert nat_cmp_total (by_own n) m k own in
+    let after = total-insert nat_cmp_total (by_own n) m k new in
     omega arith
 
 module _ (c : Shared) (own : Process) (w : World) (sound : IsSoundHand (hand c own w)) where
@@ -135,7 +128,7 @@ module _ (c : Shared) (own : Process) (w : World) (sound : IsSoundHand (hand c o
     other-dir q apart (Some other) is dir =
         let n = other.caller.cwd in
         let two = count-two here own.caller.vpid q own other apart here-own is n in
-        others.dirs n (omega (arith, sound.holds n, one_for-swap own.caller.cwd n, one_for-here n)) dir
+        others.dirs n (omega (arith, sound.holds n, one_for-swap own.caller.cwd n, one_for-same n)) dir
 
     -- a call leaves what is held as it has to be
     pub sound-called : IsSoundHand (hand moved new v)
@@ -230,10 +223,6 @@ keeps-then old mid new made first then = record {
     by_made None there = tt
     by_made (Some m) there = then.parts old.shared.pids.next there
 
-or-true : (b : Bool) → (b || true) ≡ true
-or-true true = refl
-or-true false = refl
-
 lives-born : (members : List Member) (q parent : ℕ) → lives (with_child members q parent) q ≡ true
 lives-born [] q parent = grind (arith, nat_tests)
 lives-born (m ∷ members) q parent = ap (λ b. is_live q m || b) (lives-born members q parent) ∙ or-true (is_live q m)
@@ -291,8 +280,8 @@ module _ (c : Shared) (own : Process) (w : World) (sound : IsSoundHand (hand c o
         let now = ap (λ (t : FileTree). holds_of t n) tree-now in
         let more = holds-held (tree_of c.fs.tree w.forest) sound.stands.tree own.caller.cwd (IsLive-IsDir (shape_of c.fs.tree w.forest) own.caller.cwd (own-dir c own w sound)) n in
         let parts = ap (λ (m : Processes). directories_of m n) all-parts in
-        let put = total-insert nat_cmp_total (cwd_of n) present c.pids.next child in
-        let none = ap (weight (cwd_of n)) none-next in
+        let put = total-insert nat_cmp_total (by_own n) present c.pids.next child in
+        let none = ap (weight (by_own n)) none-next in
         let dir = ap (λ d. one_for d n) cwd in
         omega (arith, sound.holds n, nodes.counts n)
 

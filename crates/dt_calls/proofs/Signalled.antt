@@ -17,8 +17,8 @@ use Rattle.dt_calls.specs.declared.call.effect.Effect.{Effect as EffectInCode}
 use Rattle.dt_calls.specs.declared.call.effect.Outcome.{Outcome}
 use Rattle.dt_calls.specs.declared.shared.Process.{Process}
 use Rattle.dt_calls.specs.Effect.{answers}
-use Rattle.dt_calls.specs.InCode.{BackAt, CalledAt, effect_as}
-use Rattle.dt_calls.specs.SignalCalls.{Back, called}
+use Rattle.dt_calls.specs.InCode.{SigreturnAt, CalledAt, effect_as}
+use Rattle.dt_calls.specs.SignalCalls.{AfterSigreturn, called}
 use Rattle.dt_calls.specs.Container as container
 use Rattle.dt_calls.specs.Sound.{IsSound, StillSignalled}
 
@@ -61,8 +61,8 @@ sound-signals c signals w sound still = record {
 pub still-called : (r : Called) (p : ℕ) (before after : Signals) (old new : Machine) (given : Answer) → CalledAt r p before after old new given → StillSignalled before after
 still-called r p before after old new given d = subst (StillSignalled before) (sym d.signals) (still-insert before p r.signals)
 
-pub still-back : (b : Back) (p : ℕ) (before after : Signals) (new : Machine) (became : Outcome) → BackAt b p before after new became → StillSignalled before after
-still-back b p before after new became d = subst (StillSignalled before) (sym d.signals) (still-insert before p b.signals)
+pub still-sigreturn : (b : AfterSigreturn) (p : ℕ) (before after : Signals) (new : Machine) (became : Outcome) → SigreturnAt b p before after new became → StillSignalled before after
+still-sigreturn b p before after new became d = subst (StillSignalled before) (sym d.signals) (still-insert before p b.signals)
 
 -- what it did is what the definition says, once its answer is given
 pub called-served : (r : Called) (c : container.Shared) (own : Process) (m mid new : Machine) (number : ℕ) (after : Signals) (given : Answer) (result : Result EffectInCode NoMemory)

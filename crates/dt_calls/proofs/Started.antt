@@ -1,14 +1,12 @@
 -- What holds when a container begins.
-use Rattle.std.proofs.Common.{arith, ◌≡◌, ◌≢◌, ℕ, ◌+◌, ◌<◌, ◌≤◌, Option, None, Some, true, false, refl, sym, ap, subst, ◌∙◌}
-use Rattle.std.proofs.lemmas.Bool.Decides.{nat_tests}
-use Rattle.std.specs.Prelude.{List, Bool, IsSome, IfSome, is_some}
+use Rattle.std.proofs.Common.{arith, ◌≡◌, ◌≢◌, ℕ, ◌<◌, Option, None, Some, true, false, refl, sym, ap, subst, ◌∙◌}
+use Rattle.std.specs.Prelude.{List, IsSome, IfSome, is_some}
 use Rattle.std.specs.Ordering.{nat_cmp}
 use Rattle.std.specs.Cmp.{nat_cmp_total}
-use Rattle.std.specs.FinMap.{FinMap, get, insert, empty, get-empty, same_map, nat_cmp-IsAntisymmetric}
+use Rattle.std.specs.FinMap.{get, insert, empty, get-empty, same_map, nat_cmp-IsAntisymmetric}
 use Rattle.dt_base.specs.declared.image.Entry.{Entry}
 use Rattle.dt_fds.specs.declared.desc.Desc.{Desc}
 use Rattle.dt_fds.specs.declared.desc.DescKind.TheVariants.{Input, Stream}
-use Rattle.dt_fds.specs.declared.desc.TheConstants.{DESCRIPTOR_LIMIT}
 use Rattle.dt_fds.specs.Descriptions.{Descriptions, Table, none_open, opened_at, opened_lowest, first_desc, first_files, with_slot, with_new, lowest_free, table_of}
 use Rattle.dt_fds.specs.Backs.{AllIn, IsPiped, descriptions_of}
 use Rattle.dt_host.specs.Total.{weight}
@@ -24,11 +22,12 @@ use Rattle.dt_procs.specs.Members.{first_members, lives}
 use Rattle.dt_procs.specs.Table as procs
 use Rattle.dt_procs.specs.Table.{members_of}
 use Rattle.dt_tree.specs.declared.limits.TheConstants.{ROOT}
-use Rattle.dt_tree.specs.FileTree.{FileTree, holds_of}
+use Rattle.dt_tree.specs.FileTree.{holds_of}
 use Rattle.dt_tree.specs.ImageTree.{image_tree}
 use Rattle.dt_tree.specs.Shape.{one_for}
 use Rattle.dt_tree.specs.Changes.{held}
 use Rattle.dt_tree.specs.Table.{Table as TreeTable, Stands, shape_of, tree_of}
+use Rattle.dt_tree.proofs.Namings.{one_for-swap}
 use Rattle.dt_tree.proofs.Holding.{holds-held, shape-held}
 use Rattle.dt_tree.proofs.Images.{not_held}
 use Rattle.dt_calls.specs.declared.shared.Process.{Process}
@@ -36,9 +35,6 @@ use Rattle.dt_calls.specs.declared.shared.Shared.{Shared as SharedInCode}
 use Rattle.dt_calls.specs.Container.{Processes, blank_process}
 use Rattle.dt_signals.specs.Signals.{no_signals}
 use Rattle.dt_calls.specs.Sound.{IsSound, directories_of}
-
-one_for-swap : (a b : ℕ) → one_for a b ≡ one_for b a
-one_for-swap a b = grind (arith, nat_tests)
 
 -- what one process opens is in no table of another
 tables-opened : (p q : ℕ) (desc : Desc) (f : Descriptions) → q ≢ p → (let new = opened_lowest p desc f in get new.tables q ≡ get f.tables q)

@@ -1,6 +1,6 @@
 -- What a stop of a process asks for, and the system calls by their numbers (syscall(2), riscv64).
 use Rattle.std.specs.Prelude.{ℕ, Bool, ◌||◌, ◌==◌, if◌then◌else◌}
-use Rattle.dt_base.specs.declared.abi.TheConstants.{A0, A7, EXIT, EXIT_GROUP, BRK, MUNMAP, MMAP, MPROTECT}
+use Rattle.dt_base.specs.declared.abi.TheConstants.{A0, A7, EXIT, EXIT_GROUP, BRK, MUNMAP, MMAP, MPROTECT, SET_TID_ADDRESS, SET_ROBUST_LIST, SCHED_YIELD, UNAME, GETPID, GETPPID, GETUID, GETEUID, GETGID, GETEGID, GETTID, MREMAP, CLONE, EXECVE, MADVISE, WAIT4, PRLIMIT64, STATX, RSEQ, KILL, TKILL, TGKILL, RT_SIGACTION, RT_SIGPROCMASK, RT_SIGRETURN}
 use Rattle.dt_base.specs.Abi.{exit_code}
 use Rattle.dt_base.specs.declared.errno.Errno.TheVariants.{NoSys}
 use Rattle.dt_base.specs.declared.event.End.TheVariants.{Code}
@@ -9,7 +9,6 @@ use Rattle.dt_rv64.specs.declared.segments.Stop.{Stop}
 use Rattle.dt_rv64.specs.declared.segments.Stop.TheVariants.{Call, Counter, Slice, Fault}
 use Rattle.dt_rv64.specs.Effects.{register}
 use Rattle.dt_calls.specs.declared.call.effect.Outcome.TheVariants.{Done, Ends}
-use Rattle.dt_calls.specs.declared.numbers.TheConstants.{SET_TID_ADDRESS, SET_ROBUST_LIST, SCHED_YIELD, UNAME, GETPID, GETPPID, GETUID, GETEUID, GETGID, GETEGID, GETTID, MREMAP, CLONE, EXECVE, MADVISE, WAIT4, PRLIMIT64, STATX, RSEQ, KILL, TKILL, TGKILL, RT_SIGACTION, RT_SIGPROCMASK, RT_SIGRETURN}
 use Rattle.dt_calls.specs.declared.shared.Process.{Process}
 use Rattle.dt_calls.specs.Container.{Shared}
 use Rattle.dt_calls.specs.Effect.{Effect, quiet, done, refused, reads_counter}

@@ -1,21 +1,19 @@
 -- clone(2) of a process (fork(2)): the child is a copy of its parent, and shares what the parent has open.
 use Rattle.std.specs.Prelude.{ℕ, ◌==◌, ◌&&◌, not, Bool, bit_and, bit_or, List, Some, Result, Ok, Err, if◌then◌else◌}
 use Rattle.std.specs.FinMap.{insert}
-use Rattle.dt_base.specs.declared.abi.TheConstants.{A0, A1, A2, A4, SP}
+use Rattle.dt_base.specs.declared.abi.TheConstants.{A0, A1, A2, A4, SP, CLONE, CSIGNAL, CLONE_PARENT_SETTID, CLONE_CHILD_CLEARTID, CLONE_CHILD_SETTID, SIGCHLD}
 use Rattle.dt_base.specs.declared.errno.Errno.TheVariants.{Again}
 use Rattle.dt_base.specs.Fields.{low_bytes}
 use Rattle.dt_fds.specs.Descriptions.{shared_all}
 use Rattle.dt_procs.specs.Members.{is_full, with_child}
 use Rattle.dt_rv64.specs.declared.machine.Machine.{Machine}
 use Rattle.dt_rv64.specs.Effects.{register, with_register, answered}
-use Rattle.dt_signals.specs.declared.numbers.TheConstants.{SIGCHLD}
 use Rattle.dt_signals.specs.Signals.{forked}
 use Rattle.dt_space.specs.declared.access.Miss.{Miss}
 use Rattle.dt_space.specs.Space.{PageView}
 use Rattle.dt_space.specs.Write.{stored}
 use Rattle.dt_tree.specs.Changes.{held}
 use Rattle.dt_calls.specs.declared.call.effect.Outcome.TheVariants.{Done, Unsupported}
-use Rattle.dt_calls.specs.declared.numbers.TheConstants.{CLONE, CSIGNAL, CLONE_PARENT_SETTID, CLONE_CHILD_CLEARTID, CLONE_CHILD_SETTID}
 use Rattle.dt_calls.specs.declared.shared.Process.{Process}
 use Rattle.dt_calls.specs.Container.{Shared, signals_at}
 use Rattle.dt_calls.specs.Effect.{Effect, quiet, refused}

@@ -37,20 +37,20 @@ abbrev pub with_none_done : Process → Process
 with_none_done own = record own { caller = record own.caller { done = 0 } }
 
 -- after a delivery: a handler is there to be run, also where a call waited; or the process ends by the signal
-abbrev pub came_to : Standing → Sig → Machine → Delivery → Standing
-came_to s g m delivery.Nothing = record s { signals = g; machine = m }
-came_to s g m delivery.Handler = record { signals = g; own = with_none_done s.own; machine = m; outcome = Done }
-came_to s g m (delivery.Ends signal) = record s { signals = g; machine = m; outcome = Ends (Signal signal) }
+abbrev pub with_delivery : Standing → Sig → Machine → Delivery → Standing
+with_delivery s g m delivery.Nothing = record s { signals = g; machine = m }
+with_delivery s g m delivery.Handler = record { signals = g; own = with_none_done s.own; machine = m; outcome = Done }
+with_delivery s g m (delivery.Ends signal) = record s { signals = g; machine = m; outcome = Ends (Signal signal) }
 
--- what was delivered
-abbrev pub come_to : Standing → Delivered → Standing
-come_to s d = came_to s d.signals d.machine d.delivery
+-- the same, with the signal state and the machine that delivery leaves
+abbrev pub with_delivered : Standing → Delivered → Standing
+with_delivered s d = with_delivery s d.signals d.machine d.delivery
 
 -- delivery by what became of the process: nothing is delivered where it has ended or stays at a call that isn't supported
 abbrev pub delivered_by : Option ℕ → Standing → Outcome → Standing
-delivered_by forced s Done = come_to s (delivered forced Plain s.signals s.machine)
-delivered_by forced s Blocked = come_to s (delivered forced (Waits s.own.caller.done) s.signals s.machine)
-delivered_by forced s Moved = come_to s (delivered forced (Waits s.own.caller.done) s.signals s.machine)
+delivered_by forced s Done = with_delivered s (delivered forced Plain s.signals s.machine)
+delivered_by forced s Blocked = with_delivered s (delivered forced (Waits s.own.caller.done) s.signals s.machine)
+delivered_by forced s Moved = with_delivered s (delivered forced (Waits s.own.caller.done) s.signals s.machine)
 delivered_by forced s (Ends end) = s
 delivered_by forced s (Unsupported number) = s
 

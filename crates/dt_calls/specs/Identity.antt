@@ -26,21 +26,21 @@ getppid_call c own m = done c own m (unwrap_or (parent_of c.members own.caller.v
 unfoldable pub set_robust_list_call : Shared → Process → Machine → Effect
 set_robust_list_call c own m = if register m A1 == ROBUST_LIST_SIZE then done c own m 0 else refused c own m Inval
 
--- a field of a `struct utsname`: a text, and zeros behind it
-abbrev pub field : List ℕ → List ℕ
-field text = text ++ replicate (UTSNAME_FIELD - length text) 0
+-- a field of a `struct utsname`: a text, padded with zeros to the field's width
+abbrev pub padded_field : List ℕ → List ℕ
+padded_field text = text ++ replicate (UTSNAME_FIELD - length text) 0
 
 -- a `struct utsname`: system, node, release, version, machine, domain
 abbrev pub utsname : List ℕ
 utsname =
-    field (codes "Linux") ++ (field (codes "dettrace") ++ (field (codes "6.1.0")
-    ++ (field (codes "#1") ++ (field (codes "riscv64") ++ field (codes "(none)")))))
+    padded_field (codes "Linux") ++ (padded_field (codes "dettrace") ++ (padded_field (codes "6.1.0")
+    ++ (padded_field (codes "#1") ++ (padded_field (codes "riscv64") ++ padded_field (codes "(none)")))))
 
--- the answer of a call that fills a buffer
-abbrev pub filled : Shared → Process → Machine → Result (List PageView) Miss → Effect
-filled c own m (Err miss) = refused c own m BadAddress
-filled c own m (Ok pages) = done c own (record m { space = pages }) 0
+-- 0 with these pages, in which a buffer has been filled; EFAULT where it could not be
+abbrev pub done_with_pages : Shared → Process → Machine → Result (List PageView) Miss → Effect
+done_with_pages c own m (Err miss) = refused c own m BadAddress
+done_with_pages c own m (Ok pages) = done c own (record m { space = pages }) 0
 
 -- uname(2): EFAULT where a byte of the buffer can't be written
 unfoldable pub uname_call : Shared → Process → Machine → Effect
-uname_call c own m = filled c own m (stored m.space (register m A0) utsname)
+uname_call c own m = done_with_pages c own m (stored m.space (register m A0) utsname)

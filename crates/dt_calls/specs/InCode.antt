@@ -19,7 +19,7 @@ use Rattle.dt_calls.specs.declared.shared.Shared.{Shared as SharedInCode}
 use Rattle.dt_calls.specs.Container.{Shared, Container, Machines, Signals}
 use Rattle.dt_calls.specs.Effect.{Effect}
 use Rattle.dt_calls.specs.Delivery.{Standing}
-use Rattle.dt_calls.specs.SignalCalls.{Back}
+use Rattle.dt_calls.specs.SignalCalls.{AfterSigreturn}
 use Rattle.dt_calls.specs.Launch.{Launched}
 use Rattle.dt_calls.specs.Settle.{Turned}
 
@@ -62,7 +62,7 @@ abbrev pub entered : FinMap nat_cmp (Option Machine) → ℕ → Option Machine 
 entered places next None = places
 entered places next (Some m) = insert places next (Some m)
 
--- a container
+-- what a run sees of a container
 abbrev pub container_of : ContainerView → World → Container
 container_of c w = record {
   shared = shared_of c.shared w;
@@ -87,7 +87,7 @@ pub record CalledAt (r : Called) (p : ℕ) (before after : Signals) (old new : M
   pub answer : given ≡ r.answer
 
 -- likewise a return from a handler, and what becomes of the process
-pub record BackAt (b : Back) (p : ℕ) (before after : Signals) (new : Machine) (became : Outcome) : Type 0 where
+pub record SigreturnAt (b : AfterSigreturn) (p : ℕ) (before after : Signals) (new : Machine) (became : Outcome) : Type 0 where
   pub signals : after ≡ insert before p b.signals
   pub machine : new ≡ b.machine
   pub outcome : became ≡ b.outcome

@@ -1,14 +1,12 @@
 -- Signals that a process sends: kill(2), tkill(2), tgkill(2). A process has one thread, whose number is the process's.
 use Rattle.std.specs.Prelude.{ℕ, ◌^◌, ◌==◌, ◌||◌, ◌&&◌, not, nat_lt, nat_le, Bool, is_some, if◌then◌else◌}
-use Rattle.dt_base.specs.declared.abi.TheConstants.{A0, A1, A2}
+use Rattle.dt_base.specs.declared.abi.TheConstants.{A0, A1, A2, KILL, TKILL, TGKILL, SIGCHLD, SIGNAL_LIMIT}
 use Rattle.dt_base.specs.Abi.{low_word}
 use Rattle.dt_base.specs.declared.errno.Errno.TheVariants.{Inval, Srch}
 use Rattle.dt_procs.specs.Members.{parent_of}
 use Rattle.dt_rv64.specs.declared.machine.Machine.{Machine}
 use Rattle.dt_rv64.specs.Effects.{register}
-use Rattle.dt_signals.specs.declared.numbers.TheConstants.{SIGCHLD, SIGNAL_LIMIT}
 use Rattle.dt_calls.specs.declared.call.effect.Outcome.TheVariants.{Unsupported}
-use Rattle.dt_calls.specs.declared.numbers.TheConstants.{KILL, TKILL, TGKILL}
 use Rattle.dt_calls.specs.declared.shared.Process.{Process}
 use Rattle.dt_calls.specs.Container.{Shared, raised_at}
 use Rattle.dt_calls.specs.Effect.{Effect, quiet, done, refused}
@@ -17,9 +15,9 @@ use Rattle.dt_calls.specs.Effect.{Effect, quiet, done, refused}
 abbrev pub is_below_one : ℕ → Bool
 is_below_one pid = (pid == 0) || nat_le (2 ^ 31) pid
 
--- a signal that is never sent: SIGCHLD is the last that is
-abbrev pub is_unsent : ℕ → Bool
-is_unsent signal = nat_lt SIGCHLD signal && nat_le signal SIGNAL_LIMIT
+-- a signal with which these calls are not supported: SIGCHLD is the last that can be sent
+abbrev pub is_unsupported_signal : ℕ → Bool
+is_unsupported_signal signal = nat_lt SIGCHLD signal && nat_le signal SIGNAL_LIMIT
 
 -- a process of this pid is there, a zombie included
 abbrev pub is_there : Shared → ℕ → Bool
@@ -42,7 +40,7 @@ unfoldable pub kill_call : Shared → Process → Machine → Effect
 kill_call c own m =
     let pid = low_word (register m A0) in
     let signal = low_word (register m A1) in
-    if is_below_one pid || is_unsent signal then quiet c own m (Unsupported KILL)
+    if is_below_one pid || is_unsupported_signal signal then quiet c own m (Unsupported KILL)
     else sends_to c own m pid signal
 
 -- tkill(2)
@@ -50,7 +48,7 @@ unfoldable pub tkill_call : Shared → Process → Machine → Effect
 tkill_call c own m =
     let tid = low_word (register m A0) in
     let signal = low_word (register m A1) in
-    if is_unsent signal then quiet c own m (Unsupported TKILL)
+    if is_unsupported_signal signal then quiet c own m (Unsupported TKILL)
     else if is_below_one tid then refused c own m Inval
     else sends_to c own m tid signal
 
@@ -60,7 +58,7 @@ tgkill_call c own m =
     let tgid = low_word (register m A0) in
     let tid = low_word (register m A1) in
     let signal = low_word (register m A2) in
-    if is_unsent signal then quiet c own m (Unsupported TGKILL)
+    if is_unsupported_signal signal then quiet c own m (Unsupported TGKILL)
     else if is_below_one tgid || is_below_one tid || nat_lt SIGNAL_LIMIT signal then refused c own m Inval
     else if not (tgid == tid) then refused c own m Srch
     else sends_to c own m tid signal

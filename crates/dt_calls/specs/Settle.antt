@@ -15,7 +15,7 @@ use Rattle.dt_calls.specs.declared.call.effect.Outcome.{Outcome}
 use Rattle.dt_calls.specs.declared.call.effect.Outcome.TheVariants as outcome
 use Rattle.dt_calls.specs.declared.container.Served.{Served}
 use Rattle.dt_calls.specs.declared.container.Served.TheVariants.{Done, Child, LastChild, Blocked, Moved, Ended, Unsupported}
-use Rattle.dt_signals.specs.declared.numbers.TheConstants.{SIGKILL, SIGCHLD}
+use Rattle.dt_base.specs.declared.abi.TheConstants.{SIGKILL, SIGCHLD}
 use Rattle.dt_calls.specs.Container.{Shared, Container, Machines, Signals, process_at, with_process, raised_at}
 use Rattle.dt_calls.specs.Effect.{Effect}
 use Rattle.dt_calls.specs.Execve.{with_holding}

@@ -1,6 +1,6 @@
 -- The calls on a process's own signals: rt_sigaction(2), rt_sigprocmask(2), rt_sigreturn(2).
 use Rattle.std.specs.Prelude.{ℕ, Result, Ok, Err}
-use Rattle.dt_base.specs.declared.abi.TheConstants.{A0, A1, A2, A3, SIGSEGV}
+use Rattle.dt_base.specs.declared.abi.TheConstants.{A0, A1, A2, A3, SIGSEGV, RT_SIGACTION, RT_SIGPROCMASK}
 use Rattle.dt_base.specs.declared.event.End.TheVariants.{Signal}
 use Rattle.dt_rv64.specs.declared.machine.Machine.{Machine}
 use Rattle.dt_rv64.specs.Effects.{register}
@@ -12,7 +12,6 @@ use Rattle.dt_signals.specs.declared.signals.Sig.{Sig}
 use Rattle.dt_signals.specs.Return.{Returned, returned}
 use Rattle.dt_calls.specs.declared.call.effect.Outcome.{Outcome}
 use Rattle.dt_calls.specs.declared.call.effect.Outcome.TheVariants.{Done, Ends}
-use Rattle.dt_calls.specs.declared.numbers.TheConstants.{RT_SIGACTION, RT_SIGPROCMASK}
 use Rattle.dt_calls.specs.declared.shared.Process.{Process}
 use Rattle.dt_calls.specs.Container.{Shared, signals_at, with_signals}
 use Rattle.dt_calls.specs.Effect.{Effect, quiet, answers}
@@ -33,23 +32,24 @@ sigprocmask_call c own m = called c own m RT_SIGPROCMASK
     (sigprocmask_of (signals_at c own.caller.vpid) m.space (register m A0) (register m A1) (register m A2) (register m A3))
 
 -- a process's signal state and its machine after a return from a handler, and what becomes of it
-pub record Back : Type 0 where
+pub record AfterSigreturn : Type 0 where
   pub signals : Sig
   pub machine : Machine
   pub outcome : Outcome
 
 -- the process goes on where its frame says; a frame that can't be read ends it by SIGSEGV, whatever it does about that
-abbrev pub back_by : Sig → Machine → Result Returned Miss → Back
-back_by g m (Err miss) = record { signals = g; machine = m; outcome = Ends (Signal SIGSEGV) }
-back_by g m (Ok r) = record { signals = r.signals; machine = r.machine; outcome = Done }
+abbrev pub after_sigreturn_by : Sig → Machine → Result Returned Miss → AfterSigreturn
+after_sigreturn_by g m (Err miss) = record { signals = g; machine = m; outcome = Ends (Signal SIGSEGV) }
+after_sigreturn_by g m (Ok r) = record { signals = r.signals; machine = r.machine; outcome = Done }
 
--- a return with this signal state and this machine
-abbrev pub back_of : Sig → Machine → Back
-back_of g m = back_by g m (returned g m)
+-- the same, by the frame that is on the stack
+abbrev pub after_sigreturn : Sig → Machine → AfterSigreturn
+after_sigreturn g m = after_sigreturn_by g m (returned g m)
 
-abbrev pub goes_back : Shared → Process → Back → Effect
-goes_back c own b = quiet (with_signals c own.caller.vpid b.signals) own b.machine b.outcome
+-- what serving rt_sigreturn(2) did
+abbrev pub sigreturn_effect : Shared → Process → AfterSigreturn → Effect
+sigreturn_effect c own b = quiet (with_signals c own.caller.vpid b.signals) own b.machine b.outcome
 
 -- rt_sigreturn(2)
 unfoldable pub sigreturn_call : Shared → Process → Machine → Effect
-sigreturn_call c own m = goes_back c own (back_of (signals_at c own.caller.vpid) m)
+sigreturn_call c own m = sigreturn_effect c own (after_sigreturn (signals_at c own.caller.vpid) m)

@@ -1,6 +1,6 @@
 -- wait4(2): a child that has ended is reaped.
-use Rattle.std.specs.Prelude.{ℕ, ◌*◌, ◌^◌, ◌-◌, ◌==◌, ◌||◌, ◌&&◌, nat_lt, not, Bool, List, replicate, Option, None, Some, is_ok, if◌then◌else◌}
-use Rattle.dt_base.specs.declared.abi.TheConstants.{A0, A1, A2, A3}
+use Rattle.std.specs.Prelude.{ℕ, ◌*◌, ◌==◌, ◌||◌, ◌&&◌, nat_lt, not, Bool, List, replicate, Option, None, Some, is_ok, if◌then◌else◌}
+use Rattle.dt_base.specs.declared.abi.TheConstants.{A0, A1, A2, A3, WAIT4, WNOHANG, WAIT_OPTIONS}
 use Rattle.dt_base.specs.Abi.{low_word}
 use Rattle.dt_base.specs.declared.errno.Errno.TheVariants.{Inval, Child, Fault as BadAddress}
 use Rattle.dt_base.specs.declared.event.End.{End}
@@ -17,18 +17,19 @@ use Rattle.dt_space.specs.Write.{write}
 use Rattle.dt_scene.specs.Arguments.{has_only}
 use Rattle.dt_base.specs.Abi.{has}
 use Rattle.dt_calls.specs.declared.call.effect.Outcome.TheVariants.{Blocked, Unsupported}
-use Rattle.dt_calls.specs.declared.numbers.TheConstants.{WAIT4, WNOHANG, WAIT_OPTIONS, RUSAGE_SIZE}
+use Rattle.dt_calls.specs.declared.call.wait.TheConstants.{GREATEST_PID, ANY_CHILD}
+use Rattle.dt_calls.specs.declared.numbers.TheConstants.{RUSAGE_SIZE}
 use Rattle.dt_calls.specs.declared.shared.Process.{Process}
 use Rattle.dt_calls.specs.Container.{Shared}
 use Rattle.dt_calls.specs.Effect.{Effect, quiet, done, refused}
 
 -- the low 32 bits as a signed number are below -1
 abbrev pub is_group : ℕ → Bool
-is_group pid = nat_lt (2 ^ 31 - 1) pid && nat_lt pid (2 ^ 32 - 1)
+is_group pid = nat_lt GREATEST_PID pid && nat_lt pid ANY_CHILD
 
 -- the child that is waited for: any where the pid is 0 or -1
 abbrev pub asked : ℕ → Option ℕ
-asked pid = if (pid == 0) || (pid == 2 ^ 32 - 1) then None else Some pid
+asked pid = if (pid == 0) || (pid == ANY_CHILD) then None else Some pid
 
 -- the status word of an end: an exit code is its second byte, a signal its first
 abbrev pub status_of : End → ℕ

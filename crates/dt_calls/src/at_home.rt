@@ -1,7 +1,6 @@
 // What is done with the machine of a process in its place: a machine is too big to be moved in each turn.
-ghost use Rattle.std.specs.Prelude.{◌≡◌, ◌≤◌, IsSome, IfSome, IsOk, IfOk};
+ghost use Rattle.std.specs.Prelude.{◌≡◌, IsSome, IfSome, IsOk, IfOk};
 ghost use Rattle.std.specs.FinMap.{get};
-ghost use Rattle.dt_base.specs.declared.limits.TheConstants.{SEGMENT_LIMIT};
 ghost use Rattle.dt_rv64.specs.Segment.{segment_of};
 ghost use Rattle.dt_calls.specs.Call.{served};
 ghost use Rattle.dt_calls.specs.Delivery.{after_delivery, forced_by};
@@ -22,8 +21,6 @@ pub(crate) fn run_at(places: &mut Numbered<Option<Machine>>, vpid: u32) -> Resul
     requires { IsSome (get (home_of places.old) vpid) }
     ensures always { IsOk result }
     ensures run { IfOk result (RunsAt places.old places.new vpid) }
-    ensures least { IfOk result (λ seg. 1 ≤ seg.count) }
-    ensures most { IfOk result (λ seg. seg.count ≤ SEGMENT_LIMIT) }
 {
     match places.get_mut(u64::from(vpid)) {
         Some(place) => run_in(place),
@@ -62,8 +59,6 @@ fn run_in(place: &mut Option<Machine>) -> Result<Seg, NoMemory>
     ensures stays { IsSome place.new }
     ensures run { IfOk result (λ seg. IfSome place.old (λ was. IfSome place.new (λ now.
         segment_of was ≡ record { count = seg.count; stop = seg.stop; machine = now }))) }
-    ensures least { IfOk result (λ seg. 1 ≤ seg.count) }
-    ensures most { IfOk result (λ seg. seg.count ≤ SEGMENT_LIMIT) }
 {
     match place {
         Some(machine) => segment(machine),

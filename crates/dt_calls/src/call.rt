@@ -18,14 +18,14 @@ mod signals;
 mod wait;
 
 use crate::delivery::{deliver_at, forced_by};
-use crate::numbers::{
-    CLONE, EXECVE, GETEGID, GETEUID, GETGID, GETPID, GETPPID, GETTID, GETUID, KILL, MADVISE,
-    MREMAP, PRLIMIT64, RSEQ, RT_SIGACTION, RT_SIGPROCMASK, RT_SIGRETURN, SCHED_YIELD,
-    SET_ROBUST_LIST, SET_TID_ADDRESS, STATX, TGKILL, TKILL, UNAME, WAIT4,
-};
 use crate::shared::{Process, Shared};
 use dt_base::Errno;
-use dt_base::abi::{A7, BRK, EXIT, EXIT_GROUP, MMAP, MPROTECT, MUNMAP};
+use dt_base::abi::{
+    A7, BRK, CLONE, EXECVE, EXIT, EXIT_GROUP, GETEGID, GETEUID, GETGID, GETPID, GETPPID, GETTID,
+    GETUID, KILL, MADVISE, MMAP, MPROTECT, MREMAP, MUNMAP, PRLIMIT64, RSEQ, RT_SIGACTION,
+    RT_SIGPROCMASK, RT_SIGRETURN, SCHED_YIELD, SET_ROBUST_LIST, SET_TID_ADDRESS, STATX, TGKILL,
+    TKILL, UNAME, WAIT4,
+};
 use dt_host::{Host, HostErr};
 use dt_rv64::{Machine, Stop};
 pub use effect::{Effect, Outcome};
@@ -81,7 +81,6 @@ fn serve_stop<H: Host>(
     }
 }
 
-// Serves a call.
 #[tactic(auto, unfolding(crate::specs::Call::call_of))]
 fn call<H: Host>(
     alloc: Global,

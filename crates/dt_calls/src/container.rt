@@ -1,5 +1,5 @@
 // A container.
-ghost use Rattle.std.specs.Prelude.{◌≡◌, ◌≤◌, [], None, Some, IsSome, IsOk, IfOk, IsErrOf};
+ghost use Rattle.std.specs.Prelude.{◌≡◌, [], None, Some, IsSome, IsOk, IfOk, IsErrOf};
 ghost use Rattle.std.specs.FinMap.{get, insert, remove};
 ghost use Rattle.dt_host.specs.Cause.{HasCause};
 ghost use Rattle.dt_host.specs.World.{IsEmptyStart};
@@ -7,7 +7,6 @@ ghost use Rattle.dt_procs.specs.Table.{members_of};
 ghost use Rattle.dt_procs.specs.Members.{end_of};
 ghost use Rattle.dt_rv64.specs.declared.segments.Stop.TheVariants.{Call as a_call};
 ghost use Rattle.dt_tree.specs.ImageTree.{image_tree};
-ghost use Rattle.dt_base.specs.declared.limits.TheConstants.{SEGMENT_LIMIT};
 ghost use Rattle.dt_calls.specs.AtHome.{RunsAt};
 ghost use Rattle.dt_calls.specs.Container.{first_container};
 ghost use Rattle.dt_calls.specs.Launch.{launch};
@@ -171,8 +170,6 @@ impl Container {
         ensures always { IsOk result }
         ensures run { IfOk result (RunsAt self.old.places self.new.places vpid) }
         ensures rest { self.new ≡ record self.old { places = self.new.places } }
-        ensures least { IfOk result (λ seg. 1 ≤ seg.count) }
-        ensures most { IfOk result (λ seg. seg.count ≤ SEGMENT_LIMIT) }
     {
         run_at(&mut self.places, vpid)
     }

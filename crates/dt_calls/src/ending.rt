@@ -8,10 +8,10 @@ ghost use Rattle.dt_calls.specs.InCode.{shared_of};
 ghost use Rattle.dt_calls.specs.Sound.{IsSound};
 
 use crate::shared::Shared;
+use dt_base::abi::{SIGCHLD, SIGKILL};
 use dt_base::{End, Event, NoMemory};
 use dt_host::{Host, HostErr};
 use dt_procs::FIRST_PID;
-use dt_signals::numbers::{SIGCHLD, SIGKILL};
 
 impl Shared {
     /// Ends a process, and after the first one all others that live: what each has open is closed, it holds its working
@@ -49,7 +49,6 @@ impl Shared {
         Ok(())
     }
 
-    // Ends one process.
     #[tactic(auto, unfolding(crate::specs::Settle::ends_one))]
     fn end_one<H: Host>(&mut self, host: &mut H, vpid: u32, end: End) -> Result<(), HostErr>
         requires sound { IsSound self.old (H.view host.old) }

@@ -2,7 +2,7 @@
 ghost use Rattle.std.specs.Prelude.{◌≡◌, ◌≤◌, Some, IsSome};
 ghost use Rattle.std.specs.FinMap.{get, insert};
 ghost use Rattle.dt_signals.specs.Signals.{after_exec};
-ghost use Rattle.dt_signals.specs.declared.numbers.TheConstants.{SIGNAL_LIMIT};
+ghost use Rattle.dt_base.specs.declared.abi.TheConstants.{SIGNAL_LIMIT};
 ghost use Rattle.dt_calls.specs.Container.{raised_at, signals_in};
 ghost use Rattle.dt_calls.specs.FileCalls.{signals_after};
 ghost use Rattle.dt_calls.specs.Sound.{StillSignalled};

@@ -140,9 +140,9 @@ listed-whole w1 w2 w3 w4 w5 w6 args env rest count e1 e2 e3 e4 e5 e6 = rw (e6, e
 
 pub laid-whole : (zeros both resized whole words text : List ℕ) (pointer start len : ℕ) → STACK_START ≤ pointer → pointer + 8 * length words ≤ start → zeros ≡ replicate (pointer - STACK_START) 0 → both ≡ zeros ++ word_bytes words → length both ≡ len → resized ≡ take (start - STACK_START) both ++ replicate (start - STACK_START - len) 0 → whole ≡ resized ++ text → whole ≡ laid_out pointer words start text
 laid-whole zeros both resized whole words text pointer start len above apart zeros_are both_are len_is resized_is whole_is =
-    let front = ap length zeros_are ∙ length-replicate (pointer - STACK_START) 0 in
+    let prefix_length = ap length zeros_are ∙ length-replicate (pointer - STACK_START) 0 in
     let long = ap length both_are ∙ length-append zeros (word_bytes words) in
     let back = length-word_bytes words in
-    let all : take (start - STACK_START) both ≡ both = take_all (start - STACK_START) both (omega (arith, front, long, back)) in
-    let gap : start - STACK_START - len ≡ start - (pointer + 8 * length words) = omega (arith, front, long, back, len_is) in
+    let all : take (start - STACK_START) both ≡ both = take_all (start - STACK_START) both (omega (arith, prefix_length, long, back)) in
+    let gap : start - STACK_START - len ≡ start - (pointer + 8 * length words) = omega (arith, prefix_length, long, back, len_is) in
     rw (whole_is, resized_is, all, gap, both_are, zeros_are) refl

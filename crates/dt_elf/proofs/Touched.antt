@@ -44,19 +44,19 @@ within-take bytes from count k lt = get_or-take count (drop from bytes) k 0 lt �
 
 get-inside : (old bytes : List ℕ) (offset i : ℕ) → offset + length bytes ≤ length old → offset ≤ i → i < offset + length bytes → get_or (overwritten old offset bytes) i 0 ≡ get_or bytes (i - offset) 0
 get-inside old bytes offset i fits low high =
-    let front : length (take offset old) ≡ offset = length-take-le offset old (omega arith) in
-    rw append_assoc (get_or-append_right (take offset old) (bytes ++ drop (offset + length bytes) old) offset i 0 front low ∙ get_or_append_left bytes (drop (offset + length bytes) old) 0 (i - offset) (omega arith))
+    let prefix_length : length (take offset old) ≡ offset = length-take-le offset old (omega arith) in
+    rw append_assoc (get_or-append_right (take offset old) (bytes ++ drop (offset + length bytes) old) offset i 0 prefix_length low ∙ get_or_append_left bytes (drop (offset + length bytes) old) 0 (i - offset) (omega arith))
 
 get-under : (old bytes : List ℕ) (offset i : ℕ) → offset + length bytes ≤ length old → i < offset → get_or (overwritten old offset bytes) i 0 ≡ get_or old i 0
 get-under old bytes offset i fits under =
-    let front : length (take offset old) ≡ offset = length-take-le offset old (omega arith) in
+    let prefix_length : length (take offset old) ≡ offset = length-take-le offset old (omega arith) in
     rw append_assoc (get_or_append_left (take offset old) (bytes ++ drop (offset + length bytes) old) 0 i (omega arith) ∙ get_or-take offset old i 0 under)
 
 get-over : (old bytes : List ℕ) (offset i : ℕ) → offset + length bytes ≤ length old → offset + length bytes ≤ i → get_or (overwritten old offset bytes) i 0 ≡ get_or old i 0
 get-over old bytes offset i fits over =
-    let front : length (take offset old) ≡ offset = length-take-le offset old (omega arith) in
+    let prefix_length : length (take offset old) ≡ offset = length-take-le offset old (omega arith) in
     let place : offset + length bytes + (i - offset - length bytes) ≡ i = omega arith in
-    rw append_assoc (get_or-append_right (take offset old) (bytes ++ drop (offset + length bytes) old) offset i 0 front (omega arith)
+    rw append_assoc (get_or-append_right (take offset old) (bytes ++ drop (offset + length bytes) old) offset i 0 prefix_length (omega arith)
     ∙ get_or-append_right bytes (drop (offset + length bytes) old) (length bytes) (i - offset) 0 refl (omega arith)
     ∙ get_or-drop (offset + length bytes) old (i - offset - length bytes) 0
     ∙ rw place refl)

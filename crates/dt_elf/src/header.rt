@@ -51,7 +51,6 @@ impl ProgramHeader {
         self.kind == PT_INTERP
     }
 
-    /// Its segment.
     pub(crate) fn segment(&self) -> Segment
         ensures { result ≡ segment_of self.now }
     {

@@ -75,7 +75,6 @@ fn page_rights(segments: &[Segment], number: u64) -> u8
     rights
 }
 
-// A page's bytes.
 fn page_bytes(segments: &[Segment], bytes: &[u8], number: u64) -> [u8; 4096]
     requires placed { ArePlaced bytes.now segments.now }
     requires within { number < SEGMENT_PAGES_END }

@@ -80,7 +80,7 @@ fn aligned(address: u64) -> u64
     address / STACK_ALIGN * STACK_ALIGN
 }
 
-// The strings.
+// The strings that the words of the stack point to.
 fn strings(
     alloc: Global,
     command: &Command,
@@ -158,7 +158,6 @@ fn push_addresses(list: &mut Vec<u64>, words: &[Blob], address: u64) -> Result<u
     Ok(next)
 }
 
-// The auxiliary vector.
 fn auxiliary(elf: &Elf, headers: u16, start: u64) -> [u64; 28]
     requires { start ≤ STACK_TOP }
     ensures { result ≡ auxiliary (executable elf.now) headers start }

@@ -1,40 +1,22 @@
 -- Texts of which no byte is 0.
-use Rattle.std.proofs.Common.{◌≡◌, ℕ, ◌+◌, ◌%◌, ◌^◌, ◌≤◌, suc, zero, Bool, true, false, List, [], ◌∷◌, ◌++◌, length, take, drop, Option, Some, None, Result, Ok, Err, refl, sym, ap, subst, ◌∙◌, arith}
+use Rattle.std.proofs.Common.{◌≡◌, ℕ, ◌+◌, ◌≤◌, suc, Bool, true, false, List, [], ◌∷◌, ◌++◌, length, take, drop, Option, Some, None, Result, Ok, Err, refl, sym, ap, subst, ◌∙◌, arith}
 use Rattle.std.specs.Prelude.{IsTrue, IfOk, IfSome, ◌==◌, ◌&&◌, ◌||◌, not, nat_lt, if◌then◌else◌}
 use Rattle.std.specs.List.{list_all, position_or_len, prefix_len}
 use Rattle.std.specs.Option.{option_to_list}
-use Rattle.std.proofs.lemmas.Bool.Decides.{nat_tests}
 use Rattle.std.proofs.lemmas.List.{take-append-drop}
 use Rattle.std.proofs.lemmas.List.Folds.{list_all-append}
 use Rattle.dt_base.specs.Path.{has_no_nul}
-use Rattle.dt_space.specs.Space.{PageView, byte_at}
-use Rattle.dt_space.specs.Text.{text_from, text_at}
+use Rattle.dt_space.specs.Space.{PageView}
+use Rattle.dt_space.specs.Text.{text_at}
 use Rattle.dt_space.specs.declared.access.TextErr.{TextErr}
 use Rattle.dt_space.specs.declared.access.TextErr.TheVariants as text_err
-use Rattle.dt_space.specs.declared.access.TheConstants.{READ}
+use Rattle.dt_space.proofs.Texts.{text_no_nul, text_short}
 use Rattle.dt_exec.specs.declared.limits.TheConstants.{SCRIPT_LINE_LIMIT}
 use Rattle.dt_exec.specs.declared.script.Script.{Script}
 use Rattle.dt_base.specs.declared.errno.Errno.TheVariants.{NameTooLong}
 use Rattle.dt_base.specs.declared.limits.TheConstants.{PATH_LIMIT}
 use Rattle.dt_exec.specs.Arguments.{text_or, not_empty, path_argument}
 use Rattle.dt_exec.specs.Script.{HasNoNul, is_blank, blanks_skipped, blanks_cut, some_word, script_named, script_by, script_args}
-
-one_more : (byte : ℕ) (rest : List ℕ) → IsTrue (has_no_nul rest) → IsTrue (has_no_nul (suc byte ∷ rest))
-one_more byte rest is = grind (arith, nat_tests)
-
-from_no_nul : (address : ℕ) (byte : Option ℕ) (rest : Result (List ℕ) TextErr) → ((text : List ℕ) → rest ≡ Ok text → IsTrue (has_no_nul text)) → (text : List ℕ) → text_from address byte rest ≡ Ok text → IsTrue (has_no_nul text)
-from_no_nul address None rest more text is = cc
-from_no_nul address (Some zero) rest more text is = let same : [] ≡ text = cc in subst (λ t. IsTrue (has_no_nul t)) same refl
-from_no_nul address (Some (suc byte)) (Ok rest) more text is =
-    let same : (suc byte ∷ rest) ≡ text = cc in subst (λ t. IsTrue (has_no_nul t)) same (one_more byte rest (more rest refl))
-from_no_nul address (Some (suc byte)) (Err error) more text is = cc
-
--- a text that was read from memory has no NUL
-pub text_no_nul : (pages : List PageView) (address max : ℕ) (text : List ℕ) → text_at pages address max ≡ Ok text → IsTrue (has_no_nul text)
-unfolding text_at
-text_no_nul pages address zero text is = cc
-text_no_nul pages address (suc max) text is =
-    from_no_nul address (byte_at pages READ address) (text_at pages ((address + 1) % 2 ^ 64) max) (λ t. text_no_nul pages ((address + 1) % 2 ^ 64) max t) text is
 
 both : (a b : Bool) → IsTrue (a && b) → IsTrue a × IsTrue b
 both true true is = (refl, refl)
@@ -117,22 +99,6 @@ args-no_nul s path args own clean all =
     each (has_no_nul s.interpreter) _ own.interpreter
     (all-append has_no_nul (option_to_list s.argument) (path ∷ drop 1 args) own.argument
     (each (has_no_nul path) _ clean (all-drop has_no_nul 1 args all)))
-
-from_short : (address max : ℕ) (byte : Option ℕ) (rest : Result (List ℕ) TextErr) → ((text : List ℕ) → rest ≡ Ok text → length text + 1 ≤ max) → (text : List ℕ) → text_from address byte rest ≡ Ok text → length text ≤ max
-from_short address max None rest more text is = cc
-from_short address max (Some zero) rest more text is = let same : [] ≡ text = cc in subst (λ t. length t ≤ max) same (omega arith)
-from_short address max (Some (suc byte)) (Ok rest) more text is =
-    let same : (suc byte ∷ rest) ≡ text = cc in let short : length rest + 1 ≤ max = more rest refl in
-    subst (λ t. length t ≤ max) same (omega arith)
-from_short address max (Some (suc byte)) (Err error) more text is = cc
-
--- a text is shorter than the bytes among which its NUL was looked for
-text_short : (pages : List PageView) (address max : ℕ) (text : List ℕ) → text_at pages address max ≡ Ok text → length text + 1 ≤ max
-unfolding text_at
-text_short pages address zero text is = cc
-text_short pages address (suc max) text is =
-    let short = from_short address max (byte_at pages READ address) (text_at pages ((address + 1) % 2 ^ 64) max) (λ t. text_short pages ((address + 1) % 2 ^ 64) max t) text is in
-    omega arith
 
 path_read : (found : Result (List ℕ) TextErr) (text : List ℕ) → Ok text ≡ not_empty (text_or NameTooLong found) → found ≡ Ok text
 path_read (Ok []) text is = cc

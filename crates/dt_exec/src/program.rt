@@ -95,7 +95,6 @@ fn argv0(args: &[Blob]) -> &Blob
     &args[0]
 }
 
-// The program at a path.
 #[tactic(auto, unfolding(crate::specs::Program::program_at))]
 fn program_at<H: Host>(
     alloc: Global,

@@ -1,4 +1,4 @@
-pub mod Texts
+pub mod Targets
 pub mod Filled
 pub mod Drawn
 pub mod Kept

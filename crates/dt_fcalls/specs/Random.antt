@@ -6,7 +6,7 @@ use Rattle.dt_space.specs.declared.access.Miss.{Miss}
 use Rattle.dt_space.specs.Space.{PageView}
 use Rattle.dt_space.specs.Write.{stored}
 use Rattle.dt_virt.specs.Words.{drawn, rest_after}
-use Rattle.dt_fcalls.specs.declared.random.TheConstants.{GRND_ALL}
+use Rattle.dt_base.specs.declared.abi.TheConstants.{GRND_ALL}
 use Rattle.dt_scene.specs.Arguments.{argument}
 use Rattle.dt_scene.specs.Scene.{Scene, Row, refused, answers}
 

@@ -10,7 +10,8 @@ use Rattle.dt_space.specs.Space.{PageView, load, loaded_number}
 use Rattle.dt_space.specs.Write.{stored, write}
 use Rattle.dt_virt.specs.declared.clock.TheConstants.{READING_TICKS, TICK_LIMIT}
 use Rattle.dt_virt.specs.Clock.{later}
-use Rattle.dt_fcalls.specs.declared.time.TheConstants.{FIRST_SECOND, SECOND_TICKS, MICROSECOND_TICKS, CLOCK_REALTIME, CLOCK_MONOTONIC, CLOCK_REALTIME_COARSE, CLOCK_BOOTTIME, TIMER_ABSTIME, TIME_LEN, TIMEZONE_LEN}
+use Rattle.dt_base.specs.declared.abi.TheConstants.{CLOCK_REALTIME, CLOCK_MONOTONIC, CLOCK_REALTIME_COARSE, CLOCK_BOOTTIME, TIMER_ABSTIME}
+use Rattle.dt_fcalls.specs.declared.time.TheConstants.{FIRST_SECOND, SECOND_TICKS, MICROSECOND_TICKS, TIME_LEN, TIMEZONE_LEN}
 use Rattle.dt_fcalls.specs.declared.time.Timespec.{Timespec}
 use Rattle.dt_scene.specs.Arguments.{argument}
 use Rattle.dt_scene.specs.Scene.{Scene, Row, refused, answers}

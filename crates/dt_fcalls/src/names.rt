@@ -138,7 +138,7 @@ pub(crate) fn new_refusal(place: &Place) -> Option<Errno>
 /// symlinkat(2): the target, a dirfd and a path. It answers 0. The errors are those of the target's text, and of the
 /// path and its walk; then EEXIST where something is there, ENOENT where the path ends in a slash or the directory is
 /// removed, and ENOSPC where the tree is full.
-#[tactic(auto, unfolding(crate::specs::Names::symlinkat_row), using(crate::proofs::Kept::in_other_words, crate::proofs::Texts::target_good))]
+#[tactic(auto, unfolding(crate::specs::Names::symlinkat_row), using(crate::proofs::Kept::in_other_words, crate::proofs::Targets::target_good))]
 pub fn symlinkat<H: Host>(
     alloc: Global,
     fs: &mut Fs,

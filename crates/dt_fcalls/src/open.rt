@@ -148,7 +148,6 @@ fn open_dir<H: Host>(
     open_desc(fs, host, caller, space, desc, flags)
 }
 
-// Makes a file at a place.
 fn make_file<H: Host>(
     alloc: Global,
     fs: &mut Fs,

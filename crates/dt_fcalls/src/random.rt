@@ -5,15 +5,12 @@ ghost use Rattle.dt_scene.specs.Sound.{Sound, Serves, Ends, stage};
 ghost use Rattle.dt_space.specs.declared.access.TheConstants.{WRITE};
 ghost use Rattle.dt_space.specs.Space.{load};
 
-use dt_base::abi::{byte_count, low_word};
+use dt_base::abi::{GRND_ALL, byte_count, low_word};
 use dt_base::{Answer, Caller, Errno};
 use dt_host::{Host, HostErr};
 use dt_scene::Fs;
 use dt_space::Space;
 use std::alloc::Global;
-
-/// All flags of getrandom(2), which change nothing: GRND_NONBLOCK, GRND_RANDOM and GRND_INSECURE (linux/random.h).
-pub const GRND_ALL: u32 = 7;
 
 /// getrandom(2): fills a buffer with the next bytes of the seed's words, and answers how many these are: the length,
 /// cut to what one call moves at most. The errors are EINVAL (a flag that is none of its own) and EFAULT.

@@ -115,7 +115,6 @@ pub struct Status {
 }
 
 impl Status {
-    // The status of a node.
     fn of_node(inode: u64, meta: &Meta) -> Self
         ensures { result ≡ status_of inode meta.now }
     {
@@ -180,7 +179,7 @@ impl Status {
         put64(bytes, ST_BLOCKS, self.blocks);
     }
 
-    // Its bytes.
+    // The bytes of struct stat.
     #[tactic(auto, unfolding(crate::specs::Stat::status_bytes))]
     fn bytes(self) -> [u8; STAT_LEN]
         ensures { result ≡ status_bytes self }

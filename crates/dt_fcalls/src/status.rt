@@ -143,7 +143,6 @@ fn read_link<H: Host>(
     tell_target(fs, host, caller, space, args, n)
 }
 
-// Tells the target of a node.
 #[tactic(auto, using(crate::proofs::Kept::after_asking))]
 fn tell_target<H: Host>(
     fs: &Fs,

@@ -7,7 +7,9 @@ ghost use Rattle.dt_fcalls.specs.Time.{with_filled, time_at, ticks_in, ticks_at,
 ghost use Rattle.dt_fcalls.specs.Time.{tells_time_of_day, clock_gettime_row, gettimeofday_row, nanosleep_row};
 ghost use Rattle.dt_fcalls.specs.Time.{clock_nanosleep_row};
 
-use dt_base::abi::low_word;
+use dt_base::abi::{
+    CLOCK_BOOTTIME, CLOCK_MONOTONIC, CLOCK_REALTIME, CLOCK_REALTIME_COARSE, TIMER_ABSTIME, low_word,
+};
 use dt_base::{Answer, Caller, Errno, put64};
 use dt_host::{Host, HostErr};
 use dt_scene::Fs;
@@ -22,21 +24,6 @@ pub const SECOND_TICKS: u64 = 1_000_000_000;
 
 /// Nanoseconds of a microsecond.
 pub const MICROSECOND_TICKS: u64 = 1_000;
-
-/// Wall time, as a clock (linux/time.h, as all clocks and flags here).
-pub const CLOCK_REALTIME: u32 = 0;
-
-/// The time since the start.
-pub const CLOCK_MONOTONIC: u32 = 1;
-
-/// Wall time, which may be read faster elsewhere.
-pub const CLOCK_REALTIME_COARSE: u32 = 5;
-
-/// The time since the start, and the last of the clocks that may be read.
-pub const CLOCK_BOOTTIME: u32 = 7;
-
-/// The flag of a sleep until a time, and not for one: the only one of clock_nanosleep(2).
-pub const TIMER_ABSTIME: u32 = 1;
 
 /// Bytes of `struct timespec` and of `struct timeval`: 8 of seconds, 8 of their part.
 pub const TIME_LEN: usize = 16;

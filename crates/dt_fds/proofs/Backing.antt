@@ -1,14 +1,15 @@
 -- The tree backs the descriptions: what this gives, and how it lasts.
 use Rattle.std.proofs.Common.{arith, ◌≡◌, ℕ, ◌+◌, ◌<◌, ◌≤◌, ◌==◌, Bool, true, false, cond, Option, None, Some, refl, sym, ap, subst, ◌∙◌}
 use Rattle.std.proofs.lemmas.Bool.Decides.{nat_tests}
-use Rattle.std.specs.Prelude.{IfSome, IsSome, option_and_then, option_map, slice_set}
+use Rattle.std.specs.Prelude.{IfSome, IsSome, option_map, slice_set}
 use Rattle.std.specs.Cmp.{nat_cmp_total}
 use Rattle.std.specs.FinMap.{get, remove, nat_cmp-IsAntisymmetric}
-use Rattle.dt_host.specs.World.{Forest, Node, node_at, IsFile, IsDir, IsLive, file_bytes}
+use Rattle.dt_host.specs.World.{Forest, IsFile, IsDir, IsLive}
 use Rattle.dt_host.proofs.Maps.{at_insert, at_remove, get-insert_other, get-remove_other}
-use Rattle.dt_host.proofs.Spots.{IsLive-IsDir}
+use Rattle.dt_host.proofs.Spots.{IsLive-IsDir, IsLive-IsFile}
 use Rattle.dt_host.proofs.Totals.{total-insert, total-remove}
 use Rattle.dt_host.specs.Total.{total, weight}
+use Rattle.dt_tree.proofs.Namings.{one_for-same}
 use Rattle.dt_tree.specs.FileTree.{FileTree, IsTree, holds_of}
 use Rattle.dt_tree.specs.Shape.{one_for}
 use Rattle.dt_tree.specs.Changes.{held, put_back}
@@ -22,10 +23,6 @@ use Rattle.dt_fds.specs.Pipes.{Pipes, without_pipe}
 use Rattle.dt_fds.specs.Descriptions.{Descriptions, Table, inode_of, pipe_of, read_pipe, write_pipe, named_by, readers, writers, descriptors_of, table_of, with_slot, with_table, with_new, opened, swept, freed, gone, with_description, forgotten}
 use Rattle.dt_fds.specs.Holding.{Holding, over, with_hold, without_hold, let_go, without_end, ended, left}
 use Rattle.dt_fds.specs.Backs.{descriptions_of, IsIn, AllIn, AllEnds, Backs, KeepsNodes, KeepsOthers}
-
--- a node counts itself once
-one_here : (n : ℕ) → one_for n n ≡ 1
-one_here n = grind (arith, nat_tests)
 
 abbrev names_node : ℕ → Desc → ℕ
 names_node n desc = named_by n (inode_of desc.kind)
@@ -70,7 +67,7 @@ gone-held f t k h =
   where
     by_node : (node : Option ℕ) → ((n : ℕ) → named_by n node ≤ descriptions_of f n) → IfSome node (λ n. 0 < holds_of t n)
     by_node None c = tt
-    by_node (Some n) c = let one = one_here n in omega (arith, c n, h.enough n)
+    by_node (Some n) c = let one = one_for-same n in omega (arith, c n, h.enough n)
 
     by_found : (found : Option Desc) → ((n : ℕ) → weight (names_node n) found ≤ descriptions_of f n) → IfSome found (λ desc. IfSome (inode_of desc.kind) (λ n. 0 < holds_of t n))
     by_found None c = tt
@@ -106,7 +103,7 @@ in-kept f t u enough kept h = λ k. by_found (get f.descs k) (named f k) (h k)
   where
     by_node : (node : Option ℕ) → ((n : ℕ) → named_by n node ≤ descriptions_of f n) → IfSome node (λ n. 1 ≤ holds_of u n)
     by_node None c = tt
-    by_node (Some n) c = let one = one_here n in omega (arith, c n, enough n)
+    by_node (Some n) c = let one = one_for-same n in omega (arith, c n, enough n)
 
     by_found : (found : Option Desc) → ((n : ℕ) → weight (names_node n) found ≤ descriptions_of f n) → IfSome found (λ desc. IsIn t.shape desc.kind) → IfSome found (λ desc. IsIn u.shape desc.kind)
     by_found None c is = tt
@@ -147,8 +144,8 @@ end-counted f k q = by_found (get f.descs k) refl
             → IfSome (pipe_of kind) (λ r. r ≡ q → 0 < total (names_read q) f.descs + total (names_written q) f.descs)
         by_kind (File n) a b = tt
         by_kind (Dir n) a b = tt
-        by_kind (PipeRead r) a b = λ is. let one : one_for r q ≡ 1 = subst (λ x. one_for r x ≡ 1) is (one_here r) in omega arith
-        by_kind (PipeWrite r) a b = λ is. let one : one_for r q ≡ 1 = subst (λ x. one_for r x ≡ 1) is (one_here r) in omega arith
+        by_kind (PipeRead r) a b = λ is. let one : one_for r q ≡ 1 = subst (λ x. one_for r x ≡ 1) is (one_for-same r) in omega arith
+        by_kind (PipeWrite r) a b = λ is. let one : one_for r q ≡ 1 = subst (λ x. one_for r x ≡ 1) is (one_for-same r) in omega arith
         by_kind Input a b = tt
         by_kind (Stream stream) a b = tt
 
@@ -327,13 +324,6 @@ pub both : {m n : Pipes} (f g : Descriptions) (t u : FileTree) → f ≡ g → m
 both f g t u p r q = λ i. record { files = p i; pipes = r i; tree = q i }
 
 -- what is there is live
-IsLive-IsFile : (v : Forest) (n : ℕ) → IsFile v n → IsLive v n
-IsLive-IsFile v n is = by_node (node_at v n) is
-  where
-    by_node : (found : Option Node) → IsSome (option_and_then file_bytes found) → IsSome found
-    by_node None is = is
-    by_node (Some node) is = refl
-
 pub live-in : (v : Forest) (kind : DescKind) → IsIn v kind → IfSome (inode_of kind) (λ n. IsLive v n)
 live-in v (File n) is = IsLive-IsFile v n is
 live-in v (Dir n) is = IsLive-IsDir v n is

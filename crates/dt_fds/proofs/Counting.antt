@@ -44,7 +44,7 @@ length_in tables p sized there = by_found (get tables p) (sized p) there
     by_found None h there = cc
     by_found (Some table) h there = h
 
--- a place of a table changed: what it referred to is counted less, what it refers to more
+-- a slot of a table changed: what it referred to is counted less, what it refers to more
 pub count-set : (tables : Tables) (p fd : ℕ) (slot : Option Slot) (k : ℕ) → IsSome (get tables p) → fd < length (table_in tables p)
     → count (insert tables p (slice_set (table_in tables p) fd slot)) k + refers k (option_flatten (slice_get (table_in tables p) fd)) ≡ count tables k + refers k slot
 count-set tables p fd slot k there within =

@@ -78,11 +78,11 @@ names-none number p = λ n. total-empty nat_cmp_total (λ (desc : Desc). named_b
 -- one that names none more
 names-lowest : (number : DescKind → Option ℕ) (p : ℕ) (desc : Desc) (f : Descriptions) → number desc.kind ≡ None → NamesNone number f → NamesNone number (opened_lowest p desc f)
 unfolding opened_lowest with_slot with_new
-names-lowest number p desc f of_none h n = by_place (lowest_free (table_of f p) 0)
+names-lowest number p desc f of_none h n = by_free (lowest_free (table_of f p) 0)
   where
-    by_place : (place : Option ℕ) → (let g = opened_at f p desc place in total (λ (desc : Desc). named_by n (number desc.kind)) g.descs ≡ 0)
-    by_place None = h n
-    by_place (Some fd) =
+    by_free : (free : Option ℕ) → (let g = opened_at f p desc free in total (λ (desc : Desc). named_by n (number desc.kind)) g.descs ≡ 0)
+    by_free None = h n
+    by_free (Some fd) =
         let sum = total-insert nat_cmp_total (λ (desc : Desc). named_by n (number desc.kind)) f.descs f.next desc in
         let none = ap (named_by n) of_none in
         omega (arith, h n)
@@ -109,11 +109,11 @@ ends-none pipes p k = subst (λ (found : Option Desc). IfSome found (λ desc. If
 
 ends-lowest : (pipes : Pipes) (p : ℕ) (desc : Desc) (f : Descriptions) → IfSome (pipe_of desc.kind) (λ q. IsSome (get pipes.contents q)) → AllEnds pipes f → AllEnds pipes (opened_lowest p desc f)
 unfolding opened_lowest with_slot with_new
-ends-lowest pipes p desc f there h = by_place (lowest_free (table_of f p) 0)
+ends-lowest pipes p desc f there h = by_free (lowest_free (table_of f p) 0)
   where
-    by_place : (place : Option ℕ) → AllEnds pipes (opened_at f p desc place)
-    by_place None = h
-    by_place (Some fd) = λ k. at_insert nat_cmp_total nat_cmp-IsAntisymmetric (λ found. IfSome found (λ desc. IfSome (pipe_of desc.kind) (λ q. IsSome (get pipes.contents q)))) f.descs f.next desc k (λ _. there) (λ apart. h k)
+    by_free : (free : Option ℕ) → AllEnds pipes (opened_at f p desc free)
+    by_free None = h
+    by_free (Some fd) = λ k. at_insert nat_cmp_total nat_cmp-IsAntisymmetric (λ found. IfSome found (λ desc. IfSome (pipe_of desc.kind) (λ q. IsSome (get pipes.contents q)))) f.descs f.next desc k (λ _. there) (λ apart. h k)
 
 pub ends-first_files : (pipes : Pipes) (p : ℕ) → AllEnds pipes (first_files p)
 unfolding first_files
@@ -124,11 +124,11 @@ in-none v p k = subst (λ (found : Option Desc). IfSome found (λ desc. IsIn v d
 
 in-lowest : (v : Forest) (p : ℕ) (desc : Desc) (f : Descriptions) → IsIn v desc.kind → AllIn v f → AllIn v (opened_lowest p desc f)
 unfolding opened_lowest with_slot with_new
-in-lowest v p desc f is h = by_place (lowest_free (table_of f p) 0)
+in-lowest v p desc f is h = by_free (lowest_free (table_of f p) 0)
   where
-    by_place : (place : Option ℕ) → AllIn v (opened_at f p desc place)
-    by_place None = h
-    by_place (Some fd) = λ k. at_insert nat_cmp_total nat_cmp-IsAntisymmetric (λ found. IfSome found (λ desc. IsIn v desc.kind)) f.descs f.next desc k (λ _. is) (λ apart. h k)
+    by_free : (free : Option ℕ) → AllIn v (opened_at f p desc free)
+    by_free None = h
+    by_free (Some fd) = λ k. at_insert nat_cmp_total nat_cmp-IsAntisymmetric (λ found. IfSome found (λ desc. IsIn v desc.kind)) f.descs f.next desc k (λ _. is) (λ apart. h k)
 
 pub in-first_files : (v : Forest) (p : ℕ) → AllIn v (first_files p)
 unfolding first_files

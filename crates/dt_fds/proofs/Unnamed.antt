@@ -1,13 +1,15 @@
 -- Where no value of a map counts, the sum over it is 0.
-use Rattle.std.proofs.Common.{arith, ◌≡◌, ℕ, ◌==◌, cond, true, false, Bool, ◌&&◌, List, [], ◌∷◌, Option, Some, None, refl, sym, ap, subst, ◌∙◌}
+use Rattle.std.proofs.Common.{arith, ◌≡◌, ℕ, ◌==◌, cond, true, false, Bool, List, [], ◌∷◌, Option, Some, None, refl, sym, ap, subst, ◌∙◌}
 use Rattle.std.proofs.lemmas.Bool.Decides.{nat_tests}
 use Rattle.std.specs.Prelude.{T, IfSome, IsSome, is_some}
 use Rattle.std.specs.declared.cmp.Ordering.{Ordering}
 use Rattle.std.specs.declared.cmp.Ordering.TheVariants.{Less, Equal, Greater}
-use Rattle.std.specs.Ordering.{is_eq, is_lt, ordering_reverse}
+use Rattle.std.specs.Ordering.{is_eq, ordering_reverse}
 use Rattle.std.specs.Cmp.{IsTotalOrder, nat_cmp_total}
 use Rattle.std.specs.FinMap.{FinMap, entries, entries_sorted, get, get-entries}
 use Rattle.std.specs.FinMap.Entries.{find, below_all, is_sorted}
+use Rattle.dt_host.proofs.Conjuncts.{first, second}
+use Rattle.dt_host.proofs.Sorted.{below-tie, not_found}
 use Rattle.dt_host.specs.Total.{total_in, total, weight}
 use Rattle.dt_fds.specs.declared.desc.Desc.{Desc}
 use Rattle.dt_fds.specs.declared.desc.DescKind.{DescKind}
@@ -22,43 +24,17 @@ module _ {K X : Type 0} {R : K → K → Ordering} (o : IsTotalOrder R) (g : X �
   itself Equal e = refl
   itself Greater e = cc
 
-  and_first : (a b : Bool) → T (a && b) → T a
-  and_first true b p = tt
-  and_first false b p = p
-
-  and_second : (a b : Bool) → T (a && b) → T b
-  and_second true b p = p
-  and_second false b p = absurd p
-
-  -- a key that stands below all is not among them
-  absent : (q : K) (es : List (K × X)) → T (below_all R q es) → find R q es ≡ None
-  absent q [] h = refl
-  absent q (e ∷ es) h = ap (λ b. cond b (Some e.1) (find R q es)) (apart _ (and_first _ _ h)) ∙ absent q es (and_second _ _ h)
-    where
-      apart : (r : Ordering) → T (is_lt r) → is_eq r ≡ false
-      apart Less p = refl
-      apart Equal p = absurd p
-      apart Greater p = absurd p
-
-  tied : (x y : K) (es : List (K × X)) → R x y ≡ Equal → T (below_all R y es) → T (below_all R x es)
-  tied x y [] p h = tt
-  tied x y (e ∷ es) p h = pair _ _ (subst (λ r. T (is_lt r)) (sym (o.congr x y e.0 p)) (and_first _ _ h)) (tied x y es p (and_second _ _ h))
-    where
-      pair : (a b : Bool) → T a → T b → T (a && b)
-      pair true b p q = q
-      pair false b p q = absurd p
-
   none_in : (es : List (K × X)) → T (is_sorted R es) → ((k : K) → weight g (find R k es) ≡ 0) → total_in g es ≡ 0
   none_in [] s h = refl
   none_in (e ∷ es) s h =
       let here : g e.1 ≡ 0 = sym (ap (λ b. weight g (cond b (Some e.1) (find R e.0 es))) (itself (R e.0 e.0) (o.antisymm e.0 e.0))) ∙ h e.0 in
-      let rest : total_in g es ≡ 0 = none_in es (and_second (below_all R e.0 es) (is_sorted R es) s) (λ k. by_tie k (R k e.0) refl (h k)) in
+      let rest : total_in g es ≡ 0 = none_in es (second (below_all R e.0 es) (is_sorted R es) s) (λ k. by_tie k (R k e.0) refl (h k)) in
       omega arith
     where
       by_tie : (k : K) (r : Ordering) → R k e.0 ≡ r → weight g (cond (is_eq r) (Some e.1) (find R k es)) ≡ 0 → weight g (find R k es) ≡ 0
       by_tie k Less p h = h
       by_tie k Greater p h = h
-      by_tie k Equal p h = ap (weight g) (absent k es (tied k e.0 es p (and_first (below_all R e.0 es) (is_sorted R es) s)))
+      by_tie k Equal p h = ap (weight g) (not_found R k es (below-tie o k e.0 es p (first (below_all R e.0 es) (is_sorted R es) s)))
 
   pub total-none : (m : FinMap R X) → ((k : K) → weight g (get m k) ≡ 0) → total g m ≡ 0
   unfolding total

@@ -65,7 +65,7 @@ is_of_dir (PipeWrite q) = false
 is_of_dir Input = false
 is_of_dir (Stream stream) = false
 
--- the place is one of a listing, and no offset
+-- it is a point in a listing, and no offset
 abbrev pub is_after : Spot → Bool
 is_after (At offset) = false
 is_after (After name) = true
@@ -79,11 +79,11 @@ IsKind (PipeWrite q) = Unit {0}
 IsKind Input = Unit {0}
 IsKind (Stream stream) = (1 ≤ stream) × (stream ≤ 2)
 
--- a description: its stream is 1 or 2, if it is of one; its place is a name of a listing exactly if it is of a directory; and
+-- a description: its stream is 1 or 2, if it is of one; its spot is a point in a listing exactly if it is of a directory; and
 -- its access is 0, 1 or 2
 pub record IsDesc (desc : Desc) : Type 0 where
   pub kind : IsKind desc.kind
-  pub place : is_after desc.spot ≡ is_of_dir desc.kind
+  pub spot : is_after desc.spot ≡ is_of_dir desc.kind
   pub access : desc.access ≤ 2
 
 -- a table of descriptors: at the index of each its slot, or nothing where it is free
@@ -178,9 +178,9 @@ abbrev pub changed : Descriptions → (Desc → Desc) → Option Slot → Descri
 changed f change None = f
 changed f change (Some slot) = with_description f slot.number change
 
--- a description with another place
-abbrev pub at_place : Spot → Desc → Desc
-at_place spot desc = record desc { spot = spot }
+-- a description with another offset, or at another point in its listing
+abbrev pub at_spot : Spot → Desc → Desc
+at_spot spot desc = record desc { spot = spot }
 
 -- with other flags (fcntl(2), F_SETFL)
 abbrev pub with_flags : Bool → Bool → Desc → Desc

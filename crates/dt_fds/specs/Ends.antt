@@ -15,7 +15,6 @@ abbrev pub is_written : Option Ends → Bool
 is_written None = false
 is_written (Some ends) = ends.write
 
--- one, if it is so
 abbrev pub one_if : Bool → ℕ
 one_if b = if b then 1 else 0
 

@@ -115,7 +115,7 @@ dup_of h p cloexec free (Some slot) = dup_under h p slot cloexec free
 unfoldable pub dup_call : ℕ → ℕ → ℕ → Bool → Holding → Outcome ℕ
 dup_call p fd from cloexec h = dup_of h p cloexec (lowest_free (table_of h.files p) from) (slot_at h.files p fd)
 
--- a new descriptor for what a slot refers to, in the place of one that may be open
+-- a new descriptor for what a slot refers to, instead of one that may be open
 abbrev pub dup_over : Holding → ℕ → ℕ → Bool → Option Slot → Outcome (Unit {0})
 dup_over h p new cloexec None = refused h BadF
 dup_over h p new cloexec (Some slot) =

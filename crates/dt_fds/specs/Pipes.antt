@@ -36,7 +36,6 @@ holds pipes q bytes = record pipes { contents = insert pipes.contents q bytes }
 abbrev pub with_new_pipe : Pipes → Pipes
 with_new_pipe pipes = record { contents = insert pipes.contents pipes.next []; next = pipes.next + 1 }
 
--- without a pipe
 abbrev pub without_pipe : Pipes → ℕ → Pipes
 without_pipe pipes q = record pipes { contents = remove pipes.contents q }
 

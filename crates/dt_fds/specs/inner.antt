@@ -1,3 +1,4 @@
+-- Inner words: no public clause cites these.
 pub mod Codes
 pub mod Counts
 pub mod Ends

@@ -4,7 +4,7 @@ ghost use Rattle.std.specs.FinMap.{get};
 ghost use Rattle.dt_tree.specs.FileTree.{FileTree};
 ghost use Rattle.dt_tree.specs.Calls.{UnlessFailed};
 ghost use Rattle.dt_fds.specs.declared.desc.TheConstants.{DESCRIPTOR_LIMIT};
-ghost use Rattle.dt_fds.specs.Descriptions.{slot_at, description_at, is_after, is_of_dir, changed, at_place};
+ghost use Rattle.dt_fds.specs.Descriptions.{slot_at, description_at, is_after, is_of_dir, changed, at_spot};
 ghost use Rattle.dt_fds.specs.Descriptions.{with_flags, marked, duplicated, with_copy, table_of, with_table};
 ghost use Rattle.dt_fds.specs.Descriptions.{shared_all};
 ghost use Rattle.dt_fds.specs.Pipes.{Pipes};
@@ -46,12 +46,12 @@ impl Descriptors {
         }
     }
 
-    /// Gives the open file description of a descriptor another place (lseek(2)); all that refer to it see that.
-    /// Nothing is done where the descriptor is not open.
-    pub(crate) fn set_place(&mut self, pid: u32, fd: u32, spot: Spot)
+    /// Gives the open file description of a descriptor another offset (lseek(2)), or point in its listing; all that
+    /// refer to it see that. Nothing is done where the descriptor is not open.
+    pub(crate) fn set_spot(&mut self, pid: u32, fd: u32, spot: Spot)
         requires { IfSome (description_at self.old pid fd)
             (λ desc. is_after spot ≡ is_of_dir desc.kind) }
-        ensures files { self.new ≡ changed self.old (at_place spot) (slot_at self.old pid fd) }
+        ensures files { self.new ≡ changed self.old (at_spot spot) (slot_at self.old pid fd) }
         ensures nodes { KeepsNodes pid self.old self.new }
     {
         match self.slot(pid, fd) {

@@ -8,7 +8,7 @@ ghost use Rattle.dt_fds.specs.Backs.{KeepsNodes};
 ghost use Rattle.dt_fds.specs.declared.desc.TheConstants.{DESCRIPTOR_LIMIT};
 ghost use Rattle.dt_fds.specs.Descriptions.{IsDesc, none_open, table_of, slot_at, description_at, cloexec_at};
 ghost use Rattle.dt_fds.specs.Descriptions.{lowest_free, with_slot, with_table, with_new, opened, duplicated, freed};
-ghost use Rattle.dt_fds.specs.Descriptions.{swept, gone, with_description, at_place, with_flags, is_after, is_of_dir};
+ghost use Rattle.dt_fds.specs.Descriptions.{swept, gone, with_description, at_spot, with_flags, is_after, is_of_dir};
 ghost use Rattle.dt_fds.specs.Descriptions.{forgotten};
 
 use crate::desc::{DESCRIPTOR_LIMIT, Desc, DescKind, Slot, Spot};
@@ -114,7 +114,7 @@ impl Descriptors {
         let _ = &self.descs;
     }
 
-    // A table has a place for each descriptor that may be open: nothing is done.
+    // A table has a slot for each descriptor that may be open: nothing is done.
     pub(crate) fn sized(&self, pid: u32)
         requires { IsSome (get self.now.tables pid) }
         ensures { length (table_of self.now pid) ≡ DESCRIPTOR_LIMIT }
@@ -212,16 +212,16 @@ impl Descriptors {
         }
     }
 
-    // Gives an open description another place.
+    // Gives an open description another offset, or point in its listing.
     #[tactic(auto, unfolding(crate::specs::Descriptions::with_description))]
     pub(crate) fn move_to(&mut self, number: u64, spot: Spot)
         requires living { IsSome (get self.old.descs number) }
         requires kind { IfSome (get self.old.descs number)
             (λ desc. is_after spot ≡ is_of_dir desc.kind) }
-        ensures files { self.new ≡ with_description self.old number (at_place spot) }
+        ensures files { self.new ≡ with_description self.old number (at_spot spot) }
         ensures nodes { (p : ℕ) → KeepsNodes p self.old self.new }
     {
-        put_place(&mut self.descs, number, spot);
+        put_spot(&mut self.descs, number, spot);
     }
 
     // Gives an open description other flags.
@@ -266,7 +266,7 @@ impl Descriptors {
     }
 }
 
-// Puts this at a place of a table.
+// Puts this into a table, at the index of a descriptor.
 fn put_slot(
     tables: &mut Numbered<[Option<Slot>; DESCRIPTOR_LIMIT]>,
     pid: u32,
@@ -287,10 +287,10 @@ fn put_slot(
     }
 }
 
-// Gives a description another place.
-fn put_place(descs: &mut Numbered<Desc>, n: u64, spot: Spot)
+// Gives a description another offset, or point in its listing.
+fn put_spot(descs: &mut Numbered<Desc>, n: u64, spot: Spot)
     requires { IsSome (get descs.old n) }
-    ensures { IfSome (get descs.old n) (λ old. descs.new ≡ insert descs.old n (at_place spot old)) }
+    ensures { IfSome (get descs.old n) (λ old. descs.new ≡ insert descs.old n (at_spot spot old)) }
 {
     let old = descs.swap(n, blank());
     descs.set(n, Desc { spot, ..old });

@@ -1,5 +1,6 @@
 // Which ends of a pipe are open, and what becomes of the pipe when one is closed.
-ghost use Rattle.std.specs.Prelude.{◌≡◌, ◌≢◌, ℕ, ◌+◌, true, false, None, Some, IfSome, IsSome, OnOk, IsErrOf, option_map};
+ghost use Rattle.std.specs.Prelude.{◌≡◌, ◌≢◌, ℕ, ◌+◌, true, false, None, Some};
+ghost use Rattle.std.specs.Prelude.{IfSome, IsSome, OnOk, IsErrOf, option_map};
 ghost use Rattle.std.specs.Prelude.{◌||◌, if◌then◌else◌};
 ghost use Rattle.std.specs.FinMap.{get};
 ghost use Rattle.dt_host.specs.Cause.{HasCause};

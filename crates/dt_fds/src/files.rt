@@ -6,7 +6,7 @@ ghost use Rattle.dt_tree.specs.FileTree.{FileTree};
 ghost use Rattle.dt_tree.specs.Calls.{UnlessFailed};
 ghost use Rattle.dt_fds.specs.declared.desc.TheConstants.{DESCRIPTOR_LIMIT};
 ghost use Rattle.dt_fds.specs.Descriptions.{IsDesc, table_of, slot_at, description_at, cloexec_at, lowest_free};
-ghost use Rattle.dt_fds.specs.Descriptions.{changed, at_place, with_flags, marked, is_after, is_of_dir, shared_all};
+ghost use Rattle.dt_fds.specs.Descriptions.{changed, at_spot, with_flags, marked, is_after, is_of_dir, shared_all};
 ghost use Rattle.dt_fds.specs.Pipes.{Pipes as PipesView};
 ghost use Rattle.dt_fds.specs.Holding.{over, dup_call};
 ghost use Rattle.dt_fds.specs.Backs.{KeepsNodes, Does, HasFailed};
@@ -69,16 +69,16 @@ impl Files {
         self.descriptors.dup(pid, fd, from, cloexec)
     }
 
-    /// Gives the open file description of a descriptor another place (lseek(2)); all that refer to it see that.
-    /// Nothing is done where the descriptor is not open.
-    pub fn set_place(&mut self, pid: u32, fd: u32, spot: Spot)
+    /// Gives the open file description of a descriptor another offset (lseek(2)), or point in its listing; all that
+    /// refer to it see that. Nothing is done where the descriptor is not open.
+    pub fn set_spot(&mut self, pid: u32, fd: u32, spot: Spot)
         requires { IfSome (description_at self.old.descriptors pid fd)
             (λ desc. is_after spot ≡ is_of_dir desc.kind) }
         ensures files { self.new ≡ with_descriptors self.old
-            (changed self.old.descriptors (at_place spot) (slot_at self.old.descriptors pid fd)) }
+            (changed self.old.descriptors (at_spot spot) (slot_at self.old.descriptors pid fd)) }
         ensures nodes { KeepsNodes pid self.old.descriptors self.new.descriptors }
     {
-        self.descriptors.set_place(pid, fd, spot);
+        self.descriptors.set_spot(pid, fd, spot);
     }
 
     /// Gives the open file description of a descriptor other flags (fcntl(2), F_SETFL); all that refer to it see them.

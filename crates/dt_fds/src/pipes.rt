@@ -1,5 +1,6 @@
 // Pipes: their making, and what is read from them and written to them.
-ghost use Rattle.std.specs.Prelude.{◌≡◌, ◌+◌, ◌<◌, ◌≤◌, ◌++◌, ℕ, List, None, Err, IfOk, IfSome, IsErrOf, IsSome, drop, length, take};
+ghost use Rattle.std.specs.Prelude.{◌≡◌, ◌+◌, ◌<◌, ◌≤◌, ◌++◌, ℕ, List, None, Err, IfOk};
+ghost use Rattle.std.specs.Prelude.{IfSome, IsErrOf, IsSome, drop, length, take};
 ghost use Rattle.std.specs.FinMap.{get};
 ghost use Rattle.dt_base.specs.declared.errno.Errno.{Errno};
 ghost use Rattle.dt_host.specs.Cause.{HasCause};

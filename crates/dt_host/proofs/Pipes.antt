@@ -24,7 +24,7 @@ pub with_pipe-with_pipe : (w : World) (n : ℕ) (a b : List ℕ) → with_pipe (
 with_pipe-with_pipe w n a b = ap (λ pipes. record w { pipes = pipes }) (insert_same nat_cmp_total nat_cmp-IsAntisymmetric w.pipes n a b)
 
 -- what is held, where something is
-held_some : (found : Option (List ℕ)) → IsSome found → found ≡ Some (unwrap_or found [])
+pub held_some : (found : Option (List ℕ)) → IsSome found → found ≡ Some (unwrap_or found [])
 held_some None h = cc
 held_some (Some bytes) h = refl
 

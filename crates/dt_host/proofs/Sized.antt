@@ -1,13 +1,13 @@
 -- A forest whose numbers have 64 bits, and what keeps it so.
-use Rattle.std.proofs.Common.{arith, ◌≡◌, ℕ, ◌+◌, ◌^◌, ◌<◌, ◌≤◌, List, [], ◌++◌, length, take, drop, Option, Some, None, refl, sym, subst, length-append, length-drop}
+use Rattle.std.proofs.Common.{arith, ◌≡◌, ℕ, ◌+◌, ◌^◌, ◌<◌, ◌≤◌, List, [], ◌++◌, length, take, drop, Option, Some, None, sym, subst, length-append, length-drop}
 use Rattle.std.specs.Prelude.{IsSome, option_and_then, unwrap_or}
 use Rattle.std.proofs.lemmas.List.{length-take, length-take-le}
 use Rattle.std.specs.Cmp.{nat_cmp_total}
 use Rattle.std.specs.FinMap.{empty, get-empty, nat_cmp-IsAntisymmetric}
 use Rattle.std.specs.Ordering.{nat_cmp}
-use Rattle.dt_host.specs.World.{Forest, Node, dir, file_bytes, node_at, content, with_node, without_node, with_entry, without_entry, with_bytes, empty_forest, IsDir, IsFile, IsSized}
+use Rattle.dt_host.specs.World.{Forest, Node, dir, file_bytes, content, with_node, without_node, with_entry, without_entry, with_bytes, empty_forest, IsDir, IsFile, IsSized}
 use Rattle.dt_host.proofs.Maps.{at_insert, at_remove}
-use Rattle.dt_host.proofs.Spots.{at_node, IsLive-IsDir}
+use Rattle.dt_host.proofs.Spots.{at_node, IsLive-IsDir, IsLive-IsFile}
 use Rattle.dt_base.specs.Bytes.{overwritten, padded, resized}
 
 -- one node more, under a number of 64 bits
@@ -41,11 +41,7 @@ IsSized-without_entry v d name kept is = IsSized-with_node v d _ kept (kept.numb
 -- other bytes as a file, of a size of 64 bits
 pub IsSized-with_bytes : (v : Forest) (n : ℕ) (bytes : List ℕ) → IsSized v → IsFile v n → length bytes < 2 ^ 64 → IsSized (with_bytes v n bytes)
 unfolding with_bytes
-IsSized-with_bytes v n bytes kept is short = IsSized-with_node v n _ kept (kept.numbers n (live (node_at v n) is)) short
-  where
-    live : (found : Option Node) → IsSome (option_and_then file_bytes found) → IsSome found
-    live None h = cc
-    live (Some node) h = refl
+IsSized-with_bytes v n bytes kept is short = IsSized-with_node v n _ kept (kept.numbers n (IsLive-IsFile v n is)) short
 
 -- bytes written over a file that end within 64 bits
 pub short_overwritten : (old : List ℕ) (off : ℕ) (bytes : List ℕ) → off ≤ length old → length old < 2 ^ 64 → off + length bytes < 2 ^ 64 → length (overwritten old off bytes) < 2 ^ 64

@@ -25,10 +25,18 @@ IsDir-entry v d name n e = by_node (node_at v d) e
     by_node (Some (dir names)) h = refl
     by_node (Some (link target)) h = absurd (none_there _ (get-empty (slice_cmp nat_cmp) name) h)
 
+-- a directory and a file are live
 pub IsLive-IsDir : (v : Forest) (d : ℕ) → IsDir v d → IsLive v d
 IsLive-IsDir v d h = by_node (node_at v d) h
   where
     by_node : (found : Option Node) → IsSome (option_and_then dir_names found) → IsSome found
+    by_node None h = cc
+    by_node (Some node) h = refl
+
+pub IsLive-IsFile : (v : Forest) (n : ℕ) → IsFile v n → IsLive v n
+IsLive-IsFile v n h = by_node (node_at v n) h
+  where
+    by_node : (found : Option Node) → IsSome (option_and_then file_bytes found) → IsSome found
     by_node None h = cc
     by_node (Some node) h = refl
 

@@ -1,56 +1,24 @@
 -- The sum over a map's values, after a change of the map.
-use Rattle.std.proofs.Common.{arith, ◌≡◌, ℕ, ◌+◌, cond, true, false, Bool, ◌&&◌, List, [], ◌∷◌, length, Option, Some, None, refl, sym, ap, subst, ◌∙◌}
+use Rattle.std.proofs.Common.{arith, ◌≡◌, ℕ, ◌+◌, cond, List, [], ◌∷◌, length, Option, Some, None, refl, sym, ap, ◌∙◌}
 use Rattle.std.specs.Prelude.{T}
 use Rattle.std.specs.declared.cmp.Ordering.{Ordering}
 use Rattle.std.specs.declared.cmp.Ordering.TheVariants.{Less, Equal, Greater}
-use Rattle.std.specs.Ordering.{is_eq, is_lt}
+use Rattle.std.specs.Ordering.{is_eq}
 use Rattle.std.specs.Cmp.{IsTotalOrder}
 use Rattle.std.specs.FinMap.{FinMap, entries, entries_sorted, empty, get, insert, remove, get-entries, entries-insert, len-entries, len-empty, same_map, IsAntisymmetric}
 use Rattle.std.specs.FinMap.Entries.{find, put, by_order, below_all, is_sorted}
+use Rattle.dt_host.proofs.Conjuncts.{first, second}
+use Rattle.dt_host.proofs.Sorted.{below-less, not_found}
 use Rattle.dt_host.proofs.Maps.{get-remove_same, get-remove_other, at_insert, remove_none}
 use Rattle.dt_host.specs.Total.{total_in, total, weight}
 
 module _ {K X : Type 0} {R : K → K → Ordering} (o : IsTotalOrder R) (g : X → ℕ) where
-  first : (a b : Bool) → T (a && b) → T a
-  first true b p = tt
-  first false b p = p
-
-  second : (a b : Bool) → T (a && b) → T b
-  second true b p = p
-  second false b p = absurd p
-
-  lower : (r : Ordering) → T (is_lt r) → is_eq r ≡ false
-  lower Less p = refl
-  lower Equal p = absurd p
-  lower Greater p = absurd p
-
-  less : (r : Ordering) → T (is_lt r) → r ≡ Less
-  less Less p = refl
-  less Equal p = absurd p
-  less Greater p = absurd p
-
-  both : (a b : Bool) → T a → T b → T (a && b)
-  both true b p q = q
-  both false b p q = absurd p
-
-  below : (x y : K) (es : List (K × X)) → R x y ≡ Less → T (below_all R y es) → T (below_all R x es)
-  below x y [] p h = tt
-  below x y (e ∷ es) p h = both _ _ (subst (λ r. T (is_lt r)) (sym (o.trans x y e.0 p (less _ (first _ _ h)))) tt) (below x y es p (second _ _ h))
-
-  below_tie : (x y : K) (es : List (K × X)) → R x y ≡ Equal → T (below_all R y es) → T (below_all R x es)
-  below_tie x y [] p h = tt
-  below_tie x y (e ∷ es) p h = both _ _ (subst (λ r. T (is_lt r)) (sym (o.congr x y e.0 p)) (first _ _ h)) (below_tie x y es p (second _ _ h))
-
-  not_found : (q : K) (es : List (K × X)) → T (below_all R q es) → find R q es ≡ None
-  not_found q [] h = refl
-  not_found q (e ∷ es) h = ap (λ b. cond b (Some e.1) (find R q es)) (lower _ (first _ _ h)) ∙ not_found q es (second _ _ h)
-
   total_in-put : (k : K) (v : X) (es : List (K × X)) → T (is_sorted R es) → total_in g (put R k v es) + weight g (find R k es) ≡ total_in g es + g v
   total_in-put k v [] h = omega arith
   total_in-put k v (e ∷ es) h =
       elim (R k e.0) as (λ r. R k e.0 ≡ r → total_in g (by_order r ((k, v) ∷ e ∷ es) ((e.0, v) ∷ es) (e ∷ put R k v es)) + weight g (cond (is_eq r) (Some e.1) (find R k es)) ≡ (g e.1 + total_in g es) + g v) [
         | Less ↦ λ p.
-            let none = ap (weight g) (not_found k es (below k e.0 es p (first _ _ h))) in
+            let none = ap (weight g) (not_found R k es (below-less o k e.0 es p (first _ _ h))) in
             omega arith
         | Equal ↦ λ p. omega arith
         | Greater ↦ λ p. let rest : total_in g (put R k v es) + weight g (find R k es) ≡ total_in g es + g v = total_in-put k v es (second (below_all R e.0 es) (is_sorted R es) h) in

@@ -1,39 +1,34 @@
 -- The entries of a directory as they are listed, and the nodes that paths lead to.
-use Rattle.std.proofs.Common.{◌≡◌, ◌≢◌, ℕ, zero, suc, ◌+◌, ◌-◌, ◌^◌, ◌<◌, ◌≤◌, nat_lt, Bool, true, false, not, cond, ◌&&◌, ◌||◌, ◌==◌, List, [], ◌∷◌, ◌++◌, map, fold, length, take, Option, Some, None, is_some, refl, sym, ap, subst, ◌∙◌, arith, add-one}
-use Rattle.std.specs.Prelude.{codes, IsSome, IsTrue, unwrap_or, option_and_then}
+use Rattle.std.proofs.Common.{◌≡◌, ℕ, zero, suc, ◌+◌, ◌-◌, ◌≤◌, nat_lt, true, false, not, cond, ◌&&◌, ◌||◌, ◌==◌, List, [], ◌∷◌, ◌++◌, map, fold, length, take, Option, Some, None, is_some, refl, sym, ap, subst, ◌∙◌, arith, add-one}
+use Rattle.std.proofs.Math.Bool.{and-false}
+use Rattle.std.specs.Prelude.{codes, IsSome, unwrap_or, option_and_then}
 use Rattle.std.specs.List.{All, AllByRecursion, filter, flat_map}
 use Rattle.std.specs.Str.{bytes_eq}
 use Rattle.std.specs.Ordering.{nat_cmp, is_lt}
 use Rattle.std.specs.Cmp.Lexicographic.{slice_cmp, nat_list_cmp_total}
-use Rattle.std.specs.FinMap.{FinMap, empty, get, insert, entries, len, get-empty, len-empty, len-entries}
+use Rattle.std.specs.FinMap.{empty, get, insert, entries, get-empty, len-empty, len-entries}
 use Rattle.std.proofs.lemmas.Bool.Decides.{nat_tests}
-use Rattle.std.proofs.lemmas.List.{length-map}
+use Rattle.std.proofs.lemmas.List.{length-map, nil_from_length}
 use Rattle.std.proofs.lemmas.List.Elements.{All-nil, All-cons, All-head, All-tail, All-append}
-use Rattle.dt_base.specs.Path.{is_name, is_slash, has_no_nul}
-use Rattle.dt_base.specs.declared.limits.TheConstants.{NAME_LIMIT}
+use Rattle.std.proofs.lemmas.Bool.{and_parts, not-true}
+use Rattle.dt_base.specs.Path.{is_name, has_no_nul}
 use Rattle.dt_host.specs.World.{Forest, Names, Node, file, dir, link, node_at, dir_at, dir_names, names_at, entry, IsLive}
 use Rattle.dt_host.proofs.Maps.{at_insert, names_tie}
-use Rattle.dt_tree.specs.declared.list.Listed.{Listed}
 use Rattle.dt_tree.specs.declared.limits.TheConstants.{NAMES_LIMIT}
-use Rattle.dt_tree.specs.Shape.{names_of, name_count, is_removed, IsShaped}
-use Rattle.dt_tree.specs.FileTree.{FileTree, Attributes, IsTree, IsGoodNode, is_entry_name}
+use Rattle.dt_tree.specs.Shape.{names_of, IsShaped}
+use Rattle.dt_tree.specs.FileTree.{FileTree, Attributes, IsTree, is_entry_name}
 use Rattle.dt_tree.specs.Listing.{rank, comes_after, is_left, listed, listing, next_of}
 use Rattle.dt_tree.proofs.Namings.{named, len-names_at}
 use Rattle.dt_tree.proofs.Pathed.{each_got}
-use Rattle.dt_image.proofs.Conjuncts.{left_true, right_true}
 use Rattle.dt_image.specs.Paths.{below, level, with_path, paths_to, paths_of}
 use Rattle.dt_image.specs.inner.PathView.{listed_below, IsPlaced}
-
-not_true : (b : Bool) → not b ≡ true → b ≡ false
-not_true true e = absurd (cc)
-not_true false e = refl
 
 -- a good name comes after `..`
 after_dots : (name : List ℕ) → is_entry_name name ≡ true → comes_after (codes "..") name ≡ true
 after_dots name good =
-    let named = left_true (is_name name) (has_no_nul name) (left_true (is_name name && has_no_nul name) _ good) in
-    let two = not_true (bytes_eq name (codes "..")) (right_true _ (not (bytes_eq name (codes ".."))) named) in
-    let one = not_true (bytes_eq name (codes ".")) (right_true _ (not (bytes_eq name (codes "."))) (left_true _ (not (bytes_eq name (codes ".."))) named)) in
+    let named = (and_parts (is_name name) (has_no_nul name) (and_parts (is_name name && has_no_nul name) _ good).0).0 in
+    let two = not-true (bytes_eq name (codes "..")) (and_parts _ (not (bytes_eq name (codes ".."))) named).1 in
+    let one = not-true (bytes_eq name (codes ".")) (and_parts _ (not (bytes_eq name (codes "."))) (and_parts _ (not (bytes_eq name (codes ".."))) named).0).1 in
     let last : rank name ≡ 2 = ap (λ a. cond a 0 (cond (bytes_eq name (codes "..")) 1 2)) one ∙ ap (λ b. cond b 1 2) two in
     ap (λ r. nat_lt 1 r || ((1 == r) && is_lt (slice_cmp nat_cmp (codes "..") name))) last
 
@@ -85,17 +80,13 @@ below_listed v path d = by_list (entries (names_at v d))
     by_list [] = refl
     by_list (e ∷ es) = ap (λ rest. (path ++ (codes "/" ++ e.0), e.1) ∷ rest) (by_list es)
 
-no_length : {X : Type 0} (xs : List X) → length xs ≡ 0 → xs ≡ []
-no_length [] e = refl
-no_length (x ∷ xs) e = absurd (omega arith)
-
 -- what is no directory has no entries
 pub none_below : (v : Forest) (path : List ℕ) (d : ℕ) → is_some (dir_at v d) ≡ false → below v (path, d) ≡ []
 unfolding below names_at
 none_below v path d other = ap (map (λ e. (path ++ (codes "/" ++ e.0), e.1))) (by_found (dir_at v d) other)
   where
     by_found : (found : Option Names) → is_some found ≡ false → entries (unwrap_or found empty) ≡ []
-    by_found None e = no_length _ (sym (len-entries empty) ∙ len-empty (slice_cmp nat_cmp) ℕ)
+    by_found None e = nil_from_length _ (sym (len-entries empty) ∙ len-empty (slice_cmp nat_cmp) ℕ)
     by_found (Some names) e = absurd (cc)
 
 -- the node that a path leads to has a name
@@ -122,11 +113,7 @@ module _ (v : Forest) where
       placed : 1 ≤ names_of v at.1 → (not (at.1 == v.root) && (names_of v at.1 == 0)) ≡ false
       placed some =
           let more : (names_of v at.1 == 0) ≡ false = grind (arith, nat_tests) in
-          ap (λ b. not (at.1 == v.root) && b) more ∙ and_false (not (at.1 == v.root))
-        where
-          and_false : (b : Bool) → (b && false) ≡ false
-          and_false true = refl
-          and_false false = refl
+          ap (λ b. not (at.1 == v.root) && b) more ∙ and-false (not (at.1 == v.root))
 
   -- no path leads to a removed directory
   pub placed_level : (depth : ℕ) → All (IsPlaced v) (level v depth)

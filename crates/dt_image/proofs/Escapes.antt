@@ -1,9 +1,8 @@
 -- The set of bytes that a path is shown without, byte by byte.
 use Rattle.std.proofs.Common.{◌≡◌, ℕ, zero, suc, ◌<◌, Bool, true, false, ◌&&◌, refl, inl, inr, arith}
-use Rattle.std.proofs.lemmas.Bool.{cases_order}
+use Rattle.std.proofs.lemmas.Bool.{cases_order, and_parts}
 use Rattle.percent_encoding.specs.AsciiSet.{contains}
 use Rattle.dt_image.specs.Report.{escaped_set, is_escaped}
-use Rattle.dt_image.proofs.Conjuncts.{left_true, right_true}
 
 abbrev same : Bool → Bool → Bool
 same true b = b
@@ -26,8 +25,8 @@ below zero b all lt = absurd (omega arith)
 below (suc n) b all lt =
     let agree = same (contains escaped_set n) (is_escaped n) in
     elim (cases_order b n) [
-      | inl e ↦ rw e (from_same _ _ (left_true agree (agree_below n) all))
-      | inr rest ↦ elim rest [ inl less ↦ below n b (right_true agree (agree_below n) all) less | inr more ↦ absurd (omega arith) ]
+      | inl e ↦ rw e (from_same _ _ (and_parts agree (agree_below n) all).0)
+      | inr rest ↦ elim rest [ inl less ↦ below n b (and_parts agree (agree_below n) all).1 less | inr more ↦ absurd (omega arith) ]
     ]
 
 -- what the set holds of ASCII

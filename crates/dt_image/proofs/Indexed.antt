@@ -1,15 +1,15 @@
 -- From the entries of an index to an image.
-use Rattle.std.proofs.Common.{◌≡◌, ℕ, Bool, true, false, not, cond, ◌&&◌, ◌||◌, nat_le, List, [], ◌∷◌, Option, Some, None, Result, Ok, Err, refl, sym, ap, subst, ◌∙◌}
+use Rattle.std.proofs.Common.{◌≡◌, ℕ, Bool, true, false, not, cond, ◌&&◌, ◌||◌, List, [], ◌∷◌, Option, Some, None, Result, Ok, Err, refl, sym, ap, subst, ◌∙◌}
 use Rattle.std.specs.Prelude.{IfSome, IfOk, option_and_then, codes}
-use Rattle.std.specs.List.{list_all, list_any}
+use Rattle.std.specs.List.{list_all}
 use Rattle.std.specs.FinMap.{get}
+use Rattle.std.proofs.lemmas.Bool.{and_from, and_parts}
 use Rattle.serde_json.specs.Data.{Data}
 use Rattle.dt_base.specs.declared.image.Entry.{Entry}
 use Rattle.dt_base.specs.declared.refusal.Refusal.{Refusal}
 use Rattle.dt_base.specs.declared.refusal.Refusal.TheVariants.{BadPath, Twice, NoParent}
 use Rattle.dt_base.specs.Path.{is_path, is_top, parent_of}
 use Rattle.dt_host.specs.Store.{Files}
-use Rattle.dt_image.proofs.Conjuncts.{both, left_true, right_true}
 use Rattle.dt_image.specs.Index.{IndexEntry, is_good, is_good_source, index_of}
 use Rattle.dt_image.specs.ImageOf.{has_twice, lists_dir, lists_parent, sorted, with_blobs, image_from, image_listed, image_by, image_of, value_of, name_in}
 use Rattle.dt_image.specs.inner.IndexView.{has_mode, is_listed, is_sound, in_dirs}
@@ -23,9 +23,9 @@ sound_by false source mode listed good = absurd (cc)
 sound_listed : (entries : List IndexEntry) → list_all is_listed entries ≡ true → list_all is_good entries ≡ true → list_all is_sound entries ≡ true
 sound_listed [] listed good = refl
 sound_listed (entry ∷ entries) listed good =
-    both (is_sound entry) (list_all is_sound entries)
-    (sound_by (is_path entry.path) (is_good_source entry.source) (has_mode entry.source) (left_true (is_listed entry) (list_all is_listed entries) listed) (left_true (is_good entry) (list_all is_good entries) good))
-    (sound_listed entries (right_true (is_listed entry) (list_all is_listed entries) listed) (right_true (is_good entry) (list_all is_good entries) good))
+    and_from (is_sound entry) (list_all is_sound entries)
+    (sound_by (is_path entry.path) (is_good_source entry.source) (has_mode entry.source) (and_parts (is_listed entry) (list_all is_listed entries) listed).0 (and_parts (is_good entry) (list_all is_good entries) good).0)
+    (sound_listed entries (and_parts (is_listed entry) (list_all is_listed entries) listed).1 (and_parts (is_good entry) (list_all is_good entries) good).1)
 
 -- good entries of an index are good in any order
 pub sound_sorted : (entries order : List IndexEntry) → order ≡ sorted entries → list_all is_listed entries ≡ true → list_all is_good entries ≡ true → list_all is_sound order ≡ true

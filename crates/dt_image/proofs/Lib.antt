@@ -1,5 +1,4 @@
 pub mod Modes
-pub mod Conjuncts
 pub mod Sorting
 pub mod Measures
 pub mod Rising

@@ -6,14 +6,13 @@ use Rattle.std.specs.List.{list_all, All}
 use Rattle.std.proofs.lemmas.List.Elements.{All-nil, All-cons, All-head, All-tail}
 use Rattle.std.proofs.lemmas.List.Folds.{list_all-map, list_all_at}
 use Rattle.std.proofs.lemmas.List.{length-map}
-use Rattle.std.proofs.lemmas.Bool.{leb-true}
+use Rattle.std.proofs.lemmas.Bool.{leb-true, and_parts}
 use Rattle.dt_base.specs.declared.image.Entry.{Entry}
 use Rattle.dt_base.specs.declared.refusal.ImageErr.{ImageErr}
 use Rattle.dt_base.specs.declared.refusal.Refusal.{Refusal}
 use Rattle.dt_base.specs.declared.refusal.Refusal.TheVariants.{NoBlob, TooBig, TooMany}
 use Rattle.dt_base.specs.declared.limits.TheConstants.{FILE_LIMIT, ENTRY_LIMIT}
 use Rattle.dt_host.specs.Store.{Files}
-use Rattle.dt_image.proofs.Conjuncts.{left_true, right_true}
 use Rattle.dt_image.specs.declared.index.EntryRef.{EntryRef}
 use Rattle.dt_image.specs.declared.blobs.Measured.{Measured}
 use Rattle.dt_image.specs.Index.{Source, file, dir, link, IndexEntry}
@@ -142,14 +141,14 @@ passed_on (Err y) e x from is = cc
 pub small_all : (blobs : List Measured) → list_all is_small blobs ≡ true → All (λ blob. blob.size ≤ FILE_LIMIT) blobs
 small_all [] small = All-nil (λ blob. blob.size ≤ FILE_LIMIT)
 small_all (blob ∷ blobs) small =
-    All-cons (λ blob. blob.size ≤ FILE_LIMIT) blob blobs (leb-true blob.size FILE_LIMIT (left_true (is_small blob) (list_all is_small blobs) small)) (small_all blobs (right_true (is_small blob) (list_all is_small blobs) small))
+    All-cons (λ blob. blob.size ≤ FILE_LIMIT) blob blobs (leb-true blob.size FILE_LIMIT (and_parts (is_small blob) (list_all is_small blobs) small).0) (small_all blobs (and_parts (is_small blob) (list_all is_small blobs) small).1)
 
 sound_each : (blobs : List Measured) → list_all is_sound (map entry_in (entries_of blobs)) ≡ true → All (λ blob. IsTrue (is_sound (entry_in blob.entry))) blobs
 sound_each [] sound = All-nil (λ blob. IsTrue (is_sound (entry_in blob.entry)))
 sound_each (blob ∷ blobs) sound =
     All-cons (λ blob. IsTrue (is_sound (entry_in blob.entry))) blob blobs
-    (left_true (is_sound (entry_in blob.entry)) (list_all is_sound (map entry_in (entries_of blobs))) sound)
-    (sound_each blobs (right_true (is_sound (entry_in blob.entry)) (list_all is_sound (map entry_in (entries_of blobs))) sound))
+    (and_parts (is_sound (entry_in blob.entry)) (list_all is_sound (map entry_in (entries_of blobs))) sound).0
+    (sound_each blobs (and_parts (is_sound (entry_in blob.entry)) (list_all is_sound (map entry_in (entries_of blobs))) sound).1)
 
 pub sound_all : (blobs : List Measured) (order : List EntryRef) → entries_of blobs ≡ order → list_all is_sound (map entry_in order) ≡ true → All (λ blob. IsTrue (is_sound (entry_in blob.entry))) blobs
 sound_all blobs order same sound = sound_each blobs (ap (λ order. list_all is_sound (map entry_in order)) same ∙ sound)

@@ -1,19 +1,18 @@
 -- Entries that stand in order, each in a directory of these, make an image.
-use Rattle.std.proofs.Common.{◌≡◌, ℕ, ◌≤◌, Bool, true, false, ◌&&◌, ◌||◌, List, [], ◌∷◌, length, map, IsTrue, refl, sym, ap, ◌∙◌, arith}
+use Rattle.std.proofs.Common.{◌≡◌, ℕ, ◌≤◌, Bool, true, ◌&&◌, ◌||◌, List, [], ◌∷◌, length, map, IsTrue, refl, sym, ap, ◌∙◌, arith}
 use Rattle.std.specs.List.{list_all, list_any}
 use Rattle.std.specs.List.Sorted.{IsStrictlySortedBy}
 use Rattle.std.specs.Str.{bytes_eq}
 use Rattle.std.specs.Ordering.{nat_cmp, is_lt}
 use Rattle.std.specs.Cmp.Lexicographic.{slice_cmp}
 use Rattle.std.proofs.lemmas.List.{length-map}
+use Rattle.std.proofs.lemmas.Bool.{and_from}
 use Rattle.dt_base.specs.declared.image.Entry.{Entry}
 use Rattle.dt_base.specs.declared.limits.TheConstants.{ENTRY_LIMIT}
 use Rattle.dt_base.specs.Image.{IsImage, is_good_entry, is_rising, has_parent, is_dir_at}
 use Rattle.dt_base.specs.Path.{is_top, parent_of}
-use Rattle.dt_image.proofs.Conjuncts.{both}
 use Rattle.dt_image.specs.declared.index.EntryRef.{EntryRef}
 use Rattle.dt_image.specs.declared.blobs.Measured.{Measured}
-use Rattle.dt_image.specs.Index.{IndexEntry}
 use Rattle.dt_image.specs.ImageOf.{lists_dir, lists_parent}
 use Rattle.dt_image.specs.inner.IndexView.{entry_in, path_cmp, spot, spot_of}
 
@@ -37,7 +36,7 @@ unfolding IsStrictlySortedBy
 rise-order [] rising = refl
 rise-order (first ∷ []) rising = refl
 rise-order (first ∷ second ∷ rest) rising =
-    both (is_lt (slice_cmp nat_cmp first.path.now second.path.now)) (rise (spots (second ∷ rest))) (ap is_lt rising.0.0) (rise-order (second ∷ rest) rising.1)
+    and_from (is_lt (slice_cmp nat_cmp first.path.now second.path.now)) (rise (spots (second ∷ rest))) (ap is_lt rising.0.0) (rise-order (second ∷ rest) rising.1)
 
 spots_of : (blobs : List Measured) → spots (map (λ blob. blob.entry) blobs) ≡ map (λ blob. spot_of (entry_in blob.entry)) blobs
 spots_of [] = refl

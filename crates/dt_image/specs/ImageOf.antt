@@ -29,7 +29,6 @@ value_of bytes = if nat_le (length bytes) INDEX_LIMIT && is_utf8 bytes then read
 abbrev pub listed : List ℕ → Option (List IndexEntry)
 listed bytes = option_and_then index_of (value_of bytes)
 
--- it has that path
 abbrev pub has_path : List ℕ → IndexEntry → Bool
 has_path path entry = bytes_eq path entry.path
 

@@ -1,12 +1,12 @@
 // The entries of an image, with the bytes of their blobs.
-ghost use Rattle.std.specs.Prelude.{◌≡◌, ◌≤◌, ℕ, Ok, Err, Some, IfOk, IfSome, IsErrOf, IsTrue, map, length, is_some};
+ghost use Rattle.std.specs.Prelude.{◌≡◌, ◌≤◌, ℕ, Ok, Err, Some, IfOk, IfSome, IsTrue, map, length, is_some};
 ghost use Rattle.std.specs.Prelude.{true, false, nat_le};
 ghost use Rattle.std.specs.List.{list_all, All};
 ghost use Rattle.std.specs.List.Sorted.{IsStrictlySortedBy};
 ghost use Rattle.std.specs.FinMap.{get};
 ghost use Rattle.dt_base.specs.Image.{is_dir, is_good_what, is_good_entry};
 ghost use Rattle.dt_base.specs.declared.refusal.Refusal.{Refusal};
-ghost use Rattle.dt_host.specs.Cause.{HasCause};
+ghost use Rattle.dt_host.specs.Asks.{AsksOr};
 ghost use Rattle.dt_host.specs.Store.{Files, size_of};
 ghost use Rattle.dt_image.specs.ImageOf.{name_in, lists_parent, has_blob, makes_dir, made, mode_made, entry_with};
 ghost use Rattle.dt_image.specs.ImageOf.{with_blobs};
@@ -42,8 +42,7 @@ pub fn with_blobs<S: Store>(
         IfOk result (λ image. with_blobs held folder.now (map entry_in order.now) ≡ Ok image)) }
     ensures refused { (r : Refusal) → result ≡ Err (ImageErr.Refused r) →
         IfSome (S.told store.old) (λ held. with_blobs held folder.now (map entry_in order.now) ≡ Err r) }
-    ensures stays { S.told store.new ≡ S.told store.old }
-    ensures cause { HasCause (S.count store.old) (S.count store.new) (IsErrOf result ImageErr.Store) }
+    ensures asks { AsksOr S.told S.count ImageErr.Store store.old store.new result }
 {
     let blobs = measure(alloc, store, folder, order)?;
     if !fit(&blobs) {
@@ -68,8 +67,7 @@ fn measure<'v, S: Store>(
     ensures refused { (r : Refusal) → result ≡ Err (ImageErr.Refused r) → (r ≡ Refusal.NoBlob)
         × IfSome (S.told store.old) (λ held.
         list_all (λ entry. has_blob held folder.now entry.source) (map entry_in order.now) ≡ false) }
-    ensures stays { S.told store.new ≡ S.told store.old }
-    ensures cause { HasCause (S.count store.old) (S.count store.new) (IsErrOf result ImageErr.Store) }
+    ensures asks { AsksOr S.told S.count ImageErr.Store store.old store.new result }
 {
     let mut blobs = Vec::new(alloc);
     for entry in order {
@@ -89,8 +87,7 @@ fn measure_one<'v, S: Store>(
     ensures refused { (r : Refusal) → result ≡ Err (ImageErr.Refused r) → (r ≡ Refusal.NoBlob)
         × IfSome (S.told store.old) (λ held.
         has_blob held folder.now (source_in entry.entry.source) ≡ false) }
-    ensures stays { S.told store.new ≡ S.told store.old }
-    ensures cause { HasCause (S.count store.old) (S.count store.new) (IsErrOf result ImageErr.Store) }
+    ensures asks { AsksOr S.told S.count ImageErr.Store store.old store.new result }
 {
     let size = blob_size(alloc, store, folder, entry.source)?;
     Ok(Measured { entry, size })
@@ -107,8 +104,7 @@ fn blob_size<S: Store>(
         IfOk result (λ size. blob_size held folder.now (source_in source.entry) ≡ Some size)) }
     ensures refused { (r : Refusal) → result ≡ Err (ImageErr.Refused r) → (r ≡ Refusal.NoBlob)
         × IfSome (S.told store.old) (λ held. has_blob held folder.now (source_in source.entry) ≡ false) }
-    ensures stays { S.told store.new ≡ S.told store.old }
-    ensures cause { HasCause (S.count store.old) (S.count store.new) (IsErrOf result ImageErr.Store) }
+    ensures asks { AsksOr S.told S.count ImageErr.Store store.old store.new result }
 {
     match source {
         SourceRef::File(_, blob) => size_of(alloc, store, folder, blob),
@@ -127,8 +123,7 @@ fn size_of<S: Store>(
         IfOk result (λ size. size_of held (name_in folder.now blob.now) ≡ Some size)) }
     ensures refused { (r : Refusal) → result ≡ Err (ImageErr.Refused r) → (r ≡ Refusal.NoBlob)
         × IfSome (S.told store.old) (λ held. is_some (get held (name_in folder.now blob.now)) ≡ false) }
-    ensures stays { S.told store.new ≡ S.told store.old }
-    ensures cause { HasCause (S.count store.old) (S.count store.new) (IsErrOf result ImageErr.Store) }
+    ensures asks { AsksOr S.told S.count ImageErr.Store store.old store.new result }
 {
     let name = name_in(alloc, folder, blob)?;
     match size_in(store, name.as_str())? {
@@ -167,8 +162,7 @@ fn read<S: Store>(
         map spot entries.items ≡ map (λ blob. spot_of (entry_in blob.entry)) blobs.now) }
     ensures good { IfOk result (λ entries. IsTrue (list_all is_good_entry entries.items)) }
     ensures answered { (r : Refusal) → result ≡ Err (ImageErr.Refused r) → ⊥ }
-    ensures stays { S.told store.new ≡ S.told store.old }
-    ensures cause { HasCause (S.count store.old) (S.count store.new) (IsErrOf result ImageErr.Store) }
+    ensures asks { AsksOr S.told S.count ImageErr.Store store.old store.new result }
 {
     let mut entries = Vec::new(alloc);
     for blob in blobs {
@@ -191,8 +185,7 @@ fn read_one<S: Store>(
     ensures spot { IfOk result (λ entry. spot entry ≡ spot_of (entry_in blob.entry.entry)) }
     ensures good { IfOk result (λ entry. IsTrue (is_good_entry entry)) }
     ensures answered { (r : Refusal) → result ≡ Err (ImageErr.Refused r) → ⊥ }
-    ensures stays { S.told store.new ≡ S.told store.old }
-    ensures cause { HasCause (S.count store.old) (S.count store.new) (IsErrOf result ImageErr.Store) }
+    ensures asks { AsksOr S.told S.count ImageErr.Store store.old store.new result }
 {
     let entry = blob.entry;
     let what = make(alloc, store, folder, entry.source, blob.size)?;
@@ -220,8 +213,7 @@ fn make<S: Store>(
     ensures kind { IfOk result (λ what. is_dir what ≡ makes_dir (source_in source.entry)) }
     ensures good { IfOk result (λ what. IsTrue (is_good_what what (mode_made (source_in source.entry)))) }
     ensures answered { (r : Refusal) → result ≡ Err (ImageErr.Refused r) → ⊥ }
-    ensures stays { S.told store.new ≡ S.told store.old }
-    ensures cause { HasCause (S.count store.old) (S.count store.new) (IsErrOf result ImageErr.Store) }
+    ensures asks { AsksOr S.told S.count ImageErr.Store store.old store.new result }
 {
     match source {
         SourceRef::File(_, blob) => {

@@ -1,8 +1,8 @@
 // Files of a folder of a store.
-ghost use Rattle.std.specs.Prelude.{◌≡◌, ◌≤◌, Some, Err, IfOk, IfSome, IsErrOf, string_bytes, vec_len};
+ghost use Rattle.std.specs.Prelude.{◌≡◌, ◌≤◌, Some, Err, IfOk, IfSome, string_bytes, vec_len};
 ghost use Rattle.std.specs.FinMap.{get};
 ghost use Rattle.dt_base.specs.declared.refusal.Refusal.{Refusal};
-ghost use Rattle.dt_host.specs.Cause.{HasCause};
+ghost use Rattle.dt_host.specs.Asks.{AsksOr};
 ghost use Rattle.dt_host.specs.Store.{size_of};
 ghost use Rattle.dt_image.specs.ImageOf.{name_in};
 ghost use Rattle.dt_image.specs.inner.StoreFault.{image_err};
@@ -22,8 +22,7 @@ pub fn name_in(alloc: Global, folder: &str, file: &str) -> Result<String, AllocE
 pub fn size_in<S: Store>(store: &mut S, name: &str) -> Result<Option<u64>, ImageErr>
     ensures ok { IfSome (S.told store.old) (λ files. IfOk result (λ size. size ≡ size_of files name.now)) }
     ensures answered { (r : Refusal) → result ≡ Err (ImageErr.Refused r) → ⊥ }
-    ensures stays { S.told store.new ≡ S.told store.old }
-    ensures cause { HasCause (S.count store.old) (S.count store.new) (IsErrOf result ImageErr.Store) }
+    ensures asks { AsksOr S.told S.count ImageErr.Store store.old store.new result }
 {
     match store.size(name) {
         Ok(size) => Ok(size),
@@ -43,8 +42,7 @@ pub fn bytes_in<S: Store>(
     ensures ok { IfSome (S.told store.old) (λ files. IfOk result (λ bytes. get files name.now ≡ Some bytes.items)) }
     ensures len { IfOk result (λ bytes. vec_len bytes ≡ size) }
     ensures answered { (r : Refusal) → result ≡ Err (ImageErr.Refused r) → ⊥ }
-    ensures stays { S.told store.new ≡ S.told store.old }
-    ensures cause { HasCause (S.count store.old) (S.count store.new) (IsErrOf result ImageErr.Store) }
+    ensures asks { AsksOr S.told S.count ImageErr.Store store.old store.new result }
 {
     let mut bytes = vec![in alloc; 0; size as usize]?;
     match store_whole(store, name, &mut bytes) {

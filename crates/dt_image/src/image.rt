@@ -7,7 +7,7 @@ ghost use Rattle.std.specs.FinMap.{get};
 ghost use Rattle.serde_json.specs.Read.{read};
 ghost use Rattle.serde_json.specs.View.{view};
 ghost use Rattle.dt_base.specs.declared.refusal.Refusal.{Refusal};
-ghost use Rattle.dt_host.specs.Cause.{HasCause};
+ghost use Rattle.dt_host.specs.Asks.{AsksOr};
 ghost use Rattle.dt_image.specs.Index.{is_good};
 ghost use Rattle.dt_image.specs.inner.IndexView.{entry_in, path_cmp, is_listed, is_sound, in_dirs};
 ghost use Rattle.dt_image.specs.ImageOf.{name_in, value_of, image_by, image_of, image_from};
@@ -27,8 +27,7 @@ pub fn read_image<S: Store>(alloc: Global, store: &mut S, folder: &str) -> Resul
     ensures ok { IfSome (S.told store.old) (λ files. IfOk result (λ image. image_of files folder.now ≡ Ok image)) }
     ensures refused { (r : Refusal) → result ≡ Err (ImageErr.Refused r) →
         IfSome (S.told store.old) (λ files. image_of files folder.now ≡ Err r) }
-    ensures stays { S.told store.new ≡ S.told store.old }
-    ensures cause { HasCause (S.count store.old) (S.count store.new) (IsErrOf result ImageErr.Store) }
+    ensures asks { AsksOr S.told S.count ImageErr.Store store.old store.new result }
 {
     let bytes = read_index(alloc, store, folder)?;
     let index = parse(alloc, &bytes)?;
@@ -45,8 +44,7 @@ fn read_index<S: Store>(alloc: Global, store: &mut S, folder: &str) -> Result<Ve
     ensures within { IfOk result (λ bytes. vec_len bytes ≤ INDEX_LIMIT) }
     ensures refused { (r : Refusal) → result ≡ Err (ImageErr.Refused r) →
         IfSome (S.told store.old) (λ files. image_of files folder.now ≡ Err r) }
-    ensures stays { S.told store.new ≡ S.told store.old }
-    ensures cause { HasCause (S.count store.old) (S.count store.new) (IsErrOf result ImageErr.Store) }
+    ensures asks { AsksOr S.told S.count ImageErr.Store store.old store.new result }
 {
     let name = name_in(alloc, folder, "image.json")?;
     index_bytes(alloc, store, name.as_str())
@@ -58,8 +56,7 @@ fn index_bytes<S: Store>(alloc: Global, store: &mut S, name: &str) -> Result<Vec
     ensures refused { (r : Refusal) → result ≡ Err (ImageErr.Refused r) →
         IfSome (S.told store.old) (λ files.
         (folder : List ℕ) → image_by files folder (get files name.now) ≡ Err r) }
-    ensures stays { S.told store.new ≡ S.told store.old }
-    ensures cause { HasCause (S.count store.old) (S.count store.new) (IsErrOf result ImageErr.Store) }
+    ensures asks { AsksOr S.told S.count ImageErr.Store store.old store.new result }
 {
     match size_in(store, name)? {
         None => Err(ImageErr::Refused(Refusal::NoIndex)),
@@ -107,8 +104,7 @@ fn read_entries<S: Store>(
         IfOk result (λ image. image_from held folder.now (map entry_in entries.now) ≡ Ok image)) }
     ensures refused { (r : Refusal) → result ≡ Err (ImageErr.Refused r) →
         IfSome (S.told store.old) (λ held. image_from held folder.now (map entry_in entries.now) ≡ Err r) }
-    ensures stays { S.told store.new ≡ S.told store.old }
-    ensures cause { HasCause (S.count store.old) (S.count store.new) (IsErrOf result ImageErr.Store) }
+    ensures asks { AsksOr S.told S.count ImageErr.Store store.old store.new result }
 {
     if !are_good(entries) {
         return Err(ImageErr::Refused(Refusal::BadPath));
@@ -138,8 +134,7 @@ fn read_order<S: Store>(
         IfOk result (λ image. in_dirs held folder.now (map entry_in order.now) ≡ Ok image)) }
     ensures refused { (r : Refusal) → result ≡ Err (ImageErr.Refused r) →
         IfSome (S.told store.old) (λ held. in_dirs held folder.now (map entry_in order.now) ≡ Err r) }
-    ensures stays { S.told store.new ≡ S.told store.old }
-    ensures cause { HasCause (S.count store.old) (S.count store.new) (IsErrOf result ImageErr.Store) }
+    ensures asks { AsksOr S.told S.count ImageErr.Store store.old store.new result }
 {
     let found = have_parents(alloc, order)?;
     if !found {

@@ -1,11 +1,11 @@
 // The tree's part of a report.
-ghost use Rattle.std.specs.Prelude.{◌≡◌, ◌<◌, ◌++◌, ℕ, Some, length, map, OnOk, IfOk, IsErrOf, string_bytes};
+ghost use Rattle.std.specs.Prelude.{◌≡◌, ◌<◌, ◌++◌, ℕ, Some, map, OnOk, IfOk, string_bytes};
 ghost use Rattle.std.specs.List.{All, flat_map};
 ghost use Rattle.hex.specs.Hex.{encode_lower};
 ghost use Rattle.percent_encoding.specs.AsciiSet.{contains};
 ghost use Rattle.sha2.specs.Sha256.{sha256};
-ghost use Rattle.dt_host.specs.Cause.{HasCause};
-ghost use Rattle.dt_host.specs.World.{IsFile, IsLive, content};
+ghost use Rattle.dt_host.specs.Asks.{Asks};
+ghost use Rattle.dt_host.specs.World.{IsLive};
 ghost use Rattle.dt_tree.specs.Table.{Stands, shape_of, tree_of};
 ghost use Rattle.dt_image.specs.Report.{escaped_set, is_escaped, file_line, dir_line, link_line, mode_text, path_line};
 ghost use Rattle.dt_image.specs.Report.{tree_header, tree_text};
@@ -35,8 +35,7 @@ fn escaped_bytes() -> AsciiSet
 pub fn tree_lines<H: Host>(alloc: Global, host: &mut H, tree: &Tree) -> Result<Blob, HostErr>
     requires { Stands tree.now (H.view host.old).forest }
     ensures ok { IfOk result (λ text. text ≡ tree_text (tree_of tree.now (H.view host.old).forest)) }
-    ensures stays { H.view host.new ≡ H.view host.old }
-    ensures cause { HasCause (H.count host.old) (H.count host.new) (IsErrOf result HostErr.Failed) }
+    ensures asks { Asks H.view H.count host.old host.new result }
 {
     let paths = paths_of(alloc, host, tree)?;
     let mut text = Vec::new(alloc);
@@ -63,8 +62,7 @@ fn write_lines<H: Host>(
     requires live { All (λ at. IsLive (shape_of tree.now (H.view host.old).forest) at.inode) paths.now }
     ensures ok { OnOk result (text.new.items ≡ text.old.items
         ++ flat_map (path_line (tree_of tree.now (H.view host.old).forest)) (map shown paths.now)) }
-    ensures stays { H.view host.new ≡ H.view host.old }
-    ensures cause { HasCause (H.count host.old) (H.count host.new) (IsErrOf result HostErr.Failed) }
+    ensures asks { Asks H.view H.count host.old host.new result }
 {
     for at in paths {
         write_line(alloc, host, tree, text, at)?;
@@ -83,8 +81,7 @@ fn write_line<H: Host>(
     requires live { IsLive (shape_of tree.now (H.view host.old).forest) at.now.inode }
     ensures ok { OnOk result (text.new.items ≡ text.old.items
         ++ path_line (tree_of tree.now (H.view host.old).forest) (shown at.now)) }
-    ensures stays { H.view host.new ≡ H.view host.old }
-    ensures cause { HasCause (H.count host.old) (H.count host.new) (IsErrOf result HostErr.Failed) }
+    ensures asks { Asks H.view H.count host.old host.new result }
 {
     let meta = tree.meta(host, at.inode)?;
     if tree.is_dir(at.inode) {
@@ -94,29 +91,8 @@ fn write_line<H: Host>(
         let target = tree.target(host, at.inode)?;
         return Ok(write_link(text, at, meta, target.as_slice())?);
     }
-    let bytes = read_file(alloc, host, tree, at.inode, meta.size)?;
+    let bytes = tree.read_file(alloc, host, at.inode)?;
     Ok(write_file(alloc, text, at, meta, &bytes)?)
-}
-
-// All the bytes of a file of that size.
-fn read_file<H: Host>(
-    alloc: Global,
-    host: &mut H,
-    tree: &Tree,
-    inode: u64,
-    size: u64,
-) -> Result<Vec<u8>, HostErr>
-    requires stands { Stands tree.now (H.view host.old).forest }
-    requires file { IsFile (shape_of tree.now (H.view host.old).forest) inode }
-    requires size { size ≡ length (content (shape_of tree.now (H.view host.old).forest) inode) }
-    ensures ok { IfOk result (λ bytes.
-        bytes.items ≡ content (shape_of tree.now (H.view host.old).forest) inode) }
-    ensures stays { H.view host.new ≡ H.view host.old }
-    ensures cause { HasCause (H.count host.old) (H.count host.new) (IsErrOf result HostErr.Failed) }
-{
-    let mut bytes = vec![in alloc; 0; size as usize]?;
-    tree.read_at(host, inode, 0, &mut bytes)?;
-    Ok(bytes)
 }
 
 #[tactic(auto, unfolding(crate::specs::Report::dir_line))]

@@ -1,8 +1,8 @@
 // The paths of a file tree.
-ghost use Rattle.std.specs.Prelude.{◌≡◌, ◌++◌, ◌∷◌, [], IfOk, OnOk, IsErrOf, map, fold, codes};
+ghost use Rattle.std.specs.Prelude.{◌≡◌, ◌++◌, ◌∷◌, [], IfOk, OnOk, map, fold, codes};
 ghost use Rattle.std.specs.List.{All, flat_map};
 ghost use Rattle.std.specs.FinMap.{entries};
-ghost use Rattle.dt_host.specs.Cause.{HasCause};
+ghost use Rattle.dt_host.specs.Asks.{Asks};
 ghost use Rattle.dt_host.specs.Entries.{map_of};
 ghost use Rattle.dt_tree.specs.declared.limits.TheConstants.{NODE_LIMIT, ROOT};
 ghost use Rattle.dt_tree.specs.Table.{Stands, shape_of};
@@ -28,8 +28,7 @@ pub fn paths_of<H: Host>(alloc: Global, host: &mut H, tree: &Tree) -> Result<Vec
     requires { Stands tree.now (H.view host.old).forest }
     ensures ok { IfOk result (λ paths.
         map shown paths.items ≡ paths_of (shape_of tree.now (H.view host.old).forest)) }
-    ensures stays { H.view host.new ≡ H.view host.old }
-    ensures cause { HasCause (H.count host.old) (H.count host.new) (IsErrOf result HostErr.Failed) }
+    ensures asks { Asks H.view H.count host.old host.new result }
 {
     let paths = all_paths(alloc, host, tree)?;
     Ok(in_order(alloc, paths)?)
@@ -44,8 +43,7 @@ fn all_paths<H: Host>(
     requires { Stands tree.now (H.view host.old).forest }
     ensures ok { IfOk result (λ paths.
         paths_in paths ≡ paths_to (shape_of tree.now (H.view host.old).forest) NODE_LIMIT) }
-    ensures stays { H.view host.new ≡ H.view host.old }
-    ensures cause { HasCause (H.count host.old) (H.count host.new) (IsErrOf result HostErr.Failed) }
+    ensures asks { Asks H.view H.count host.old host.new result }
 {
     let mut paths = BTreeMap::new(alloc);
     let mut level = first_level(alloc)?;
@@ -79,8 +77,7 @@ fn next_level<H: Host>(
     requires placed { All (λ at. IsPlaced (shape_of tree.now (H.view host.old).forest) (shown at)) level.now }
     ensures ok { IfOk result (λ next. map shown next.items
         ≡ flat_map (below (shape_of tree.now (H.view host.old).forest)) (map shown level.now)) }
-    ensures stays { H.view host.new ≡ H.view host.old }
-    ensures cause { HasCause (H.count host.old) (H.count host.new) (IsErrOf result HostErr.Failed) }
+    ensures asks { Asks H.view H.count host.old host.new result }
 {
     let mut next = Vec::new(alloc);
     for at in level {
@@ -101,8 +98,7 @@ fn add_below<H: Host>(
     requires placed { IsPlaced (shape_of tree.now (H.view host.old).forest) (shown at.now) }
     ensures ok { OnOk result (map shown next.new.items ≡ map shown next.old.items
         ++ below (shape_of tree.now (H.view host.old).forest) (shown at.now)) }
-    ensures stays { H.view host.new ≡ H.view host.old }
-    ensures cause { HasCause (H.count host.old) (H.count host.new) (IsErrOf result HostErr.Failed) }
+    ensures asks { Asks H.view H.count host.old host.new result }
 {
     let _before = host.faults();
     if !tree.is_dir(at.inode) {

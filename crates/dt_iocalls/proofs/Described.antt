@@ -1,4 +1,4 @@
--- What a descriptor refers to is in the tree, and its place is of its kind.
+-- What a descriptor refers to is in the tree, and the description of a file has an offset.
 use Rattle.std.proofs.Common.{◌≡◌, ℕ, Option, None, Some, refl, subst}
 use Rattle.std.specs.Prelude.{IfSome}
 use Rattle.std.specs.Option.{option_and_then}
@@ -30,9 +30,9 @@ pub ruleset node_in = (dir_in, file_in)
 pub same_kind : (found : Option Desc) (desc : Desc) → found ≡ Some desc → IfSome found (λ d. d.kind ≡ desc.kind)
 same_kind found desc is = rw is refl
 
--- the place of a file is an offset
-pub file_place : (found : Option Desc) (n offset : ℕ) → IfSome found (λ desc. desc.kind ≡ File n) → IfSome found (λ desc. is_after (At offset) ≡ is_of_dir desc.kind)
-file_place None n offset is = tt
-file_place (Some desc) n offset is = rw is refl
+-- a file's description has an offset
+pub file_offset : (found : Option Desc) (n offset : ℕ) → IfSome found (λ desc. desc.kind ≡ File n) → IfSome found (λ desc. is_after (At offset) ≡ is_of_dir desc.kind)
+file_offset None n offset is = tt
+file_offset (Some desc) n offset is = rw is refl
 
 pub ruleset same_nodes = (sound_nodes, others_nodes)

@@ -14,21 +14,21 @@ use Rattle.dt_iocalls.specs.Ranges.{total_len, joined, gathered}
 use Rattle.dt_iocalls.proofs.Scattering.{from-index}
 
 -- the first bytes of what was loaded
-front-at : (pages : List PageView) (right address n k : ℕ) (bytes : List ℕ) (byte : Option ℕ) (rest : Result (List ℕ) Miss) → byte_at pages right address ≡ byte → load pages right ((address + 1) % 2 ^ 64) (n + k) ≡ rest
+prefix-at : (pages : List PageView) (right address n k : ℕ) (bytes : List ℕ) (byte : Option ℕ) (rest : Result (List ℕ) Miss) → byte_at pages right address ≡ byte → load pages right ((address + 1) % 2 ^ 64) (n + k) ≡ rest
     → ((more : List ℕ) → load pages right ((address + 1) % 2 ^ 64) (n + k) ≡ Ok more → load pages right ((address + 1) % 2 ^ 64) n ≡ Ok (take n more))
     → low_byte address byte rest ≡ Ok bytes → low_byte address byte (load pages right ((address + 1) % 2 ^ 64) n) ≡ Ok (take (suc n) bytes)
-front-at pages right address n k bytes None rest here is law ok = absurd cc
-front-at pages right address n k bytes (Some byte) (Err miss) here is law ok = absurd cc
-front-at pages right address n k bytes (Some byte) (Ok rest) here is law ok =
+prefix-at pages right address n k bytes None rest here is law ok = absurd cc
+prefix-at pages right address n k bytes (Some byte) (Err miss) here is law ok = absurd cc
+prefix-at pages right address n k bytes (Some byte) (Ok rest) here is law ok =
     let same : byte ∷ rest ≡ bytes = cc in
     ap (low_byte address (Some byte)) (law rest is) ∙ ap (λ xs. Ok (take (suc n) xs)) same
 
-load-front : (pages : List PageView) (right k n address : ℕ) (bytes : List ℕ) → load pages right address (n + k) ≡ Ok bytes → load pages right address n ≡ Ok (take n bytes)
+load-prefix : (pages : List PageView) (right k n address : ℕ) (bytes : List ℕ) → load pages right address (n + k) ≡ Ok bytes → load pages right address n ≡ Ok (take n bytes)
 unfolding load
-load-front pages right k zero address bytes ok = refl
-load-front pages right k (suc n) address bytes ok =
+load-prefix pages right k zero address bytes ok = refl
+load-prefix pages right k (suc n) address bytes ok =
     let count : suc n + k ≡ suc (n + k) = omega arith in
-    front-at pages right address n k bytes (byte_at pages right address) (load pages right ((address + 1) % 2 ^ 64) (n + k)) refl refl (λ more is. load-front pages right k n ((address + 1) % 2 ^ 64) more is)
+    prefix-at pages right address n k bytes (byte_at pages right address) (load pages right ((address + 1) % 2 ^ 64) (n + k)) refl refl (λ more is. load-prefix pages right k n ((address + 1) % 2 ^ 64) more is)
     (ap (load pages right address) (sym count) ∙ ok)
 
 length-byte : (pages : List PageView) (right address n : ℕ) (bytes : List ℕ) (byte : Option ℕ) (rest : Result (List ℕ) Miss) → load pages right ((address + 1) % 2 ^ 64) n ≡ rest → ((more : List ℕ) → load pages right ((address + 1) % 2 ^ 64) n ≡ Ok more → length more ≡ n) → low_byte address byte rest ≡ Ok bytes → length bytes ≡ suc n
@@ -47,8 +47,8 @@ load-length pages right (suc n) address bytes ok = length-byte pages right addre
 -- and those behind them
 load-back : (pages : List PageView) (right k n address : ℕ) (bytes : List ℕ) → address < 2 ^ 64 → load pages right address (n + k) ≡ Ok bytes → load pages right ((address + n) % 2 ^ 64) k ≡ Ok (drop n bytes)
 load-back pages right k n address bytes fits ok =
-    let front = load-front pages right k n address bytes ok in
-    by-rest (load pages right ((address + n) % 2 ^ 64) k) (sym (load-more pages right n k address (take n bytes) fits front) ∙ ok) (load-length pages right n address (take n bytes) front)
+    let prefix = load-prefix pages right k n address bytes ok in
+    by-rest (load pages right ((address + n) % 2 ^ 64) k) (sym (load-more pages right n k address (take n bytes) fits prefix) ∙ ok) (load-length pages right n address (take n bytes) prefix)
   where
     by-rest : (r : Result (List ℕ) Miss) → loaded_before (take n bytes) r ≡ Ok bytes → length (take n bytes) ≡ n → r ≡ Ok (drop n bytes)
     by-rest (Err miss) is size = absurd cc
@@ -61,7 +61,7 @@ pub load-part : (pages : List PageView) (right address total m n : ℕ) (bytes :
 load-part pages right address total m n bytes fits within ok =
     let k = total - (m + n) in
     let sum : total ≡ m + (n + k) = omega arith in
-    load-front pages right k n ((address + m) % 2 ^ 64) (drop m bytes)
+    load-prefix pages right k n ((address + m) % 2 ^ 64) (drop m bytes)
     (load-back pages right (n + k) m address bytes fits (ap (load pages right address) (sym sum) ∙ ok))
 
 -- bytes of two parts, the first ones of which are skipped, and so many of which are taken

@@ -10,7 +10,7 @@ use Rattle.dt_space.specs.declared.access.Miss.{Miss}
 use Rattle.dt_tree.specs.Calls.{Done, done}
 use Rattle.dt_tree.specs.FileTree.{FileTree}
 use Rattle.dt_iocalls.specs.declared.ranges.Range.{Range}
-use Rattle.dt_iocalls.specs.Places.{is_writable, offset_of}
+use Rattle.dt_iocalls.specs.Offsets.{is_writable, offset_of}
 use Rattle.dt_iocalls.specs.Ranges.{gathered, total_len}
 use Rattle.dt_iocalls.specs.Writing.{by_written, on_bytes, writes, writes_bytes, writes_kind, writes_pipe, writes_to}
 use Rattle.dt_iocalls.specs.inner.Written.{some_bytes, writes_ranges}

@@ -15,7 +15,7 @@ use Rattle.dt_tree.specs.declared.list.Listed.{Listed}
 use Rattle.dt_tree.specs.Listing.{listing, is_left}
 use Rattle.dt_tree.specs.Shape.{is_removed}
 use Rattle.dt_iocalls.specs.declared.entries.TheConstants.{DIRENT_NAME, DIRENT_ALIGN}
-use Rattle.dt_iocalls.specs.Places.{name_of, goes_on}
+use Rattle.dt_iocalls.specs.Offsets.{name_of, goes_on}
 use Rattle.dt_scene.specs.Arguments.{argument}
 use Rattle.dt_scene.specs.Scene.{Scene, Row, answers, refused, described, on_description}
 

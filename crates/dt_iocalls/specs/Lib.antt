@@ -1,6 +1,6 @@
 pub mod Descriptors
 pub mod Ranges
-pub mod Places
+pub mod Offsets
 pub mod Piping
 pub mod Reading
 pub mod Writing

@@ -15,7 +15,6 @@ use Rattle.dt_iocalls.specs.declared.ranges.Range.{Range}
 use Rattle.dt_iocalls.specs.declared.ranges.TheConstants.{IOVEC_LEN, IOV_LEN}
 use Rattle.dt_scene.specs.Scene.{Scene, Row, refused}
 
--- one range
 abbrev pub one_range : ℕ → ℕ → List Range
 one_range address len = record { address = address; len = len } ∷ []
 

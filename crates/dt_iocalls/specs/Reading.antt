@@ -12,7 +12,7 @@ use Rattle.dt_host.specs.World.{content}
 use Rattle.dt_space.specs.declared.access.Miss.{Miss}
 use Rattle.dt_space.specs.Space.{PageView}
 use Rattle.dt_iocalls.specs.declared.ranges.Range.{Range}
-use Rattle.dt_iocalls.specs.Places.{is_readable, offset_of, goes_on}
+use Rattle.dt_iocalls.specs.Offsets.{is_readable, offset_of, goes_on}
 use Rattle.dt_iocalls.specs.Piping.{by_flow}
 use Rattle.dt_iocalls.specs.Ranges.{one_range, total_len, scattered, ranges_at, on_ranges}
 use Rattle.dt_scene.specs.Arguments.{argument}
@@ -60,7 +60,7 @@ reads_kind fd ranges (PipeWrite q) offset s = refused s BadF
 reads_kind fd ranges Input offset s = answers s 0
 reads_kind fd ranges (Stream stream) offset s = refused s BadF
 
--- a read at the place of a description that is open for reading
+-- a read at the offset of a description that is open for reading
 abbrev pub reads : ℕ → List Range → Desc → Scene → Row
 reads fd ranges desc s =
     if not (is_readable desc) then refused s BadF else reads_kind fd ranges desc.kind (offset_of desc.spot) s

@@ -1,4 +1,4 @@
--- The call that moves the place of a description: lseek(2).
+-- The call that moves the offset of a description: lseek(2).
 use Rattle.std.specs.Prelude.{ℕ, ◌+◌, ◌-◌, ◌^◌, ◌==◌, ◌&&◌, List, length, Option, None, Some, nat_le, nat_lt, if◌then◌else◌}
 use Rattle.dt_base.specs.Abi.{low_word}
 use Rattle.dt_base.specs.declared.abi.TheConstants.{SEEK_SET, SEEK_CUR, SEEK_END}
@@ -9,7 +9,7 @@ use Rattle.dt_fds.specs.declared.desc.DescKind.TheVariants.{File, Dir, PipeRead,
 use Rattle.dt_fds.specs.declared.desc.Spot.{Spot}
 use Rattle.dt_fds.specs.declared.desc.Spot.TheVariants.{At, After}
 use Rattle.dt_host.specs.World.{content}
-use Rattle.dt_iocalls.specs.Places.{offset_of, goes_on}
+use Rattle.dt_iocalls.specs.Offsets.{offset_of, goes_on}
 use Rattle.dt_scene.specs.Arguments.{argument}
 use Rattle.dt_scene.specs.Scene.{Scene, Row, answers, refused, described, on_description}
 use Rattle.dt_tree.specs.FileTree.{FileTree}
@@ -27,9 +27,9 @@ moved_by base by =
 
 -- the offset of a file that a seek leads to: from its start, from where its description stands, or from its end
 unfoldable pub sought : FileTree → ℕ → ℕ → ℕ → ℕ → Option ℕ
-sought t n place by whence =
+sought t n offset by whence =
     if whence == SEEK_SET then moved_by 0 by
-    else if whence == SEEK_CUR then moved_by place by
+    else if whence == SEEK_CUR then moved_by offset by
     else if whence == SEEK_END then moved_by (length (content t.shape n)) by
     else None
 

@@ -14,7 +14,7 @@ use Rattle.dt_space.specs.declared.access.Miss.{Miss}
 use Rattle.dt_tree.specs.Calls.{write_at_of, cut_of}
 use Rattle.dt_tree.specs.FileTree.{FileTree}
 use Rattle.dt_iocalls.specs.declared.ranges.Range.{Range}
-use Rattle.dt_iocalls.specs.Places.{is_writable, offset_of, goes_on}
+use Rattle.dt_iocalls.specs.Offsets.{is_writable, offset_of, goes_on}
 use Rattle.dt_iocalls.specs.Piping.{by_flow}
 use Rattle.dt_iocalls.specs.Ranges.{one_range, gathered, ranges_at, on_ranges}
 use Rattle.dt_scene.specs.Arguments.{argument}
@@ -39,7 +39,7 @@ abbrev pub writes_at : ℕ → ℕ → List ℕ → (Scene → Scene) → Scene 
 writes_at n offset bytes next s =
     let d = write_at_of s.tree n offset bytes (stamp s) in by_written s (length bytes) next d.answer d.tree
 
--- bytes go to a file at the place of its description, which then goes on behind them
+-- bytes go to a file at the offset of its description, which then goes on behind them
 abbrev pub writes_on : ℕ → ℕ → ℕ → List ℕ → Scene → Row
 writes_on fd n offset bytes s = writes_at n offset bytes (λ next. goes_on next fd (At (offset + length bytes))) s
 
@@ -66,7 +66,7 @@ abbrev pub writes_bytes : ℕ → Desc → List ℕ → Scene → Row
 writes_bytes fd desc [] s = answers s 0
 writes_bytes fd desc (byte ∷ bytes) s = writes_kind fd desc.append (offset_of desc.spot) desc.kind (byte ∷ bytes) s
 
--- a write at the place of a description that is open for writing
+-- a write at the offset of a description that is open for writing
 abbrev pub writes : ℕ → List Range → Desc → Scene → Row
 writes fd ranges desc s =
     if not (is_writable desc) then refused s BadF

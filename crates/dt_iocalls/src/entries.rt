@@ -9,7 +9,7 @@ ghost use Rattle.dt_tree.specs.Shape.{is_removed};
 ghost use Rattle.dt_tree.specs.Table.{Stands, shape_of};
 ghost use Rattle.dt_iocalls.specs.Entries.{record_len, dirent, dirents, fitting, told, tells, tells_left, left_of};
 ghost use Rattle.dt_iocalls.specs.Entries.{lists, getdents64_row};
-ghost use Rattle.dt_iocalls.specs.Places.{name_of};
+ghost use Rattle.dt_iocalls.specs.Offsets.{name_of};
 ghost use Rattle.dt_scene.specs.Arguments.{argument};
 ghost use Rattle.dt_scene.specs.Sound.{Sound, Serves, Ends, Reaches, stage, scene};
 
@@ -250,6 +250,6 @@ fn go_on<H: Host>(
     if space.write_bytes(buffer, bytes).is_err() {
         return Ok(Answer::Refused(Errno::Fault));
     }
-    fs.files.set_place(caller.vpid, fd, Spot::After(Some(last)));
+    fs.files.set_spot(caller.vpid, fd, Spot::After(Some(last)));
     Ok(Answer::Value(bytes.len() as u64))
 }

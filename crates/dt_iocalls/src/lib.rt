@@ -4,8 +4,8 @@
 mod calls;
 mod descriptors;
 pub mod entries;
+mod offsets;
 mod piping;
-mod places;
 pub mod ranges;
 mod reading;
 mod seeking;

@@ -16,8 +16,8 @@ ghost use Rattle.dt_scene.specs.Filling.{filled};
 ghost use Rattle.dt_scene.specs.Scene.{described, on_description};
 ghost use Rattle.dt_scene.specs.Sound.{Sound, Serves, Ends, stage, scene};
 
+use crate::offsets::{is_readable, offset_of};
 use crate::piping::answered;
-use crate::places::{is_readable, offset_of};
 use crate::ranges::{Range, may_scatter, put, ranges_at, scatter, total_len};
 use dt_base::abi::{byte_count, low_word};
 use dt_base::{Answer, Caller, Errno};
@@ -28,7 +28,7 @@ use dt_space::Space;
 use dt_tree::Tree;
 use std::alloc::Global;
 
-/// read(2): puts the bytes of a file at the place of its description into a buffer, as many as are left and the buffer
+/// read(2): puts the bytes of a file at the offset of its description into a buffer, as many as are left and the buffer
 /// takes, and answers how many these are; the description goes on behind them. The input has none. A pipe gives the
 /// oldest bytes that it holds; where it holds none the answer is 0 if nobody writes to it, and else the call waits. The
 /// errors are EBADF (the descriptor is not open, or not for reading), EISDIR (it is of a directory), EFAULT, and EAGAIN
@@ -78,7 +78,7 @@ pub fn readv<H: Host>(
     }
 }
 
-// Reads at the place of a descriptor's description.
+// Reads at the offset of a descriptor's description.
 #[tactic(auto, using(crate::proofs::Described::same_kind))]
 fn reads<H: Host>(
     alloc: Global,
@@ -107,7 +107,7 @@ fn reads<H: Host>(
 }
 
 // Reads by what the descriptor refers to.
-#[tactic(auto, unfolding(crate::specs::Reading::reads_kind), using(crate::proofs::Described::file_place))]
+#[tactic(auto, unfolding(crate::specs::Reading::reads_kind), using(crate::proofs::Described::file_offset))]
 fn reads_kind<H: Host>(
     alloc: Global,
     fs: &mut Fs,
@@ -138,7 +138,6 @@ fn reads_kind<H: Host>(
     }
 }
 
-// Reads a pipe.
 #[tactic(auto, unfolding(crate::specs::Reading::reads_pipe))]
 fn reads_pipe<H: Host>(
     alloc: Global,
@@ -250,8 +249,7 @@ fn receive<H: Host>(
         return Ok(Answer::Refused(Errno::Fault));
     }
     let count = bytes.len() as u64;
-    fs.files
-        .set_place(caller.vpid, fd, Spot::At(offset + count));
+    fs.files.set_spot(caller.vpid, fd, Spot::At(offset + count));
     Ok(Answer::Value(count))
 }
 

@@ -1,14 +1,14 @@
-// The call that moves the place of a description (lseek(2)).
-ghost use Rattle.std.specs.Prelude.{◌≡◌, true, false, IfOk, IfSome, IsErrOf};
+// The call that moves the offset of a description (lseek(2)).
+ghost use Rattle.std.specs.Prelude.{◌≡◌, true, false, IfOk, IfSome};
 ghost use Rattle.dt_base.specs.Abi.{low_word};
 ghost use Rattle.dt_fds.specs.Descriptions.{description_at, is_of_dir};
-ghost use Rattle.dt_host.specs.Cause.{HasCause};
+ghost use Rattle.dt_host.specs.Asks.{Asks};
 ghost use Rattle.dt_host.specs.World.{IsFile};
 ghost use Rattle.dt_iocalls.specs.Seeking.{moved_by, sought, seeks_to, rewinds, lseek_row};
 ghost use Rattle.dt_scene.specs.Sound.{Sound, Serves, Ends, Reaches, stage, scene};
 ghost use Rattle.dt_tree.specs.Table.{Stands, shape_of, tree_of};
 
-use crate::places::offset_of;
+use crate::offsets::offset_of;
 use dt_base::abi::{SEEK_CUR, SEEK_END, SEEK_SET, low_word};
 use dt_base::{Answer, Caller, Errno, OFFSET_LIMIT};
 use dt_fds::{DescKind, Spot};
@@ -17,9 +17,9 @@ use dt_scene::Fs;
 use dt_space::Space;
 use dt_tree::Tree;
 
-/// lseek(2): moves the place of a file's description, counted from the start of the file (SEEK_SET), from where it
+/// lseek(2): moves the offset of a file's description, counted from the start of the file (SEEK_SET), from where it
 /// stands (SEEK_CUR) or from the end (SEEK_END), and answers the new one; a listing can only start again. The errors
-/// are EBADF, ESPIPE (neither a file nor a directory), and EINVAL (another whence, or no such place).
+/// are EBADF, ESPIPE (neither a file nor a directory), and EINVAL (another whence, or no such offset).
 #[tactic(auto, unfolding(crate::specs::Seeking::lseek_row), using(crate::proofs::Described::node_in))]
 pub fn lseek<H: Host>(
     fs: &mut Fs,
@@ -49,7 +49,7 @@ pub fn lseek<H: Host>(
     }
 }
 
-// Moves the place of a file's description.
+// Moves the offset of a file's description.
 #[tactic(auto, using(crate::proofs::Scenes::after_asking))]
 fn seek<H: Host>(
     fs: &mut Fs,
@@ -89,8 +89,7 @@ fn sought<H: Host>(
     requires file { IsFile (shape_of tree.now (H.view host.old).forest) n }
     ensures ok { IfOk result
         (λ found. found ≡ sought (tree_of tree.now (H.view host.old).forest) n offset by whence) }
-    ensures stays { H.view host.new ≡ H.view host.old }
-    ensures cause { HasCause (H.count host.old) (H.count host.new) (IsErrOf result HostErr.Failed) }
+    ensures asks { Asks H.view H.count host.old host.new result }
 {
     let _before = host.faults();
     match whence {
@@ -114,7 +113,7 @@ fn moved_by(base: u64, by: u64) -> Option<u64>
     }
 }
 
-// Moves the place of a file's description to an offset, if there is one, and answers that.
+// Moves the offset of a file's description to an offset, if there is one, and answers that.
 fn go_to<H: Host>(
     fs: &mut Fs,
     host: &H,
@@ -133,7 +132,7 @@ fn go_to<H: Host>(
 {
     match found {
         Some(offset) => {
-            fs.files.set_place(caller.vpid, fd, Spot::At(offset));
+            fs.files.set_spot(caller.vpid, fd, Spot::At(offset));
             Ok(Answer::Value(offset))
         }
         None => Ok(Answer::Refused(Errno::Inval)),
@@ -160,6 +159,6 @@ fn rewind<H: Host>(
     if by != 0 || whence != SEEK_SET {
         return Ok(Answer::Refused(Errno::Inval));
     }
-    fs.files.set_place(caller.vpid, fd, Spot::After(None));
+    fs.files.set_spot(caller.vpid, fd, Spot::After(None));
     Ok(Answer::Value(0))
 }

@@ -1,14 +1,15 @@
 // The calls that write or cut a file.
-ghost use Rattle.std.specs.Prelude.{◌≡◌, ◌≢◌, ◌≤◌, [], false, length, None, Ok, Err, IfOk, IfSome, IsErrOf, IsOk, MatchResult};
+ghost use Rattle.std.specs.Prelude.{◌≡◌, ◌≢◌, ◌≤◌, [], false, length, None, Ok, Err};
+ghost use Rattle.std.specs.Prelude.{IfOk, IfSome, IsOk, MatchResult};
 ghost use Rattle.dt_base.specs.Abi.{low_word};
 ghost use Rattle.dt_base.specs.declared.limits.TheConstants.{TRANSFER_LIMIT};
 ghost use Rattle.dt_fds.specs.Backs.{IsIn};
 ghost use Rattle.dt_fds.specs.Descriptions.{description_at, is_of_dir, write_pipe as pipe_of_write};
 ghost use Rattle.dt_fds.specs.declared.desc.Spot.TheVariants.{At as at_offset};
-ghost use Rattle.dt_host.specs.Cause.{HasCause};
+ghost use Rattle.dt_host.specs.Asks.{Asks};
 ghost use Rattle.dt_host.specs.World.{IsFile};
 ghost use Rattle.dt_tree.specs.Table.{Stands, shape_of, tree_of};
-ghost use Rattle.dt_iocalls.specs.Places.{goes_on};
+ghost use Rattle.dt_iocalls.specs.Offsets.{goes_on};
 ghost use Rattle.dt_iocalls.specs.Ranges.{gathered, total_len};
 ghost use Rattle.dt_iocalls.specs.Writing.{write_offset, writes_at, writes_on, writes_file, writes_kind, writes_to};
 ghost use Rattle.dt_iocalls.specs.Writing.{write_row, writev_row, writes_bytes_at, writes_file_at, pwrite64_row};
@@ -18,8 +19,8 @@ ghost use Rattle.dt_scene.specs.Arguments.{argument};
 ghost use Rattle.dt_scene.specs.Scene.{answers};
 ghost use Rattle.dt_scene.specs.Sound.{Sound, Serves, Ends, Reaches, stage, scene};
 
+use crate::offsets::{is_writable, offset_of};
 use crate::piping::answered;
-use crate::places::{is_writable, offset_of};
 use crate::ranges::{Range, gather, gather_piece, ranges_at, readable, total_len};
 use dt_base::abi::{byte_count, low_word};
 use dt_base::{Answer, Blob, Caller, Errno};
@@ -235,7 +236,7 @@ fn write_piece<H: Host>(
     )
 }
 
-// Writes bytes to a file at an offset, or at its end, and moves the place of its description.
+// Writes bytes to a file at an offset, or at its end, and moves the offset of its description.
 #[tactic(auto, using(crate::proofs::Scenes::after_asking))]
 fn write_file<H: Host>(
     fs: &mut Fs,
@@ -274,8 +275,7 @@ fn write_offset<H: Host>(
     requires file { IsFile (shape_of tree.now (H.view host.old).forest) n }
     ensures ok { IfOk result
         (λ at. at ≡ write_offset (tree_of tree.now (H.view host.old).forest) append n offset) }
-    ensures stays { H.view host.new ≡ H.view host.old }
-    ensures cause { HasCause (H.count host.old) (H.count host.new) (IsErrOf result HostErr.Failed) }
+    ensures asks { Asks H.view H.count host.old host.new result }
 {
     let _before = host.faults();
     if append {
@@ -285,7 +285,7 @@ fn write_offset<H: Host>(
     }
 }
 
-// Writes bytes to an offset of a file, and moves the place of its description behind them.
+// Writes bytes to an offset of a file, and moves the offset of its description behind them.
 fn write_on<H: Host>(
     fs: &mut Fs,
     host: &mut H,
@@ -342,7 +342,7 @@ fn write_at<H: Host>(
     }
 }
 
-// Moves the place of a description, and answers so many bytes.
+// Moves the offset of a description, and answers so many bytes.
 #[tactic(auto, using(crate::proofs::Described::same_nodes))]
 fn go_on<H: Host>(
     fs: &mut Fs,
@@ -362,7 +362,7 @@ fn go_on<H: Host>(
         (stage fs.new (H.view host.now) caller.now space.now) result
         (H.count host.now) (H.count host.now) }
 {
-    fs.files.set_place(caller.vpid, fd, Spot::At(offset));
+    fs.files.set_spot(caller.vpid, fd, Spot::At(offset));
     Ok(Answer::Value(count))
 }
 

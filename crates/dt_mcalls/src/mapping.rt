@@ -99,7 +99,6 @@ fn map_anywhere(space: &mut Space, count: u64, rights: u8) -> Result<Answer, NoM
     }
 }
 
-// Maps a range that is free.
 #[tactic(auto, unfolding(crate::specs::Mmap::map_free))]
 fn map_free(space: &mut Space, first: u64, count: u64, rights: u8) -> Result<Answer, NoMemory>
     requires some { 0 < count }

@@ -1,8 +1,9 @@
 -- The entries of a directory, in the order of their binding and as a map by name.
-use Rattle.std.proofs.Common.{◌≡◌, ◌≢◌, ℕ, List, [], ◌∷◌, ◌++◌, length, map, Bool, cond, true, false, ◌&&◌, Option, Some, None, Vec, refl, sym, ap, subst, ◌∙◌, arith, nat_eq}
-use Rattle.std.proofs.lemmas.List.{map-append}
+use Rattle.std.proofs.Common.{◌≡◌, ◌≢◌, ℕ, List, [], ◌∷◌, ◌++◌, map, Bool, cond, true, false, ◌&&◌, Some, None, Vec, refl, sym, ap, subst, ◌∙◌, arith, nat_eq}
+use Rattle.std.proofs.lemmas.Iterator.Adapters.{option_map_id}
+use Rattle.std.proofs.lemmas.List.{map-append, nil_from_length}
 use Rattle.std.proofs.lemmas.List.Sorted.{IsPermutation-refl, IsPermutation-cons, IsPermutation-trans, IsPermutation-middle}
-use Rattle.std.specs.Prelude.{option_map, vec_items}
+use Rattle.std.specs.Prelude.{vec_items}
 use Rattle.std.specs.declared.cmp.Ordering.{Ordering}
 use Rattle.std.specs.declared.cmp.Ordering.TheVariants.{Less, Equal, Greater}
 use Rattle.std.specs.Ordering.{nat_cmp, is_eq, ordering_then}
@@ -19,10 +20,6 @@ use Rattle.dt_host.proofs.Maps.{names_tie, at_remove}
 use Rattle.dt_host.proofs.MapOf.{get-map_of}
 use Rattle.dt_memhost.specs.Order.{Order, without}
 use Rattle.dt_memhost.specs.inner.Dir.{order_of, names_of}
-
-none_left : {A : Type 0} (xs : List A) → length xs ≡ 0 → xs ≡ []
-none_left [] e = refl
-none_left (x ∷ xs) e = absurd (omega arith)
 
 -- two lists that look alike still do with alike elements at their ends
 pub alike_pushed : {A B C : Type 0} (f : A → C) (g : B → C) (xs : List A) (ys : List B) (x : A) (y : B) → map f xs ≡ map g ys → f x ≡ g y → map f (xs ++ x ∷ []) ≡ map g (ys ++ y ∷ [])
@@ -55,16 +52,12 @@ names_as_map : {Z : Type 0} (entries : List (Vec ℕ Z × ℕ)) → names_of (or
 unfolding map_of
 names_as_map entries = refl
 
-same_found : {X : Type 0} (found : Option X) → option_map (λ x. x) found ≡ found
-same_found None = refl
-same_found (Some x) = refl
-
 -- the number under a name is what a look-up by bytes finds
 pub get-names_of : {Z : Type 0} (entries : List (Vec ℕ Z × ℕ)) (name : List ℕ) → get (names_of (order_of entries)) name ≡ lookup (λ key. pointwise nat_eq name key.items) entries
 get-names_of {Z} entries name =
     ap (λ names. get names name) (names_as_map entries)
     ∙ get-map_of nat_list_cmp_total vec_items (λ n. n) name entries
-    ∙ same_found _
+    ∙ option_map_id _
     ∙ sym (λ i. lookup (λ (key : Vec ℕ Z). bytes_tie name key.items i) entries)
 
 -- a new name goes last
@@ -130,7 +123,7 @@ unfolding IsDistinct
 each_entry [] h = subst (λ found. IsPermutation found []) (sym no_entries) (IsPermutation-refl [])
   where
     no_entries : entries (empty {X = ℕ} {R = slice_cmp nat_cmp}) ≡ []
-    no_entries = none_left (entries (empty {X = ℕ} {R = slice_cmp nat_cmp})) (sym (len-entries (empty {X = ℕ} {R = slice_cmp nat_cmp})) ∙ len-empty (slice_cmp nat_cmp) ℕ)
+    no_entries = nil_from_length (entries (empty {X = ℕ} {R = slice_cmp nat_cmp})) (sym (len-entries (empty {X = ℕ} {R = slice_cmp nat_cmp})) ∙ len-empty (slice_cmp nat_cmp) ℕ)
 each_entry (e ∷ es) h =
     let names = names_of (order_of es) in
     let rest = each_entry es h.1 in

@@ -103,7 +103,7 @@ impl Script {
         self.picker = Picker::new(Vec::new(alloc), number);
     }
 
-    /// A word.
+    /// The next word, which chooses what the host does where it may do several things.
     pub(crate) fn word(&mut self) -> u32
         ensures word { result ≡ word_of self.old }
         ensures after { self.new ≡ picked self.old }

@@ -104,7 +104,6 @@ impl Store for MemStore {
     }
 }
 
-// The bytes of the file of that name.
 fn file_named<'a>(files: &'a BTreeMap<String, Vec<u8>>, name: &str) -> Option<&'a Vec<u8>>
     ensures { option_map vec_items (option_copied result)
         ≡ get (files_of files.now.entries) name.now }

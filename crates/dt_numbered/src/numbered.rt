@@ -1,22 +1,22 @@
 // Values by number, which contracts see as a finite map.
-ghost use Rattle.std.specs.Prelude.{◌≡◌, ◌≢◌, ℕ, Some, IsSome, is_some, IfOk, OnOk, OnErr};
+ghost use Rattle.std.specs.Prelude.{◌≡◌, ◌≢◌, ℕ, Some, IsSome, is_some, nat_eq, IfOk, OnOk, OnErr};
 ghost use Rattle.std.specs.Option.{option_copied, option_copied_mut};
 ghost use Rattle.std.specs.Borrow.{sem};
 ghost use Rattle.std.specs.FinMap.{FinMap, get, insert, remove, empty, keys};
 ghost use Rattle.std.specs.Ordering.{nat_cmp};
-ghost use Rattle.std.specs.BTreeMap as tree;
+ghost use Rattle.std.specs.HashMap as hash;
 ghost use Rattle.dt_numbered.specs.Lent.{LendsValue};
 
 use std::alloc::{AllocError, Global};
-use std::collections::BTreeMap;
+use std::collections::HashMap;
 use std::marker::Model;
 use std::mem;
 
-/// Values by number.
+/// Values by number. They are found by a hash, so that a look-up among many takes as long as one among few.
 #[derive(Drop)]
 pub struct Numbered<X: Drop> {
     alloc: Global,
-    map: BTreeMap<u64, X>,
+    map: HashMap<u64, X>,
 }
 
 impl<X: Drop> Model for Numbered<X> {
@@ -39,7 +39,7 @@ impl<X: Drop> Numbered<X> {
     {
         Numbered {
             alloc,
-            map: BTreeMap::new(alloc),
+            map: HashMap::new(alloc),
         }
     }
 
@@ -61,7 +61,9 @@ impl<X: Drop> Numbered<X> {
     pub fn numbers(&self) -> Result<Vec<u64>, AllocError>
         ensures { IfOk result (λ numbers. numbers.items ≡ keys self.now) }
     {
-        listed(self.alloc, &self.map)
+        let mut numbers = listed(self.alloc, &self.map)?;
+        numbers.sort_unstable();
+        Ok(numbers)
     }
 
     /// The value of a number for writing, if it has one.
@@ -107,19 +109,19 @@ impl<X: Drop> Numbered<X> {
     }
 }
 
-// The numbers that have a value, rising.
-fn listed<X: Drop>(alloc: Global, map: &BTreeMap<u64, X>) -> Result<Vec<u64>, AllocError>
-    ensures numbers { IfOk result (λ numbers. numbers.items ≡ tree.keys map.now) }
-    ensures rising { tree.IsOrdered nat_cmp map.now }
+// The numbers that have a value, each once.
+fn listed<X: Drop>(alloc: Global, map: &HashMap<u64, X>) -> Result<Vec<u64>, AllocError>
+    ensures numbers { IfOk result (λ numbers. numbers.items ≡ hash.keys map.now) }
+    ensures unique { hash.IsUnique nat_eq map.now }
 {
     map.keys().copied().collect(alloc)
 }
 
 // Puts another value in the place of one.
-fn replace<X: Drop>(map: &mut BTreeMap<u64, X>, n: u64, x: X)
-    requires { IsSome (tree.get nat_cmp map.old n) }
-    ensures here { tree.get nat_cmp map.new n ≡ Some x }
-    ensures others { (q : ℕ) → q ≢ n → tree.get nat_cmp map.new q ≡ tree.get nat_cmp map.old q }
+fn replace<X: Drop>(map: &mut HashMap<u64, X>, n: u64, x: X)
+    requires { IsSome (hash.get nat_eq map.old n) }
+    ensures here { hash.get nat_eq map.new n ≡ Some x }
+    ensures others { (q : ℕ) → q ≢ n → hash.get nat_eq map.new q ≡ hash.get nat_eq map.old q }
 {
     match map.get_mut(&n) {
         Some(place) => *place = x,
@@ -128,11 +130,11 @@ fn replace<X: Drop>(map: &mut BTreeMap<u64, X>, n: u64, x: X)
 }
 
 // Puts another value in the place of one, and gives that one.
-fn exchange<X: Drop>(map: &mut BTreeMap<u64, X>, n: u64, x: X) -> X
-    requires { IsSome (tree.get nat_cmp map.old n) }
-    ensures found { tree.get nat_cmp map.old n ≡ Some result }
-    ensures here { tree.get nat_cmp map.new n ≡ Some x }
-    ensures others { (q : ℕ) → q ≢ n → tree.get nat_cmp map.new q ≡ tree.get nat_cmp map.old q }
+fn exchange<X: Drop>(map: &mut HashMap<u64, X>, n: u64, x: X) -> X
+    requires { IsSome (hash.get nat_eq map.old n) }
+    ensures found { hash.get nat_eq map.old n ≡ Some result }
+    ensures here { hash.get nat_eq map.new n ≡ Some x }
+    ensures others { (q : ℕ) → q ≢ n → hash.get nat_eq map.new q ≡ hash.get nat_eq map.old q }
 {
     let Some(place) = map.get_mut(&n) else {
         unreachable!()

@@ -67,7 +67,7 @@ unfoldable pub matched : List (List ℕ) → Option (List Row)
 matched words =
     if is_empty (fault_of program_app words) then option_map (λ run. run.1) (subcommand_of program_app words) else None
 
--- IMAGE
+-- what stands for IMAGE in the words
 unfoldable pub image_in : List Row → List ℕ
 image_in rows = unwrap_or (first_of (codes "image") rows) []
 

@@ -1,9 +1,11 @@
 -- What the pipes of a table hold, pipe by pipe.
-use Rattle.std.proofs.Common.{◌≡◌, ℕ, List, [], ◌∷◌, ◌++◌, length, Option, None, Some, refl, sym, ap, subst, ◌∙◌, append-nil, arith}
+use Rattle.std.proofs.Common.{◌≡◌, ℕ, List, [], ◌++◌, length, Option, None, Some, refl, sym, ap, subst, ◌∙◌, append-nil, arith}
+use Rattle.std.proofs.lemmas.List.{nil_from_length}
 use Rattle.std.specs.Prelude.{option_map, unwrap_or, is_some, IfSome, IsSome}
 use Rattle.std.specs.Cmp.{nat_cmp_total}
 use Rattle.std.specs.FinMap.{get, insert, nat_cmp-IsAntisymmetric}
 use Rattle.dt_host.specs.World.{Pipes}
+use Rattle.dt_host.proofs.Pipes.{held_some}
 use Rattle.dt_host.proofs.Maps.{put_back}
 use Rattle.dt_host.proofs.Valued.{get-map_values}
 use Rattle.dt_pipes.specs.declared.pipe.Pipe.{Pipe}
@@ -32,19 +34,11 @@ held_in-pipes_of t host q pipe here =
 pub backed : (t : Table) (host : Pipes) (q : ℕ) (pipe : Pipe) → Stands t host → get t.pipes q ≡ Some pipe → IsBacked host pipe
 backed t host q pipe stands here = subst (λ found. IfSome found (IsBacked host)) here (stands.each q)
 
-held_some : (found : Option (List ℕ)) → IsSome found → found ≡ Some (unwrap_or found [])
-held_some None h = cc
-held_some (Some bytes) h = refl
-
-nothing : (bytes : List ℕ) → length bytes ≡ 0 → bytes ≡ []
-nothing [] e = refl
-nothing (b ∷ bytes) e = absurd (omega arith)
-
 -- to put nothing changes nothing
 pub with_put-nothing : (t : Table) (host : Pipes) (q : ℕ) (bytes : List ℕ) → IsSome (get t.pipes q) → length bytes ≡ 0
     → pipes_of t host ≡ with_put (pipes_of t host) q bytes
 with_put-nothing t host q bytes there none =
     let pipes = pipes_of t host in
     let some : IsSome (get pipes q) = has-pipes_of t host q ∙ there in
-    sym (ap (λ xs. insert pipes q (held_in pipes q ++ xs)) (nothing bytes none) ∙ ap (insert pipes q) (append-nil (held_in pipes q))
+    sym (ap (λ xs. insert pipes q (held_in pipes q ++ xs)) (nil_from_length bytes none) ∙ ap (insert pipes q) (append-nil (held_in pipes q))
     ∙ put_back nat_cmp_total nat_cmp-IsAntisymmetric pipes q (held_in pipes q) (held_some (get pipes q) some))

@@ -1,22 +1,24 @@
 -- What the arrival of a segment comes to.
 use Rattle.std.proofs.Common.{◌≡◌, ◌≢◌, ℕ, zero, suc, ◌+◌, ◌<◌, ◌≤◌, ◌==◌, not, Bool, true, false, cond, List, [], ◌∷◌, map, length, Option, Some, None, refl, sym, ap, subst, ◌∙◌, arith}
-use Rattle.std.specs.Prelude.{IsSome, option_map}
+use Rattle.std.specs.Prelude.{IsSome, IsTrue, option_map}
 use Rattle.std.proofs.lemmas.Bool.Decides.{nat_tests}
 use Rattle.std.proofs.lemmas.List.Elements.{All-from_recursion, All-contains, Contains-get_or}
 use Rattle.std.specs.List.{AllByRecursion, Contains, filter, slice_index_or}
 use Rattle.std.specs.Ordering.{nat_cmp}
 use Rattle.std.specs.Cmp.{nat_cmp_total}
 use Rattle.std.specs.FinMap.{FinMap, get, insert, keys, nat_cmp-IsAntisymmetric}
+use Rattle.dt_base.specs.declared.limits.TheConstants.{SEGMENT_LIMIT}
 use Rattle.dt_host.specs.World.{World}
 use Rattle.dt_host.proofs.Maps.{at_insert, get-insert_same, get-insert_other}
 use Rattle.dt_host.proofs.Totals.{total-insert}
 use Rattle.dt_procs.specs.declared.member.TheConstants.{PROCESS_LIMIT}
 use Rattle.dt_rv64.specs.declared.machine.Machine.{Machine}
 use Rattle.dt_rv64.specs.declared.segments.Seg.{Seg}
-use Rattle.dt_rv64.specs.Segment.{segment_of}
+use Rattle.dt_rv64.specs.Segment.{SegmentRun, segment_of}
+use Rattle.dt_rv64.proofs.Runs.{segment-is}
 use Rattle.dt_sched.specs.declared.process.Process.{Process}
 use Rattle.dt_sched.specs.declared.process.Phase.TheVariants as as_queued
-use Rattle.dt_sched.specs.Core.{CoreView, owing, is_owing, arrived, arrived_at}
+use Rattle.dt_sched.specs.Core.{CoreView, owing, is_owing, is_count, arrived, arrived_at}
 use Rattle.dt_sched.proofs.Tables.{owing-arrived}
 use Rattle.dt_calls.specs.Container.{Machines}
 use Rattle.dt_calls.specs.InCode.{ContainerView, shared_of, home_of}
@@ -33,6 +35,14 @@ use Rattle.dt_run.specs.inner.Good.{IsPlaced, IsGood, steps_left}
 use Rattle.dt_run.proofs.Works.{get-works_in, works_in-insert}
 use Rattle.dt_run.proofs.Queued.{pids-arrived}
 use Rattle.dt_run.proofs.Placed.{keys-total, weight-some}
+
+-- a segment that was run has a count that may arrive
+pub run-counts : (was now : Machine) (seg : Seg) → segment_of was ≡ record { count = seg.count; stop = seg.stop; machine = now } → IsTrue (is_count seg.count)
+run-counts was now seg run =
+    let is = segment-is was in
+    let least : 1 ≤ seg.count = subst (λ (made : SegmentRun). 1 ≤ made.count) run is.least in
+    let most : seg.count ≤ SEGMENT_LIMIT = subst (λ (made : SegmentRun). made.count ≤ SEGMENT_LIMIT) run is.most in
+    grind (arith, nat_tests)
 
 -- a process that owes, with its machine at home
 pub record IsOwed (machines : Machines) (phases : Phases) (next p : ℕ) : Type 0 where

@@ -13,3 +13,4 @@ pub mod Completed
 pub mod Wanting
 pub mod Failing
 pub mod Lines
+pub mod Causes

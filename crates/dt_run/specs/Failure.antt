@@ -19,7 +19,7 @@ failure_line Host = codes "dettrace: host fault\n"
 failure_line Output = codes "dettrace: output fault\n"
 failure_line NoMemory = codes "dettrace: out of memory\n"
 
--- the status
+-- the exit status of the program
 abbrev pub failure_status : Failure → ℕ
 failure_status Usage = WORDS_REFUSED
 failure_status (Image refusal) = IMAGE_REFUSED

@@ -51,9 +51,7 @@ pub fn run_container<H: Host + Send, O: Sink + Send, G: Gate + Sync>(
     ensures host { HasCause (H.count host.old) (H.count host.new) (IsErrOf result RunErr.Host) }
     ensures sink { HasCause (O.count out.old) (O.count out.new) (IsErrOf result RunErr.Sink) }
 {
-    let mut container = Container::install(alloc, host, image, seed)?;
-    let launch = container.launch(alloc, host, command)?;
-    let run = run_from(alloc, host, container, budget, launch)?;
+    let run = play(alloc, host, image, command, seed, budget)?;
     let text = report_text(alloc, host, &run)?;
     sink_all(out, &text)?;
     Ok(status_by(run.last.end(FIRST_PID)))
@@ -65,6 +63,25 @@ pub struct Run {
     pub events: Vec<Event>,
     pub verdict: Verdict,
     pub last: Container,
+}
+
+// Installs an image, launches a command in it, and takes the turns of the run.
+fn play<H: Host>(
+    alloc: Global,
+    host: &mut H,
+    image: &Image,
+    command: &Command,
+    seed: u64,
+    budget: u64,
+) -> Result<Run, HostErr>
+    requires { IsEmptyStart (H.view host.old) }
+    ensures ok { IfOk result (λ run. run_of image.now command.now seed budget ≡ run_as run (H.view host.new)) }
+    ensures sound { IfOk result (λ run. IsSoundContainer run.last (H.view host.new)) }
+    ensures cause { HasCause (H.count host.old) (H.count host.new) (IsErrOf result HostErr.Failed) }
+{
+    let mut container = Container::install(alloc, host, image, seed)?;
+    let launch = container.launch(alloc, host, command)?;
+    run_from(alloc, host, container, budget, launch)
 }
 
 // The turns of a program that was started, or the end of a run whose program was not.

@@ -30,7 +30,6 @@ impl Machine {
         }
     }
 
-    // Branches.
     #[tactic(auto, unfolding(crate::specs::Machine::executed))]
     fn branch_where(&mut self, instruction: Instr, data: &mut PageHint) -> Step
         requires { IsFrom Branch instruction }
@@ -53,7 +52,6 @@ impl Machine {
         }
     }
 
-    // Loads.
     #[tactic(auto, unfolding(crate::specs::Machine::executed))]
     fn load(&mut self, instruction: Instr, data: &mut PageHint) -> Step
         requires { IsFrom Load instruction }
@@ -92,7 +90,6 @@ impl Machine {
         }
     }
 
-    // Stores.
     #[tactic(auto, unfolding(crate::specs::Machine::executed))]
     fn store(&mut self, instruction: Instr, data: &mut PageHint) -> Step
         requires { IsFrom Store instruction }
@@ -123,7 +120,6 @@ impl Machine {
         }
     }
 
-    // Computes from an immediate.
     #[tactic(auto, unfolding(crate::specs::Machine::executed))]
     fn compute_immediate(&mut self, instruction: Instr) -> Step
         requires { IsFrom Immediate instruction }
@@ -145,7 +141,6 @@ impl Machine {
         }
     }
 
-    // Computes from registers.
     #[tactic(auto, unfolding(crate::specs::Machine::executed))]
     fn compute(&mut self, instruction: Instr) -> Step
         requires { IsFrom Register instruction }
@@ -166,7 +161,6 @@ impl Machine {
         }
     }
 
-    // Computes 32 bits.
     #[tactic(auto, unfolding(crate::specs::Machine::executed))]
     fn compute_32(&mut self, instruction: Instr) -> Step
         requires { IsFrom Word instruction }

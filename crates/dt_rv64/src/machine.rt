@@ -78,7 +78,7 @@ impl Machine {
         self.step_hinted(&mut PageHint::new(), &mut PageHint::new())
     }
 
-    /// Takes one step, with hints where code and data stand. No answer depends on them.
+    /// Takes one step, with page hints where code and data stand. No answer depends on them.
     #[tactic(auto, unfolding(crate::specs::Machine::exec))]
     pub fn step_hinted(&mut self, code: &mut PageHint, data: &mut PageHint) -> Step
         ensures stays { result ≢ Step.Ran → self.new ≡ self.old }

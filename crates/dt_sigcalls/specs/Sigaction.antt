@@ -6,12 +6,12 @@ use Rattle.dt_base.specs.declared.errno.Errno.TheVariants.{Inval, Fault as BadAd
 use Rattle.dt_space.specs.declared.access.Miss.{Miss}
 use Rattle.dt_space.specs.declared.access.TheConstants.{READ}
 use Rattle.dt_space.specs.Space.{PageView, load}
-use Rattle.dt_signals.specs.declared.numbers.TheConstants.{SIGKILL, SIGSTOP}
+use Rattle.dt_base.specs.declared.abi.TheConstants.{SIGKILL, SIGSTOP, SIGSET_SIZE}
 use Rattle.dt_signals.specs.declared.action.Action.{Action}
 use Rattle.dt_signals.specs.declared.signals.Sig.{Sig}
 use Rattle.dt_signals.specs.Frame.{word_in}
 use Rattle.dt_signals.specs.Signals.{action_of, is_signal, with_action}
-use Rattle.dt_sigcalls.specs.declared.numbers.TheConstants.{SIGSET_SIZE, SIGACTION_SIZE, SA_HANDLER, SA_FLAGS, SA_MASK}
+use Rattle.dt_sigcalls.specs.declared.numbers.TheConstants.{SIGACTION_SIZE, SA_HANDLER, SA_FLAGS, SA_MASK}
 use Rattle.dt_sigcalls.specs.Called.{Called, refused, told, told_then}
 
 -- what a process does about these signals can't be changed

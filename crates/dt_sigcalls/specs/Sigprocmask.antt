@@ -8,7 +8,7 @@ use Rattle.dt_space.specs.declared.access.TheConstants.{READ}
 use Rattle.dt_space.specs.Space.{PageView, load, loaded_number}
 use Rattle.dt_signals.specs.declared.signals.Sig.{Sig}
 use Rattle.dt_signals.specs.Signals.{with_mask}
-use Rattle.dt_sigcalls.specs.declared.numbers.TheConstants.{SIGSET_SIZE, SIG_BLOCK, SIG_UNBLOCK, SIG_SETMASK}
+use Rattle.dt_base.specs.declared.abi.TheConstants.{SIGSET_SIZE, SIG_BLOCK, SIG_UNBLOCK, SIG_SETMASK}
 use Rattle.dt_sigcalls.specs.Called.{Called, refused, told, told_then}
 
 -- the set of a number that was read

@@ -7,10 +7,9 @@ ghost use Rattle.dt_sigcalls.specs.Sigaction.{is_fixed, action_bytes, action_in,
 ghost use Rattle.dt_sigcalls.specs.Sigaction.{sigaction_of};
 
 use crate::buffers::tell;
-use crate::numbers::{SA_FLAGS, SA_HANDLER, SA_MASK, SIGACTION_SIZE, SIGSET_SIZE};
-use dt_base::abi::low_word;
+use crate::numbers::{SA_FLAGS, SA_HANDLER, SA_MASK, SIGACTION_SIZE};
+use dt_base::abi::{SIGKILL, SIGNAL_LIMIT, SIGSET_SIZE, SIGSTOP, low_word};
 use dt_base::{Answer, Errno, get64, put64};
-use dt_signals::numbers::{SIGKILL, SIGNAL_LIMIT, SIGSTOP};
 use dt_signals::{Action, Sig};
 use dt_space::{Miss, Space};
 

@@ -5,8 +5,7 @@ ghost use Rattle.dt_sigcalls.specs.Called.{called};
 ghost use Rattle.dt_sigcalls.specs.Sigprocmask.{new_set, changed, by_set, sigprocmask_of};
 
 use crate::buffers::tell;
-use crate::numbers::{SIG_BLOCK, SIG_SETMASK, SIG_UNBLOCK, SIGSET_SIZE};
-use dt_base::abi::low_word;
+use dt_base::abi::{SIG_BLOCK, SIG_SETMASK, SIG_UNBLOCK, SIGSET_SIZE, low_word};
 use dt_base::{Answer, Errno};
 use dt_signals::Sig;
 use dt_space::{Miss, Space};

@@ -1,7 +1,7 @@
 -- What a handler's entry wrote can be read.
 use Rattle.std.proofs.Common.{◌≡◌, ◌≢◌, ℕ, ◌%◌, ◌<◌, ◌^◌, List, length, get_or, set, Result, Ok, Err, refl, sym, ap, subst, ◌∙◌, arith}
 use Rattle.std.proofs.lemmas.List.{get_or-set_same, get_or-set_other}
-use Rattle.dt_base.specs.declared.abi.TheConstants.{A0, A1, A2, SP}
+use Rattle.dt_base.specs.declared.abi.TheConstants.{A0, A1, A2, SP, RA}
 use Rattle.dt_elf.specs.declared.layout.TheConstants.{TRAMPOLINE}
 use Rattle.dt_rv64.specs.declared.machine.Machine.{Machine}
 use Rattle.dt_rv64.specs.Effects.{register}
@@ -10,7 +10,7 @@ use Rattle.dt_space.specs.declared.access.Miss.{Miss}
 use Rattle.dt_space.specs.declared.access.TheConstants.{READ}
 use Rattle.dt_space.specs.Space.{PageView, load}
 use Rattle.dt_space.specs.Write.{stored}
-use Rattle.dt_signals.specs.declared.numbers.TheConstants.{RA, FRAME_SIZE}
+use Rattle.dt_signals.specs.declared.numbers.TheConstants.{FRAME_SIZE}
 use Rattle.dt_signals.specs.declared.action.Action.{Action}
 use Rattle.dt_signals.specs.declared.delivery.Delivery.TheVariants.{Handler}
 use Rattle.dt_signals.specs.declared.signals.Sig.{Sig}

@@ -37,18 +37,18 @@ bytes_of-more words i d within =
     ap bytes_of (take_more words i d within) ∙ bytes_of-append (take i words) (get_or words i d ∷ []) ∙ rw (bytes_of-cons (get_or words i d) [], bytes_of-nil, append-nil (low_bytes 8 (get_or words i d))) refl
 
 -- a field behind what was written, in bytes that follow it
-put-next : (width value at : ℕ) (front rest : List ℕ) → length front ≡ at → with_field width (front ++ rest) at value ≡ (front ++ low_bytes width value) ++ drop width rest
-put-next width value at front rest long =
-    let before = take_at front rest at long in
-    let behind : drop (at + width) (front ++ rest) ≡ drop width rest = sym (drop-drop width at (front ++ rest)) ∙ ap (drop width) (drop_at front rest at long) in
+put-next : (width value at : ℕ) (prefix rest : List ℕ) → length prefix ≡ at → with_field width (prefix ++ rest) at value ≡ (prefix ++ low_bytes width value) ++ drop width rest
+put-next width value at prefix rest long =
+    let before = take_at prefix rest at long in
+    let behind : drop (at + width) (prefix ++ rest) ≡ drop width rest = sym (drop-drop width at (prefix ++ rest)) ∙ ap (drop width) (drop_at prefix rest at long) in
     rw (before, behind) refl
 
 -- a field behind bytes that were written over others
 pub field-behind : (width value from at : ℕ) (old bytes : List ℕ) → from ≤ length old → at ≡ from + length bytes → with_field width (overwritten old from bytes) at value ≡ overwritten old from (bytes ++ low_bytes width value)
 field-behind width value from at old bytes within is =
-    let front = take from old ++ bytes in
-    let long : length front ≡ at = omega (arith, length-append (take from old) bytes, length-take-le from old within) in
-    let next = put-next width value at front (drop (from + length bytes) old) long in
+    let prefix = take from old ++ bytes in
+    let long : length prefix ≡ at = omega (arith, length-append (take from old) bytes, length-take-le from old within) in
+    let next = put-next width value at prefix (drop (from + length bytes) old) long in
     let rest : drop width (drop (from + length bytes) old) ≡ drop (from + length (bytes ++ low_bytes width value)) old = drop-drop width (from + length bytes) old ∙ ap (λ (n : ℕ). drop n old) (omega (arith, length-append bytes (low_bytes width value), length-low_bytes width value)) in
     next ∙ rw (rest, append_assoc (take from old) bytes (low_bytes width value)) refl
 
@@ -71,18 +71,18 @@ registers-all old registers index all = ap (λ (words : List ℕ). overwritten o
 
 -- zeros behind what was written
 
-zeros-on : (at skip left : ℕ) (front : List ℕ) → left ≡ skip + at → front ++ replicate left 0 ≡ (front ++ replicate skip 0) ++ replicate at 0
-zeros-on at skip left front is = rw (append_assoc front (replicate skip 0) (replicate at 0), replicate-append-replicate {A = ℕ} skip at 0, is) refl
+zeros-on : (at skip left : ℕ) (prefix : List ℕ) → left ≡ skip + at → prefix ++ replicate left 0 ≡ (prefix ++ replicate skip 0) ++ replicate at 0
+zeros-on at skip left prefix is = rw (append_assoc prefix (replicate skip 0) (replicate at 0), replicate-append-replicate {A = ℕ} skip at 0, is) refl
 
-put-zeros : (width value at left rest : ℕ) (front : List ℕ) → length front ≡ at → left ≡ width + rest → with_field width (front ++ replicate left 0) at value ≡ (front ++ low_bytes width value) ++ replicate rest 0
-put-zeros width value at left rest front long is =
+put-zeros : (width value at left rest : ℕ) (prefix : List ℕ) → length prefix ≡ at → left ≡ width + rest → with_field width (prefix ++ replicate left 0) at value ≡ (prefix ++ low_bytes width value) ++ replicate rest 0
+put-zeros width value at left rest prefix long is =
     let more : drop width (replicate left 0) ≡ replicate rest 0 = drop-replicate width left 0 ∙ ap (λ (n : ℕ). replicate {A = ℕ} n 0) (omega arith) in
-    put-next width value at front (replicate left 0) long ∙ rw more refl
+    put-next width value at prefix (replicate left 0) long ∙ rw more refl
 
-write-zeros : (bytes : List ℕ) (at left rest : ℕ) (front : List ℕ) → length front ≡ at → left ≡ length bytes + rest → overwritten (front ++ replicate left 0) at bytes ≡ (front ++ bytes) ++ replicate rest 0
-write-zeros bytes at left rest front long is =
-    let before = take_at front (replicate left 0) at long in
-    let behind : drop (at + length bytes) (front ++ replicate left 0) ≡ replicate rest 0 = sym (drop-drop (length bytes) at (front ++ replicate left 0)) ∙ ap (drop (length bytes)) (drop_at front (replicate left 0) at long) ∙ drop-replicate (length bytes) left 0 ∙ ap (λ (n : ℕ). replicate {A = ℕ} n 0) (omega arith) in
+write-zeros : (bytes : List ℕ) (at left rest : ℕ) (prefix : List ℕ) → length prefix ≡ at → left ≡ length bytes + rest → overwritten (prefix ++ replicate left 0) at bytes ≡ (prefix ++ bytes) ++ replicate rest 0
+write-zeros bytes at left rest prefix long is =
+    let before = take_at prefix (replicate left 0) at long in
+    let behind : drop (at + length bytes) (prefix ++ replicate left 0) ≡ replicate rest 0 = sym (drop-drop (length bytes) at (prefix ++ replicate left 0)) ∙ ap (drop (length bytes)) (drop_at prefix (replicate left 0) at long) ∙ drop-replicate (length bytes) left 0 ∙ ap (λ (n : ℕ). replicate {A = ℕ} n 0) (omega arith) in
     rw (before, behind) refl
 
 -- words in a frame, one after another
@@ -151,8 +151,8 @@ frame-written signal pc mask narrow pc_at registers_at mask_at size registers in
 
 -- a frame is made of bytes
 
-IsBytes-both : (front rest : List ℕ) → IsBytes front → IsBytes rest → IsBytes (front ++ rest)
-IsBytes-both front rest = All-append (λ (b : ℕ). b < 256) front rest
+IsBytes-both : (prefix rest : List ℕ) → IsBytes prefix → IsBytes rest → IsBytes (prefix ++ rest)
+IsBytes-both prefix rest = All-append (λ (b : ℕ). b < 256) prefix rest
 
 IsBytes-zeros : (count : ℕ) → IsBytes (replicate count 0)
 IsBytes-zeros count = All-replicate (λ (b : ℕ). b < 256) count 0 (omega arith)

@@ -22,22 +22,22 @@ use Rattle.dt_signals.proofs.Frames.{bytes_of-cons, length-bytes_of, words_in-no
 word-back : (v : ℕ) → v < 2 ^ 64 → little_endian (low_bytes 8 v) ≡ v
 word-back v fits = omega arith
 
-word-at : (front rest : List ℕ) (v at : ℕ) → length front ≡ at → v < 2 ^ 64 → word_in (front ++ (low_bytes 8 v ++ rest)) at ≡ v
-word-at front rest v at long fits =
-    let behind : drop at (front ++ (low_bytes 8 v ++ rest)) ≡ low_bytes 8 v ++ rest = drop_at front (low_bytes 8 v ++ rest) at long in
+word-at : (prefix rest : List ℕ) (v at : ℕ) → length prefix ≡ at → v < 2 ^ 64 → word_in (prefix ++ (low_bytes 8 v ++ rest)) at ≡ v
+word-at prefix rest v at long fits =
+    let behind : drop at (prefix ++ (low_bytes 8 v ++ rest)) ≡ low_bytes 8 v ++ rest = drop_at prefix (low_bytes 8 v ++ rest) at long in
     let bytes : take 8 (low_bytes 8 v ++ rest) ≡ low_bytes 8 v = take_at (low_bytes 8 v) rest 8 (length-low_bytes 8 v) in
     ap (λ (xs : List ℕ). little_endian (take 8 xs)) behind ∙ ap little_endian bytes ∙ word-back v fits
 
-words-at : (words front rest : List ℕ) (at : ℕ) → length front ≡ at → All (λ word. word < 2 ^ 64) words → words_in (front ++ (bytes_of words ++ rest)) at (length words) ≡ words
-words-at [] front rest at long fit = words_in-none (front ++ (bytes_of [] ++ rest)) at
-words-at (word ∷ words) front rest at long fit =
+words-at : (words prefix rest : List ℕ) (at : ℕ) → length prefix ≡ at → All (λ word. word < 2 ^ 64) words → words_in (prefix ++ (bytes_of words ++ rest)) at (length words) ≡ words
+words-at [] prefix rest at long fit = words_in-none (prefix ++ (bytes_of [] ++ rest)) at
+words-at (word ∷ words) prefix rest at long fit =
     let low = low_bytes 8 word in
-    let here : front ++ (bytes_of (word ∷ words) ++ rest) ≡ front ++ (low ++ (bytes_of words ++ rest)) = rw (bytes_of-cons word words) (ap (λ (xs : List ℕ). front ++ xs) (append_assoc low (bytes_of words) rest)) in
-    let on : front ++ (low ++ (bytes_of words ++ rest)) ≡ (front ++ low) ++ (bytes_of words ++ rest) = sym (append_assoc front low (bytes_of words ++ rest)) in
-    let next : length (front ++ low) ≡ at + 8 = omega (arith, length-append front low, length-low_bytes 8 word, long) in
-    let head = ap (λ (xs : List ℕ). word_in xs at) here ∙ word-at front (bytes_of words ++ rest) word at long (All-head (λ (w : ℕ). w < 2 ^ 64) word words fit) in
-    let tail = ap (λ (xs : List ℕ). words_in xs (at + 8) (length words)) (here ∙ on) ∙ words-at words (front ++ low) rest (at + 8) next (All-tail (λ (w : ℕ). w < 2 ^ 64) word words fit) in
-    words_in-suc (front ++ (bytes_of (word ∷ words) ++ rest)) at (length words) ∙ rw (head, tail) refl
+    let here : prefix ++ (bytes_of (word ∷ words) ++ rest) ≡ prefix ++ (low ++ (bytes_of words ++ rest)) = rw (bytes_of-cons word words) (ap (λ (xs : List ℕ). prefix ++ xs) (append_assoc low (bytes_of words) rest)) in
+    let on : prefix ++ (low ++ (bytes_of words ++ rest)) ≡ (prefix ++ low) ++ (bytes_of words ++ rest) = sym (append_assoc prefix low (bytes_of words ++ rest)) in
+    let next : length (prefix ++ low) ≡ at + 8 = omega (arith, length-append prefix low, length-low_bytes 8 word, long) in
+    let head = ap (λ (xs : List ℕ). word_in xs at) here ∙ word-at prefix (bytes_of words ++ rest) word at long (All-head (λ (w : ℕ). w < 2 ^ 64) word words fit) in
+    let tail = ap (λ (xs : List ℕ). words_in xs (at + 8) (length words)) (here ∙ on) ∙ words-at words (prefix ++ low) rest (at + 8) next (All-tail (λ (w : ℕ). w < 2 ^ 64) word words fit) in
+    words_in-suc (prefix ++ (bytes_of (word ∷ words) ++ rest)) at (length words) ∙ rw (head, tail) refl
 
 module _ (signal mask : ℕ) (m : Machine) (is : IsMachine m) where
   abbrev number : List ℕ
@@ -66,9 +66,9 @@ module _ (signal mask : ℕ) (m : Machine) (is : IsMachine m) where
 
   pub length-frame : length (frame_of signal m mask) ≡ FRAME_SIZE
   length-frame =
-      let front = ((number ++ zeros) ++ low_bytes 8 m.pc) ++ bytes_of registers in
-      let parts : frame_of signal m mask ≡ front ++ (low_bytes 8 mask ++ last) = simp append_assoc in
-      ap length parts ∙ omega (arith, length-append front (low_bytes 8 mask ++ last), length-append (low_bytes 8 mask) last, length-all, length-low_bytes 8 mask, length-replicate {A = ℕ} (FRAME_SIZE - FRAME_MASK - 8) 0)
+      let prefix = ((number ++ zeros) ++ low_bytes 8 m.pc) ++ bytes_of registers in
+      let parts : frame_of signal m mask ≡ prefix ++ (low_bytes 8 mask ++ last) = simp append_assoc in
+      ap length parts ∙ omega (arith, length-append prefix (low_bytes 8 mask ++ last), length-append (low_bytes 8 mask) last, length-all, length-low_bytes 8 mask, length-replicate {A = ℕ} (FRAME_SIZE - FRAME_MASK - 8) 0)
 
   pc-back : word_in (frame_of signal m mask) FRAME_PC ≡ m.pc
   pc-back =
@@ -78,18 +78,18 @@ module _ (signal mask : ℕ) (m : Machine) (is : IsMachine m) where
 
   registers-back : words_in (frame_of signal m mask) FRAME_REGISTERS 31 ≡ registers
   registers-back =
-      let front = (number ++ zeros) ++ low_bytes 8 m.pc in
+      let prefix = (number ++ zeros) ++ low_bytes 8 m.pc in
       let rest = low_bytes 8 mask ++ last in
-      let at : frame_of signal m mask ≡ front ++ (bytes_of registers ++ rest) = simp append_assoc in
+      let at : frame_of signal m mask ≡ prefix ++ (bytes_of registers ++ rest) = simp append_assoc in
       let fit : All (λ word. word < 2 ^ 64) registers = All-drop (λ (word : ℕ). word < 2 ^ 64) 1 m.regs (All-from_get_or (λ (word : ℕ). word < 2 ^ 64) m.regs 0 (λ i within. is.words i)) in
-      let back = words-at registers front rest FRAME_REGISTERS length-kept fit in
-      ap (λ (frame : List ℕ). words_in frame FRAME_REGISTERS 31) at ∙ ap (words_in (front ++ (bytes_of registers ++ rest)) FRAME_REGISTERS) (sym length-registers) ∙ back
+      let back = words-at registers prefix rest FRAME_REGISTERS length-kept fit in
+      ap (λ (frame : List ℕ). words_in frame FRAME_REGISTERS 31) at ∙ ap (words_in (prefix ++ (bytes_of registers ++ rest)) FRAME_REGISTERS) (sym length-registers) ∙ back
 
   mask-back : mask < 2 ^ 64 → word_in (frame_of signal m mask) FRAME_MASK ≡ mask
   mask-back fits =
-      let front = ((number ++ zeros) ++ low_bytes 8 m.pc) ++ bytes_of registers in
-      let at : frame_of signal m mask ≡ front ++ (low_bytes 8 mask ++ last) = simp append_assoc in
-      ap (λ (frame : List ℕ). word_in frame FRAME_MASK) at ∙ word-at front last mask FRAME_MASK length-all fits
+      let prefix = ((number ++ zeros) ++ low_bytes 8 m.pc) ++ bytes_of registers in
+      let at : frame_of signal m mask ≡ prefix ++ (low_bytes 8 mask ++ last) = simp append_assoc in
+      ap (λ (frame : List ℕ). word_in frame FRAME_MASK) at ∙ word-at prefix last mask FRAME_MASK length-all fits
 
   all-back : 0 ∷ words_in (frame_of signal m mask) FRAME_REGISTERS 31 ≡ m.regs
   all-back =

@@ -4,7 +4,7 @@ use Rattle.std.specs.List.{find}
 use Rattle.std.proofs.lemmas.Bool.Decides.{nat_tests}
 use Rattle.std.proofs.lemmas.Nat.{and_mask}
 use Rattle.std.proofs.lemmas.Nat.Bits.{bit_at_and, bit_at_not, bit_at-zero, bit_at-lt}
-use Rattle.dt_signals.specs.declared.numbers.TheConstants.{SIGNAL_LIMIT}
+use Rattle.dt_base.specs.declared.abi.TheConstants.{SIGNAL_LIMIT}
 use Rattle.dt_signals.specs.declared.signals.Sig.{Sig}
 use Rattle.dt_signals.specs.Signals.{bit_of, is_due, is_deliverable, is_dropped, signals_from, set_of, deliverable, dropped, without_ignored}
 

@@ -1,7 +1,7 @@
 -- Delivery of a signal at the end of a process's turn: that of a fault, or the lowest that is pending and neither masked nor
 -- ignored (signal(7)).
 use Rattle.std.specs.Prelude.{ℕ, ◌-◌, ◌^◌, ◌==◌, ◌||◌, not, bit_or, List, Option, None, Some, Result, Ok, Err, if◌then◌else◌}
-use Rattle.dt_base.specs.declared.abi.TheConstants.{A0, A1, A2, SP, SIGSEGV}
+use Rattle.dt_base.specs.declared.abi.TheConstants.{A0, A1, A2, SP, SIGSEGV, RA, SA_RESTART}
 use Rattle.dt_base.specs.declared.errno.Errno.TheVariants.{Intr}
 use Rattle.dt_base.specs.Abi.{has}
 use Rattle.dt_base.specs.Errno.{errno_number}
@@ -11,7 +11,6 @@ use Rattle.dt_rv64.specs.Effects.{register, with_register, answered}
 use Rattle.dt_space.specs.declared.access.Miss.{Miss}
 use Rattle.dt_space.specs.Space.{PageView}
 use Rattle.dt_space.specs.Write.{stored}
-use Rattle.dt_signals.specs.declared.numbers.TheConstants.{RA, SA_RESTART}
 use Rattle.dt_signals.specs.declared.action.Action.{Action}
 use Rattle.dt_signals.specs.declared.signals.Sig.{Sig}
 use Rattle.dt_signals.specs.declared.delivery.Delivery.{Delivery}

@@ -1,7 +1,7 @@
 -- What a process does about signals: its actions, the signals that are masked, and those that are pending
 -- (signal(7), sigaction(2), sigprocmask(2)).
 use Rattle.std.specs.Prelude.{ℕ, zero, suc, ◌+◌, ◌-◌, ◌/◌, ◌%◌, ◌^◌, ◌==◌, ◌||◌, ◌&&◌, not, nat_lt, Bool, bit_and, bit_or, List, [], ◌∷◌, map, find, replicate, slice_index_or, slice_set, Option, if◌then◌else◌}
-use Rattle.dt_signals.specs.declared.numbers.TheConstants.{SIG_DFL, SIG_IGN, SIGNAL_LIMIT, SIGCHLD, MASKABLE}
+use Rattle.dt_base.specs.declared.abi.TheConstants.{SIG_DFL, SIG_IGN, SIGNAL_LIMIT, SIGCHLD, MASKABLE}
 use Rattle.dt_signals.specs.declared.action.Action.{Action}
 use Rattle.dt_signals.specs.declared.signals.Sig.{Sig}
 
@@ -17,7 +17,7 @@ bit_of signal = 2 ^ (signal - 1)
 abbrev pub is_in : ℕ → ℕ → Bool
 is_in signal set = set / bit_of signal % 2 == 1
 
--- the default action
+-- the action that every signal has at first (signal(7))
 abbrev pub default_action : Action
 default_action = record { handler = SIG_DFL; flags = 0; mask = 0 }
 
@@ -70,7 +70,6 @@ unfoldable pub signals_from : ℕ → ℕ → List ℕ
 signals_from signal zero = []
 signals_from signal (suc count) = signal ∷ signals_from (signal + 1) count
 
--- all signals
 abbrev pub all_signals : List ℕ
 all_signals = signals_from 1 SIGNAL_LIMIT
 

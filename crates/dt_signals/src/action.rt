@@ -2,7 +2,7 @@
 ghost use Rattle.std.specs.Prelude.{◌≡◌};
 ghost use Rattle.dt_signals.specs.Signals.{has_handler, kept_over_exec, is_ignored};
 
-use crate::numbers::{SIG_DFL, SIG_IGN, SIGCHLD};
+use dt_base::abi::{SIG_DFL, SIG_IGN, SIGCHLD};
 
 /// What a process does about a signal (`struct sigaction`, sigaction(2)).
 #[derive(Clone, Copy, Debug)]
@@ -15,7 +15,7 @@ pub struct Action {
     pub mask: u64,
 }
 
-/// The default action.
+/// The action that every signal has at first (signal(7)).
 pub(crate) const DEFAULT_ACTION: Action = Action {
     handler: SIG_DFL,
     flags: 0,

@@ -6,10 +6,9 @@ ghost use Rattle.dt_signals.specs.Delivery.{came, interrupted, at_handler, enter
 
 use crate::action::Action;
 use crate::frame::{frame_address, frame_of};
-use crate::numbers::{RA, SA_RESTART, SIGNAL_LIMIT};
 use crate::signals::{Sig, bit_of, is_in, is_signal};
 use dt_base::Errno;
-use dt_base::abi::{A0, A1, A2, SIGSEGV, SP};
+use dt_base::abi::{A0, A1, A2, RA, SA_RESTART, SIGNAL_LIMIT, SIGSEGV, SP};
 use dt_elf::layout::TRAMPOLINE;
 use dt_rv64::Machine;
 

@@ -1,31 +1,4 @@
-//! Numbers of signals, of their actions and of a handler's frame.
-
-/// How many signals there are (signal(7)).
-pub const SIGNAL_LIMIT: usize = 64;
-
-/// An end that can't be masked (signal(7), as the numbers of signals below).
-pub const SIGKILL: u8 = 9;
-
-/// A child has ended.
-pub const SIGCHLD: u8 = 17;
-
-/// A stop that can't be masked; it is never sent here.
-pub const SIGSTOP: u8 = 19;
-
-/// All signals but SIGKILL and SIGSTOP, as a set in which signal `s` is bit `s - 1`.
-pub const MASKABLE: u64 = 0xffff_ffff_fffb_feff;
-
-/// The default action (sigaction(2), asm-generic/signal-defs.h).
-pub const SIG_DFL: u64 = 0;
-
-/// The action that ignores a signal.
-pub const SIG_IGN: u64 = 1;
-
-/// A call that a handler interrupted is made again.
-pub const SA_RESTART: u64 = 0x1000_0000;
-
-/// The register of the return address (RISC-V ELF psABI, "Integer Register Convention").
-pub const RA: u8 = 1;
+//! The layout of a handler's frame.
 
 /// Bytes of a handler's frame (this project's layout, as the offsets below).
 pub const FRAME_SIZE: u64 = 400;

@@ -1,11 +1,12 @@
 // What a process does about signals, which are masked, and which are pending.
 ghost use Rattle.std.specs.Prelude.{◌≡◌, ◌≤◌, IfSome};
 ghost use Rattle.dt_signals.specs.Signals.{no_signals, raised, action_of, with_action, with_mask, forked, after_exec};
-ghost use Rattle.dt_signals.specs.Signals.{bit_of, is_in, is_signal, is_due, is_ignored, is_dropped, dropped, without_ignored};
+ghost use Rattle.dt_signals.specs.Signals.{bit_of, is_in, is_signal, is_due, is_ignored};
+ghost use Rattle.dt_signals.specs.Signals.{is_dropped, dropped, without_ignored};
 ghost use Rattle.dt_signals.specs.Signals.{is_deliverable, deliverable, taken};
 
 use crate::action::{Action, DEFAULT_ACTION};
-use crate::numbers::{MASKABLE, SIGNAL_LIMIT};
+use dt_base::abi::{MASKABLE, SIGNAL_LIMIT};
 
 /// What a process does about each signal, and the signals that are masked and that are pending, as sets in which
 /// signal `s` is bit `s - 1` (signal(7)).

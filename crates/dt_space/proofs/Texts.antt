@@ -1,11 +1,14 @@
--- A text that is looked for page by page.
-use Rattle.std.proofs.Common.{◌≡◌, ◌≢◌, ℕ, zero, suc, ◌<◌, ◌≤◌, ◌+◌, ◌-◌, ◌%◌, ◌^◌, List, [], ◌∷◌, ◌++◌, length, get_or, take, ◌==◌, eqb-true, append_assoc, Option, Some, None, Result, Ok, Err, IsOk, refl, sym, ap, ◌∙◌, arith}
+-- A text that is looked for page by page, and what a text that was read is like.
+use Rattle.std.proofs.Common.{◌≡◌, ◌≢◌, ℕ, zero, suc, ◌<◌, ◌≤◌, ◌+◌, ◌-◌, ◌%◌, ◌^◌, List, [], ◌∷◌, ◌++◌, length, get_or, take, ◌==◌, eqb-true, append_assoc, Option, Some, None, Result, Ok, Err, IsOk, refl, sym, ap, subst, ◌∙◌, arith}
+use Rattle.std.specs.Prelude.{IsTrue}
 use Rattle.std.specs.List.{position, position_or_len}
 use Rattle.std.proofs.lemmas.Grind.{common_steps}
 use Rattle.std.proofs.lemmas.Bool.{eqb-false}
+use Rattle.std.proofs.lemmas.Bool.Decides.{nat_tests}
 use Rattle.std.proofs.lemmas.List.{length-take-le}
 use Rattle.std.proofs.lemmas.List.Sums.{fails_before_first}
 use Rattle.std.proofs.lemmas.List.Quantifiers.{position-Some}
+use Rattle.dt_base.specs.Path.{has_no_nul}
 use Rattle.dt_space.specs.declared.access.Miss.{Miss}
 use Rattle.dt_space.specs.declared.access.TextErr.{TextErr}
 use Rattle.dt_space.specs.declared.access.TextErr.TheVariants as text_err
@@ -160,3 +163,36 @@ unfolding text_at
 text-long pages address max done before end =
     let nothing : max - done ≡ 0 = omega arith in
     before.rest ∙ rw nothing (after-missed _ _ before.reached)
+
+one_more : (byte : ℕ) (rest : List ℕ) → IsTrue (has_no_nul rest) → IsTrue (has_no_nul (suc byte ∷ rest))
+one_more byte rest is = grind (arith, nat_tests)
+
+from_no_nul : (address : ℕ) (byte : Option ℕ) (rest : Result (List ℕ) TextErr) → ((text : List ℕ) → rest ≡ Ok text → IsTrue (has_no_nul text)) → (text : List ℕ) → text_from address byte rest ≡ Ok text → IsTrue (has_no_nul text)
+from_no_nul address None rest more text is = cc
+from_no_nul address (Some zero) rest more text is = let same : [] ≡ text = cc in subst (λ t. IsTrue (has_no_nul t)) same refl
+from_no_nul address (Some (suc byte)) (Ok rest) more text is =
+    let same : (suc byte ∷ rest) ≡ text = cc in subst (λ t. IsTrue (has_no_nul t)) same (one_more byte rest (more rest refl))
+from_no_nul address (Some (suc byte)) (Err error) more text is = cc
+
+-- a text that was read has no NUL
+pub text_no_nul : (pages : List PageView) (address max : ℕ) (text : List ℕ) → text_at pages address max ≡ Ok text → IsTrue (has_no_nul text)
+unfolding text_at
+text_no_nul pages address zero text is = cc
+text_no_nul pages address (suc max) text is =
+    from_no_nul address (byte_at pages READ address) (text_at pages ((address + 1) % 2 ^ 64) max) (λ t. text_no_nul pages ((address + 1) % 2 ^ 64) max t) text is
+
+from_short : (address max : ℕ) (byte : Option ℕ) (rest : Result (List ℕ) TextErr) → ((text : List ℕ) → rest ≡ Ok text → length text + 1 ≤ max) → (text : List ℕ) → text_from address byte rest ≡ Ok text → length text ≤ max
+from_short address max None rest more text is = cc
+from_short address max (Some zero) rest more text is = let same : [] ≡ text = cc in subst (λ t. length t ≤ max) same (omega arith)
+from_short address max (Some (suc byte)) (Ok rest) more text is =
+    let same : (suc byte ∷ rest) ≡ text = cc in let short : length rest + 1 ≤ max = more rest refl in
+    subst (λ t. length t ≤ max) same (omega arith)
+from_short address max (Some (suc byte)) (Err error) more text is = cc
+
+-- and is shorter than the bytes among which its NUL was looked for
+pub text_short : (pages : List PageView) (address max : ℕ) (text : List ℕ) → text_at pages address max ≡ Ok text → length text + 1 ≤ max
+unfolding text_at
+text_short pages address zero text is = cc
+text_short pages address (suc max) text is =
+    let short = from_short address max (byte_at pages READ address) (text_at pages ((address + 1) % 2 ^ 64) max) (λ t. text_short pages ((address + 1) % 2 ^ 64) max t) text is in
+    omega arith

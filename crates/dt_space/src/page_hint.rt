@@ -1,7 +1,7 @@
 // Where pages were found last.
 
 /// Where pages were found last, so that the next access to them needs no search. It is a hint and nothing more: any
-/// value may be used with any space, and no answer depends on it.
+/// page hint may be used with any space, and no answer depends on it.
 #[derive(Debug, Drop)]
 pub struct PageHint {
     // By the lowest bits of a page's number.
@@ -9,7 +9,7 @@ pub struct PageHint {
 }
 
 impl PageHint {
-    /// A hint of nothing yet. No clause says which hint it is, since any is right.
+    /// A page hint of nothing yet. No clause says which one it is, since any is right.
     pub fn new() -> Self {
         PageHint { indices: [0; 64] }
     }

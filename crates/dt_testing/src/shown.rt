@@ -98,7 +98,6 @@ fn add_write(
     text.extend_from_slice(b"\n".as_slice())
 }
 
-// Adds the end of a process.
 fn add_end(
     alloc: Global,
     text: &mut Vec<u8>,

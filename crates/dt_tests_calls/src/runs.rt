@@ -29,7 +29,6 @@ fn add_event(text: &mut Vec<u8>, alloc: Global, stream: u8, bytes: &[u8]) -> Res
     Ok(())
 }
 
-// The program of a run.
 fn program(alloc: Global, rows: &[(Does, Option<i64>)]) -> Result<Vec<u8>, Fail> {
     let mut acts = Vec::new(alloc);
     for (act, _) in rows {
@@ -38,7 +37,6 @@ fn program(alloc: Global, rows: &[(Does, Option<i64>)]) -> Result<Vec<u8>, Fail>
     Ok(keeping(alloc, &acts)?)
 }
 
-// The bytes of the answers.
 fn answers(alloc: Global, rows: &[(Does, Option<i64>)]) -> Result<Vec<u8>, Fail> {
     let mut bytes = Vec::new(alloc);
     for (_, answer) in rows {
@@ -49,7 +47,6 @@ fn answers(alloc: Global, rows: &[(Does, Option<i64>)]) -> Result<Vec<u8>, Fail>
     Ok(bytes)
 }
 
-// The report of a run.
 fn report(alloc: Global, run: &Run, program: &[u8]) -> Result<Vec<u8>, Fail> {
     let mut text = Vec::from_slice(alloc, b"dettrace 1\n".as_slice())?;
     for bytes in run.shown {

@@ -1,11 +1,9 @@
 -- What is there: in the tree, and of the pipes.
-use Rattle.std.proofs.Common.{◌≡◌, ℕ, false, List, Option, Some, None, refl, sym, ◌∙◌}
-use Rattle.std.specs.Prelude.{IfSome, IsSome, is_some, option_and_then}
+use Rattle.std.proofs.Common.{ℕ, Option, Some, None, sym, ◌∙◌}
+use Rattle.std.specs.Prelude.{IfSome, IsSome, option_and_then}
 use Rattle.std.specs.FinMap.{get}
-use Rattle.dt_host.specs.World.{World, Forest, Node, file, dir, link, node_at, file_bytes, dir_names, link_target, entry, IsFile, IsLive}
-use Rattle.dt_tree.specs.Shape.{is_dir, is_link}
-use Rattle.dt_tree.specs.Table.{Table, Stands, shape_of}
-use Rattle.dt_tree.proofs.Namings.{named}
+use Rattle.dt_host.specs.World.{World, Forest, IsLive}
+use Rattle.dt_tree.specs.Table.{Table}
 use Rattle.dt_fds.specs.declared.desc.Desc.{Desc}
 use Rattle.dt_fds.specs.declared.desc.Slot.{Slot}
 use Rattle.dt_fds.specs.declared.files.Files.{Files}
@@ -14,20 +12,6 @@ use Rattle.dt_fds.specs.Backs.{AllIn, HasEnds, IsBacked, IsIn, at}
 use Rattle.dt_fds.proofs.Backing.{live-in}
 use Rattle.dt_pipes.specs.Table.{pipes_of}
 use Rattle.dt_pipes.proofs.Held.{has-pipes_of}
-
--- what is named is there
-pub live : (t : Table) (v : Forest) → Stands t v → (d n : ℕ) (name : List ℕ) → entry (shape_of t v) d name ≡ Some n → IsLive (shape_of t v) n
-live t v stands d n name e = stands.tree.shaped.named n (named (shape_of t v) d n name e)
-
--- what is there and neither a directory nor a link is a file
-pub is_file : (v : Forest) (n : ℕ) → IsLive v n → is_dir v n ≡ false → is_link v n ≡ false → IsFile v n
-is_file v n there no_dir no_link = by_node (node_at v n) there no_dir no_link
-  where
-    by_node : (found : Option Node) → IsSome found → is_some (option_and_then dir_names found) ≡ false → is_some (option_and_then link_target found) ≡ false → IsSome (option_and_then file_bytes found)
-    by_node None there no_dir no_link = cc
-    by_node (Some (file bytes)) there no_dir no_link = refl
-    by_node (Some (dir names)) there no_dir no_link = cc
-    by_node (Some (link target)) there no_dir no_link = cc
 
 -- the node of what a descriptor refers to is there
 pub live-described : (v : Forest) (f : Descriptions) (p fd : ℕ) → AllIn v f → IfSome (description_at f p fd) (λ desc. IfSome (inode_of desc.kind) (λ n. IsLive v n))

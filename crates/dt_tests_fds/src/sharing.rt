@@ -10,7 +10,7 @@ use crate::step::Row::{self, Check, CheckInChild, Do, DoInChild};
 use dt_base::abi::{O_APPEND, O_NONBLOCK};
 use std::test::Fail;
 
-const PLACES: &[Row] = &[
+const OFFSETS: &[Row] = &[
     Do(OpenInput, Fd(3)),
     Do(Dup { fd: 3, from: 0 }, Fd(4)),
     Do(Seek { fd: 3, offset: 9 }, Done),
@@ -29,8 +29,8 @@ const PLACES: &[Row] = &[
 ];
 
 #[test]
-fn a_duplicate_shares_the_place(rt: HostRuntime) -> Result<(), Fail> {
-    assert_eq!(rt; play(rt.alloc(), PLACES)?, Ok(NEXT));
+fn a_duplicate_shares_the_offset(rt: HostRuntime) -> Result<(), Fail> {
+    assert_eq!(rt; play(rt.alloc(), OFFSETS)?, Ok(NEXT));
     Ok(())
 }
 

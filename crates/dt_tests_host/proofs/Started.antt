@@ -1,6 +1,6 @@
 -- What is live at the start of a host, and after its first calls.
-use Rattle.std.proofs.Common.{◌≡◌, ◌≢◌, ℕ, ◌||◌, true, List, [], Option, Some, None, refl, sym, ap, subst, ◌∙◌}
-use Rattle.std.specs.Prelude.{IsSome, MatchOption, Result, Ok, Err, option_and_then, unwrap_or}
+use Rattle.std.proofs.Common.{◌≡◌, ◌≢◌, ℕ, ◌||◌, true, List, [], Option, None, sym, ap, subst, ◌∙◌}
+use Rattle.std.specs.Prelude.{MatchOption, Result, Ok, Err, option_and_then, unwrap_or}
 use Rattle.std.proofs.lemmas.Cmp.{tied_itself}
 use Rattle.std.specs.Ordering.{nat_cmp, is_eq}
 use Rattle.std.specs.Cmp.{nat_cmp_total}
@@ -8,7 +8,7 @@ use Rattle.std.specs.Cmp.Lexicographic.{slice_cmp}
 use Rattle.std.specs.FinMap.{get, empty, get-empty, nat_cmp-IsAntisymmetric}
 use Rattle.std.specs.FinSet.{contains, contains-insert}
 use Rattle.dt_host.specs.declared.kind.NodeKind.TheVariants.{File}
-use Rattle.dt_host.specs.World.{World, Forest, Node, file, dir, IsLive, IsFile, IsDir, IsNameless, IsBare, IsEmptyStart, node_at, entry, names_at, file_bytes, dir_names}
+use Rattle.dt_host.specs.World.{World, Node, file, dir, IsFile, IsDir, IsNameless, IsBare, IsEmptyStart, node_at, entry, names_at, dir_names}
 use Rattle.dt_host.specs.Legal.{Binds, Unbinds, Cuts, WritesAll, MadeAt, MadePid, MayGo, NodeMayGo}
 use Rattle.dt_host.proofs.Changes.{IsDir-start, IsDir-bound, IsLive-made, node_at-start, root-made}
 use Rattle.dt_host.proofs.Maps.{at_insert}
@@ -21,21 +21,6 @@ IsDir-root start now root empty stays is =
     let still = subst (λ w. IsEmptyStart w) (sym stays) empty in
     let same = is ∙ ap (λ (w : World). w.forest.root) (sym stays) in
     subst (λ d. IsDir now.forest d) (sym same) (IsDir-start now still)
-
--- a directory and a file are live
-pub IsLive-dir : (v : Forest) (d : ℕ) → IsDir v d → IsLive v d
-IsLive-dir v d is = of_node (node_at v d) is
-  where
-    of_node : (found : Option Node) → IsSome (option_and_then dir_names found) → IsSome found
-    of_node None h = cc
-    of_node (Some node) h = refl
-
-pub IsLive-file : (v : Forest) (n : ℕ) → IsFile v n → IsLive v n
-IsLive-file v n is = of_node (node_at v n) is
-  where
-    of_node : (found : Option Node) → IsSome (option_and_then file_bytes found) → IsSome found
-    of_node None h = cc
-    of_node (Some node) h = refl
 
 -- a directory stays one when an entry was added to it
 pub IsDir-binds : {A E : Type 0} (result : Result A E) (old new : World) (d : ℕ) (name : List ℕ) (n : ℕ) → Binds old d name n result new → IsDir old.forest d → IsDir new.forest d

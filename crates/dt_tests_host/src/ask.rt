@@ -18,7 +18,7 @@ pub fn answer(host: &mut MemHost, alloc: Global, call: Ask) -> Result<Outcome, H
     }
 }
 
-// Which stops next.
+// Asks the host which of those that wait stops next.
 fn next_stop(host: &mut MemHost, waiting: &[u32]) -> Result<Outcome, HostErr>
     ensures { host.new.view ≡ host.old.view }
 {

@@ -52,7 +52,6 @@ fn first_mismatch(
     Ok(None)
 }
 
-// Makes a call.
 fn make(host: &mut MemHost, call: PidCall) -> Result<Outcome, HostErr> {
     match call {
         New => number(host.new_pid()),

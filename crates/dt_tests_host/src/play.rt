@@ -69,7 +69,6 @@ fn unlike(found: Outcome, want: Outcome) -> Option<Outcome> {
     }
 }
 
-// What is looked up.
 fn looked_up(scene: &Scene, query: Query) -> Outcome {
     match query {
         Query::Number => Outcome::Number(scene.number),

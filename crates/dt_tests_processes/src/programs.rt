@@ -355,7 +355,7 @@ const LASTING: &[Case] = &[
         verdict: "ended",
         status: 1,
     },
-    // Descriptor 3 is closed, 4 is kept with its place, 5 was made by dup of 3 and is kept, 6 lost its mark, 1 got
+    // Descriptor 3 is closed, 4 is kept with its offset, 5 was made by dup of 3 and is kept, 6 lost its mark, 1 got
     // one.
     Case {
         what: "descriptors",
@@ -396,7 +396,7 @@ const LASTING: &[Case] = &[
         verdict: "ended",
         status: 0,
     },
-    // The child's program reads on behind the parent's place, and what closes there is open in the parent.
+    // The child's program reads on behind the parent's offset, and what closes there is open in the parent.
     Case {
         what: "descriptors of the parent",
         first: &[

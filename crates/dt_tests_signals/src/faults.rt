@@ -44,7 +44,7 @@ const HANDLED: &[Case] = &[
         verdict: "ended",
         status: 0,
     },
-    // The frame has the place of the instruction that faults, each time.
+    // The frame has the address of the instruction that faults, each time.
     Case {
         what: "a fault that is not mended",
         first: &[

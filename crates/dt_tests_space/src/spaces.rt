@@ -1,4 +1,4 @@
-// Maps, accesses, reads of buffers and texts, forks and hints of one space.
+// Maps, accesses, reads of buffers and texts, forks and page hints of one space.
 use dt_space::{
     EXECUTE, MapErr, Miss, PageHint, READ, ReadErr, Space, TextErr, Unmapped, WRITE, WriteErr,
 };

@@ -1,23 +1,11 @@
 -- What the host has under the number of a node of the tree.
-use Rattle.std.proofs.Common.{◌≡◌, ℕ, true, List, Option, Some, None, refl, sym, ap, subst, ◌∙◌}
-use Rattle.std.specs.Prelude.{IsSome, is_some, option_map}
+use Rattle.std.proofs.Common.{◌≡◌, ℕ, List, Option, Some, None, refl, sym, ap, subst, ◌∙◌}
+use Rattle.std.specs.Prelude.{IsSome, option_map}
 use Rattle.std.specs.FinMap.{get}
-use Rattle.dt_host.specs.World.{Forest, entry, dir_at, target_at, IsDir, IsFile, IsLink}
-use Rattle.dt_tree.specs.Shape.{is_dir, is_link}
+use Rattle.dt_host.specs.World.{Forest, entry, IsDir, IsFile, IsLink}
 use Rattle.dt_tree.specs.declared.inode.Inode.{Inode}
 use Rattle.dt_tree.specs.Table.{Table, Pairs, real_of, shape_of}
 use Rattle.dt_tree.proofs.Mirroring.{real_dir, target_at-inode, file_at-inode, live_named, entry-real}
-
-some_if : {X : Type 0} (found : Option X) → is_some found ≡ true → IsSome found
-some_if None is = cc
-some_if (Some x) is = refl
-
--- a directory or a link, by the test
-pub dir_if : (v : Forest) (n : ℕ) → is_dir v n ≡ true → IsDir v n
-dir_if v n is = some_if (dir_at v n) is
-
-pub link_if : (v : Forest) (n : ℕ) → is_link v n ≡ true → IsLink v n
-link_if v n is = some_if (target_at v n) is
 
 -- what is kept of a node with that number
 pub inode_of : (t : Table) (n real : ℕ) → real_of t n ≡ Some real → (inode : Inode) × (get t.inodes n ≡ Some inode) × (inode.real ≡ real)

@@ -4,11 +4,11 @@ use Rattle.std.proofs.lemmas.Bool.Decides.{nat_tests}
 use Rattle.std.specs.Prelude.{IsSome, is_some}
 use Rattle.std.specs.List.{find, list_any}
 use Rattle.std.specs.declared.cmp.Ordering.{Ordering}
-use Rattle.std.specs.declared.cmp.Ordering.TheVariants.{Less, Equal, Greater}
 use Rattle.std.specs.Ordering.{nat_cmp, is_eq, eq_by_cmp}
 use Rattle.std.specs.Cmp.{nat_cmp_total}
 use Rattle.std.specs.FinMap.{FinMap, IsAntisymmetric, get, keys, len, remove, empty_of_len, get-empty, len-remove, contains_key-keys, nat_cmp-IsAntisymmetric}
 use Rattle.dt_host.specs.World.{Forest, names_at, entry, IsDir}
+use Rattle.dt_host.proofs.MapOf.{equal_if}
 use Rattle.dt_host.proofs.Maps.{names_tie, at_remove}
 use Rattle.dt_host.proofs.Spots.{IsDir-entry, IsLive-IsDir}
 use Rattle.dt_tree.specs.Shape.{names_of, LeadsUp, IsShaped}
@@ -30,13 +30,8 @@ pub finds : {K : Type 0} {R : K → K → Ordering} → IsAntisymmetric R → (p
 finds same p [] q any is = cc
 finds {R = R} same p (y ∷ ys) q any is = by_test (p y) refl (λ h. finds same p ys q h is)
   where
-    tie : (r : Ordering) → is_eq r ≡ true → r ≡ Equal
-    tie Less e = cc
-    tie Equal e = refl
-    tie Greater e = cc
-
     by_key : (b : Bool) → is_eq (R q y) ≡ b → (b || list_any (eq_by_cmp R q) ys) ≡ true → p y ≡ false → (list_any (eq_by_cmp R q) ys ≡ true → is_some (find p ys) ≡ true) → is_some (find p ys) ≡ true
-    by_key true e h not_here rest = let here = ap p (same q y (tie _ e)) in cc
+    by_key true e h not_here rest = let here = ap p (same q y (equal_if _ e)) in cc
     by_key false e h not_here rest = rest h
 
     by_test : (b : Bool) → p y ≡ b → (list_any (eq_by_cmp R q) ys ≡ true → is_some (find p ys) ≡ true) → is_some (cond b (Some y) (find p ys)) ≡ true

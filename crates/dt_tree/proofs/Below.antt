@@ -1,5 +1,6 @@
 -- The test whether a directory stands below another says what going up says.
 use Rattle.std.proofs.Common.{arith, ◌≡◌, ◌≢◌, ℕ, zero, suc, ◌+◌, ◌≤◌, ◌<◌, true, false, Bool, ◌||◌, Option, Some, None, ◌⊎◌, inl, inr, refl, sym, ap, subst, ◌∙◌}
+use Rattle.std.proofs.Math.Bool.{or-true}
 use Rattle.std.proofs.lemmas.Bool.Decides.{nat_tests}
 use Rattle.std.specs.Prelude.{◌==◌}
 use Rattle.std.specs.FinMap.{len}
@@ -71,11 +72,7 @@ module _ (v : Forest) (s : IsShaped v) where
   climbs_if zero (suc k) n above is up h = let here : (n == above) ≡ true = grind (arith, nat_tests) in ap (λ b. b || passes (λ d. climbs k v d above) (parent_at v n)) here
   climbs_if (suc j) (suc k) n above is up h =
       let rest = climbs_if j k up.0 above (IsDir-entry v up.0 up.1 n up.2) up.3 (omega arith) in
-      ap (λ d. (n == above) || passes (λ d. climbs k v d above) d) (parent_is v s n up.0 up.1 is up.2) ∙ ap (λ b. (n == above) || b) rest ∙ or_true (n == above)
-    where
-      or_true : (b : Bool) → (b || true) ≡ true
-      or_true true = refl
-      or_true false = refl
+      ap (λ d. (n == above) || passes (λ d. climbs k v d above) d) (parent_is v s n up.0 up.1 is up.2) ∙ ap (λ b. (n == above) || b) rest ∙ or-true (n == above)
 
   -- the ways up are shorter than there are nodes; from a removed directory none goes up
   way_bound : (j n above : ℕ) → IsDir v n → LeadsUp v j n above → j < len v.nodes ⊎ (j ≡ 0)

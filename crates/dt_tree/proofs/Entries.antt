@@ -1,6 +1,6 @@
 -- The entries of an image by index: their paths rise, and each entry's directory comes before it.
-use Rattle.std.proofs.Common.{arith, ◌≡◌, ◌≢◌, inl, inr, ℕ, zero, suc, ◌+◌, ◌<◌, List, [], ◌∷◌, ◌++◌, length, take, Bool, true, false, ◌&&◌, ◌||◌, Some, None, refl, sym, ap, subst, ◌∙◌}
-use Rattle.std.proofs.lemmas.Bool.{cases_order}
+use Rattle.std.proofs.Common.{arith, ◌≡◌, ◌≢◌, inl, inr, ℕ, zero, suc, ◌+◌, ◌<◌, List, [], ◌∷◌, ◌++◌, length, take, Bool, true, false, ◌||◌, Some, None, refl, sym, ap, subst, ◌∙◌}
+use Rattle.std.proofs.lemmas.Bool.{cases_order, and_parts}
 use Rattle.std.proofs.lemmas.Cmp.{tied_itself}
 use Rattle.std.proofs.lemmas.List.{take_more}
 use Rattle.std.proofs.lemmas.Option.{get_or_from_slice_get, slice_get_within}
@@ -13,16 +13,11 @@ use Rattle.std.specs.Cmp.Lexicographic.{slice_cmp, nat_list_cmp_total}
 use Rattle.dt_base.specs.declared.image.Entry.{Entry}
 use Rattle.dt_base.specs.Image.{is_rising}
 
-both : (a b : Bool) → (a && b) ≡ true → (a ≡ true) × (b ≡ true)
-both true true e = (refl, refl)
-both true false e = cc
-both false b e = cc
-
 -- by index, in lists
 pub all_at : {X : Type 0} (p : X → Bool) (xs : List X) (k : ℕ) (x : X) → list_all p xs ≡ true → slice_get xs k ≡ Some x → p x ≡ true
 all_at p [] k x h at = cc
-all_at p (y ∷ ys) zero x h at = let same : y ≡ x = cc in ap p (sym same) ∙ (both (p y) (list_all p ys) h).0
-all_at p (y ∷ ys) (suc k) x h at = all_at p ys k x (both (p y) (list_all p ys) h).1 at
+all_at p (y ∷ ys) zero x h at = let same : y ≡ x = cc in ap p (sym same) ∙ (and_parts (p y) (list_all p ys) h).0
+all_at p (y ∷ ys) (suc k) x h at = all_at p ys k x (and_parts (p y) (list_all p ys) h).1 at
 
 pub any_index : {X : Type 0} (p : X → Bool) (xs : List X) → list_any p xs ≡ true → (k : ℕ) × (x : X) × (slice_get xs k ≡ Some x) × (p x ≡ true)
 any_index p [] h = cc
@@ -77,16 +72,16 @@ less Greater e = cc
 
 rest_rises : (first : Entry) (rest : List Entry) → is_rising (first ∷ rest) ≡ true → is_rising rest ≡ true
 rest_rises first [] h = refl
-rest_rises first (second ∷ rest) h = (both (is_lt (slice_cmp nat_cmp first.path second.path)) (is_rising (second ∷ rest)) h).1
+rest_rises first (second ∷ rest) h = (and_parts (is_lt (slice_cmp nat_cmp first.path second.path)) (is_rising (second ∷ rest)) h).1
 
 first_before : (first : Entry) (rest : List Entry) → is_rising (first ∷ rest) ≡ true → (k : ℕ) (x : Entry) → slice_get rest k ≡ Some x → Before first x
 first_before first [] h k x at = cc
 first_before first (second ∷ rest) h zero x at =
-    let low = less (slice_cmp nat_cmp first.path second.path) (both (is_lt (slice_cmp nat_cmp first.path second.path)) (is_rising (second ∷ rest)) h).0 in
+    let low = less (slice_cmp nat_cmp first.path second.path) (and_parts (is_lt (slice_cmp nat_cmp first.path second.path)) (is_rising (second ∷ rest)) h).0 in
     let same : second ≡ x = cc in
     subst (Before first) same low
 first_before first (second ∷ rest) h (suc k) x at =
-    let low = less (slice_cmp nat_cmp first.path second.path) (both (is_lt (slice_cmp nat_cmp first.path second.path)) (is_rising (second ∷ rest)) h).0 in
+    let low = less (slice_cmp nat_cmp first.path second.path) (and_parts (is_lt (slice_cmp nat_cmp first.path second.path)) (is_rising (second ∷ rest)) h).0 in
     nat_list_cmp_total.trans first.path second.path x.path low (first_before second rest (rest_rises first (second ∷ rest) h) k x at)
 
 pub rises : (entries : List Entry) → is_rising entries ≡ true → (i j : ℕ) (x y : Entry) → i < j → slice_get entries i ≡ Some x → slice_get entries j ≡ Some y → Before x y

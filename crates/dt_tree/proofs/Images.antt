@@ -19,6 +19,7 @@ use Rattle.dt_base.specs.declared.image.What.{What}
 use Rattle.dt_base.specs.declared.image.What.TheVariants.{File, Dir, Link}
 use Rattle.dt_base.specs.Path.{is_path, parent_of}
 use Rattle.dt_host.specs.World.{dir, dir_names, names_at, with_node, with_entry}
+use Rattle.dt_host.proofs.MapOf.{equal_if}
 use Rattle.dt_host.proofs.Maps.{at_insert, names_tie, get-insert_same, get-insert_other}
 use Rattle.dt_host.proofs.Worlds.{node_at-with_node_other}
 use Rattle.dt_tree.specs.FileTree.{Attributes}
@@ -26,11 +27,6 @@ use Rattle.dt_tree.specs.ImageTree.{last_name, numbered, names_below, node_of, i
 use Rattle.dt_tree.specs.Changes.{new_node, created}
 use Rattle.dt_tree.proofs.Paths.{begins, split, parent_before}
 use Rattle.dt_tree.proofs.Entries.{Before, not_itself, not_both_ways, get_left, get_last, get_past}
-
-equal : (r : Ordering) → is_eq r ≡ true → r ≡ Equal
-equal Less e = cc
-equal Equal e = refl
-equal Greater e = cc
 
 not_equal : (r : Ordering) → r ≢ Equal → is_eq r ≡ false
 not_equal Less h = refl
@@ -130,7 +126,7 @@ no_place name path a [] h = refl
 no_place name path a (x ∷ xs) h = by_test (bytes_eq (parent_of x.path) path) refl (no_place name path (a + 1) xs (λ k y at. h (suc k) y at))
   where
     by_name : (b : Bool) → is_eq (slice_cmp nat_cmp name (last_name x.path)) ≡ b → parent_of x.path ≡ path → find (slice_cmp nat_cmp) name (places (a + 1) xs path) ≡ None → cond b (Some a) (find (slice_cmp nat_cmp) name (places (a + 1) xs path)) ≡ None
-    by_name true e parent rest = absurd (h 0 x refl parent (sym (names_tie name (last_name x.path) (equal (slice_cmp nat_cmp name (last_name x.path)) e))))
+    by_name true e parent rest = absurd (h 0 x refl parent (sym (names_tie name (last_name x.path) (equal_if (slice_cmp nat_cmp name (last_name x.path)) e))))
     by_name false e parent rest = rest
 
     by_test : (b : Bool) → bytes_eq (parent_of x.path) path ≡ b → find (slice_cmp nat_cmp) name (places (a + 1) xs path) ≡ None → find (slice_cmp nat_cmp) name (map {B = List ℕ × ℕ} (λ e. (last_name e.1.path, e.0)) (cond b ((a, x) ∷ filter (λ e. bytes_eq (parent_of e.1.path) path) (enumerate_from (a + 1) xs)) (filter (λ e. bytes_eq (parent_of e.1.path) path) (enumerate_from (a + 1) xs)))) ≡ None

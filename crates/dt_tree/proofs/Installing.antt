@@ -1,6 +1,6 @@
 -- An image, entry by entry: where each entry goes, and that it may be created there.
-use Rattle.std.proofs.Common.{arith, ◌≡◌, ◌⊎◌, inl, inr, ℕ, ◌+◌, ◌≤◌, ◌<◌, List, [], length, take, get_or, Bool, true, false, ◌&&◌, ◌||◌, Option, Some, None, Ok, Err, refl, sym, ap, subst, ◌∙◌}
-use Rattle.std.proofs.lemmas.Bool.{cases_eq, cases_lt}
+use Rattle.std.proofs.Common.{arith, ◌≡◌, ◌⊎◌, inl, inr, ℕ, ◌+◌, ◌≤◌, ◌<◌, List, [], length, take, get_or, Bool, true, false, ◌||◌, Option, Some, None, Ok, Err, refl, sym, ap, subst, ◌∙◌}
+use Rattle.std.proofs.lemmas.Bool.{cases_eq, cases_lt, and_parts}
 use Rattle.std.proofs.lemmas.Cmp.{tied_itself}
 use Rattle.std.proofs.lemmas.List.{length-take}
 use Rattle.std.proofs.lemmas.Option.{slice_get_within, slice_get-get_or, get_or_from_slice_get}
@@ -33,11 +33,6 @@ use Rattle.dt_tree.proofs.Paths.{begins, parent_before, last_good, top_parent}
 use Rattle.dt_tree.proofs.Entries.{Before, all_at, any_index, taken, still_taken, take_next, rises, one_index, lower}
 use Rattle.dt_tree.proofs.Images.{IsInodeAt, node_d, free, not_held, image_more}
 
-both : (a b : Bool) → (a && b) ≡ true → (a ≡ true) × (b ≡ true)
-both true true e = (refl, refl)
-both true false e = cc
-both false b e = cc
-
 dir_only : (what : What) → is_dir what ≡ true → what ≡ Dir
 dir_only (File bytes) e = cc
 dir_only Dir e = refl
@@ -45,7 +40,7 @@ dir_only (Link target) e = cc
 
 module _ (entries : List Entry) (is : IsImage entries) (i : ℕ) (e : Entry) (at : slice_get entries i ≡ Some e) where
   good_parts : (is_path e.path ≡ true) × (is_good_what e.what e.mode ≡ true)
-  good_parts = both (is_path e.path) (is_good_what e.what e.mode) (all_at is_good_entry entries i e is.good at)
+  good_parts = and_parts (is_path e.path) (is_good_what e.what e.mode) (all_at is_good_entry entries i e is.good at)
 
   low : i < ENTRY_LIMIT
   low = let within = slice_get_within entries i e at in let few = is.few in omega arith
@@ -54,7 +49,7 @@ module _ (entries : List Entry) (is : IsImage entries) (i : ℕ) (e : Entry) (at
   taken_len = let size = length-take i entries in let within = slice_get_within entries i e at in omega arith
 
   good_path_at : (k : ℕ) (x : Entry) → slice_get entries k ≡ Some x → is_path x.path ≡ true
-  good_path_at k x at_k = (both (is_path x.path) (is_good_what x.what x.mode) (all_at is_good_entry entries k x is.good at_k)).0
+  good_path_at k x at_k = (and_parts (is_path x.path) (is_good_what x.what x.mode) (all_at is_good_entry entries k x is.good at_k)).0
 
   paths : (k : ℕ) (x : Entry) → slice_get (take i entries) k ≡ Some x → IsTrue (is_path x.path)
   paths k x at_k = good_path_at k x (taken entries i k x at_k).0
@@ -72,7 +67,7 @@ module _ (entries : List Entry) (is : IsImage entries) (i : ℕ) (e : Entry) (at
         by_parent : (k : ℕ) × (x : Entry) × (slice_get entries k ≡ Some x) × (is_dir_at (parent_of e.path) x ≡ true) → IsInodeAt (take i entries) (parent_of e.path) n
         by_parent found =
             let x = found.1 in
-            let parts = both (is_dir x.what) (bytes_eq (parent_of e.path) x.path) found.3 in
+            let parts = and_parts (is_dir x.what) (bytes_eq (parent_of e.path) x.path) found.3 in
             let same : parent_of e.path ≡ x.path = (bytes_eq-Decides (parent_of e.path) x.path).0 parts.1 in
             let first : Before x e = subst (λ p. slice_cmp nat_cmp p e.path ≡ Less) same (parent_before e.path good_parts.0) in
             let index = lower entries is.rising found.0 i x e found.2 at first in
@@ -126,7 +121,7 @@ module _ (entries : List Entry) (is : IsImage entries) (i : ℕ) (e : Entry) (at
 -- a search by paths
 some_path : (entries : List Entry) → IsImage entries → (path : List ℕ) → length path ≡ 0 → (k : ℕ) (x : Entry) → slice_get entries k ≡ Some x → x.path ≡ path → ⊥
 some_path entries is path none k x at same =
-    let first = begins x.path (both (is_path x.path) (is_good_what x.what x.mode) (all_at is_good_entry entries k x is.good at)).0 in
+    let first = begins x.path (and_parts (is_path x.path) (is_good_what x.what x.mode) (all_at is_good_entry entries k x is.good at)).0 in
     let size = ap length (sym same ∙ first.1) in
     omega arith
 

@@ -1,27 +1,20 @@
 -- What the two maps of a tree hold, as finite maps.
-use Rattle.std.proofs.Common.{◌≡◌, ◌≢◌, true, false, Bool, ◌&&◌, ℕ, List, [], ◌∷◌, map, length, Option, Some, None, refl, sym, ap, subst, ◌∙◌}
-use Rattle.std.specs.Prelude.{T, option_map}
-use Rattle.std.specs.List.{AllByRecursion}
-use Rattle.std.specs.List.Sorted.{IsStrictlySortedBy}
-use Rattle.std.specs.Map.{keys_of}
-use Rattle.std.specs.Ordering.{nat_cmp, is_eq, is_lt}
+use Rattle.std.proofs.Common.{◌≡◌, ◌≢◌, false, ℕ, length, Some, None, refl, sym, ap, ◌∙◌}
+use Rattle.std.proofs.lemmas.Iterator.Adapters.{option_map_id}
+use Rattle.std.specs.Ordering.{nat_cmp, is_eq}
 use Rattle.std.specs.declared.cmp.Ordering.{Ordering}
 use Rattle.std.specs.declared.cmp.Ordering.TheVariants.{Less, Equal, Greater}
 use Rattle.std.specs.Cmp.{nat_cmp_total}
 use Rattle.std.specs.BTreeMap as tree
 use Rattle.std.specs.BTreeMap.{BTreeMap, is_at, IsOrdered}
 use Rattle.std.specs.FinMap.{get, insert, remove, len, len-entries, from_entries, from_sorted, entries-from_sorted, get-from_sorted, get-from_entries, same_map, nat_cmp-IsAntisymmetric}
-use Rattle.std.specs.FinMap.Entries.{below_all, is_sorted}
 use Rattle.dt_host.specs.Entries.{map_of}
+use Rattle.dt_host.proofs.Sorted.{sorted-keys, same_entries}
 use Rattle.dt_host.proofs.Maps.{at_insert, at_remove}
 use Rattle.dt_host.proofs.MapOf.{get-map_of}
 
-same_found : {X : Type 0} (found : Option X) → option_map (λ x. x) found ≡ found
-same_found None = refl
-same_found (Some x) = refl
-
 pub get-kept : {X : Type 0} (m : BTreeMap ℕ X) (q : ℕ) → get (map_of {R = nat_cmp} (λ n. n) (λ x. x) m.entries) q ≡ tree.get nat_cmp m q
-get-kept m q = get-map_of nat_cmp_total (λ n. n) (λ x. x) q m.entries ∙ same_found _
+get-kept m q = get-map_of nat_cmp_total (λ n. n) (λ x. x) q m.entries ∙ option_map_id _
 
 -- where all but one stay, that one was put
 pub put-kept : {X : Type 0} (old new : BTreeMap ℕ X) (n : ℕ) (x : X) → tree.get nat_cmp new n ≡ Some x → ((q : ℕ) → q ≢ n → tree.get nat_cmp new q ≡ tree.get nat_cmp old q) → map_of {R = nat_cmp} (λ n. n) (λ x. x) new.entries ≡ insert (map_of (λ n. n) (λ x. x) old.entries) n x
@@ -46,29 +39,12 @@ untied n q apart = by_order (nat_cmp n q) refl
     by_order Equal e = absurd (apart (sym (nat_cmp-IsAntisymmetric n q e)))
     by_order Greater e = refl
 
-both : (a b : Bool) → T a → T b → T (a && b)
-both true b h k = k
-both false b h k = absurd h
-
 -- a map has as many keys as there are entries
 module _ {X : Type 0} where
-  below : (n : ℕ) (es : List (ℕ × X)) → AllByRecursion (λ q. nat_cmp n q ≡ Less) (keys_of es) → T (below_all nat_cmp n es)
-  below n [] h = tt
-  below n (e ∷ es) h = both _ _ (subst (λ r. T (is_lt r)) (sym h.0) tt) (below n es h.1)
-
-  rising : (es : List (ℕ × X)) → IsStrictlySortedBy nat_cmp (keys_of es) → T (is_sorted nat_cmp es)
-  unfolding IsStrictlySortedBy
-  rising [] h = tt
-  rising (e ∷ es) h = both _ _ (below e.0 es h.0) (rising es h.1)
-
-  same_entries : (es : List (ℕ × X)) → map (λ e. (e.0, e.1)) es ≡ es
-  same_entries [] = refl
-  same_entries (e ∷ es) = ap (λ xs. e ∷ xs) (same_entries es)
-
   pub len-kept : (m : BTreeMap ℕ X) → IsOrdered nat_cmp m → len (map_of {R = nat_cmp} (λ n. n) (λ (x : X). x) m.entries) ≡ length m.entries
   unfolding map_of
   len-kept m s =
       let es = m.entries in
-      let sorted = rising es s in
+      let sorted = sorted-keys nat_cmp es s in
       let one : from_entries {R = nat_cmp} es ≡ from_sorted es = same_map nat_cmp_total nat_cmp-IsAntisymmetric _ _ (λ q. get-from_entries nat_cmp_total es q ∙ sym (get-from_sorted nat_cmp es q sorted)) in
       ap (λ xs. len (from_entries {R = nat_cmp} xs)) (same_entries es) ∙ ap (λ m. len m) one ∙ len-entries (from_sorted {R = nat_cmp} es) ∙ ap length (entries-from_sorted nat_cmp es sorted)

@@ -1,5 +1,6 @@
 pub mod Outcomes
 pub mod Namings
+pub mod NodeKinds
 pub mod Shapes
 pub mod Aboves
 pub mod Below

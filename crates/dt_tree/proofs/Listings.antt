@@ -1,5 +1,6 @@
 -- A listing, entry by entry.
 use Rattle.std.proofs.Common.{arith, ◌≡◌, ℕ, List, [], ◌∷◌, ◌++◌, length, take, Bool, true, false, cond, ◌&&◌, Option, refl, sym, ap, ◌∙◌, append-nil}
+use Rattle.std.proofs.Math.Bool.{and-true, and-false}
 use Rattle.std.proofs.lemmas.Bool.Decides.{nat_tests}
 use Rattle.std.proofs.lemmas.List.Elements.{filter-append}
 use Rattle.std.specs.Prelude.{nat_lt, zero, suc}
@@ -29,16 +30,8 @@ next_of-push last most list l =
     ∙ by_test (is_left last l.name)
   where
     by_test : (b : Bool) → take most (filter (λ (l : Listed). is_left last l.name) list ++ cond b (l ∷ []) []) ≡ cond (nat_lt (length (next_of last most list)) most && b) (next_of last most list ++ l ∷ []) (next_of last most list)
-    by_test true = take_push most (filter (λ (l : Listed). is_left last l.name) list) l ∙ ap (λ b. cond b (next_of last most list ++ l ∷ []) (next_of last most list)) (sym (and_true (nat_lt (length (next_of last most list)) most)))
-      where
-        and_true : (b : Bool) → (b && true) ≡ b
-        and_true true = refl
-        and_true false = refl
-    by_test false = ap (take most) (append-nil (filter (λ (l : Listed). is_left last l.name) list)) ∙ ap (λ b. cond b (next_of last most list ++ l ∷ []) (next_of last most list)) (sym (and_false (nat_lt (length (next_of last most list)) most)))
-      where
-        and_false : (b : Bool) → (b && false) ≡ false
-        and_false true = refl
-        and_false false = refl
+    by_test true = take_push most (filter (λ (l : Listed). is_left last l.name) list) l ∙ ap (λ b. cond b (next_of last most list ++ l ∷ []) (next_of last most list)) (sym (and-true (nat_lt (length (next_of last most list)) most)))
+    by_test false = ap (take most) (append-nil (filter (λ (l : Listed). is_left last l.name) list)) ∙ ap (λ b. cond b (next_of last most list ++ l ∷ []) (next_of last most list)) (sym (and-false (nat_lt (length (next_of last most list)) most)))
 
 pub next_of-nil : (last : Option (List ℕ)) (most : ℕ) → [] ≡ next_of last most []
 next_of-nil last zero = refl

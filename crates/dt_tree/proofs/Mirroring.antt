@@ -9,7 +9,7 @@ use Rattle.std.specs.FinMap.{empty, entries, len, len-entries, get, insert, remo
 use Rattle.dt_host.specs.World.{Forest, Node, file, dir, link, file_bytes, file_at, IsFile, link_target, target_at, IsLink, node_at, dir_names, names_at, entry, with_node, with_entry, without_entry, IsDir, IsLive}
 use Rattle.dt_host.specs.Values.{map_values}
 use Rattle.dt_host.proofs.Maps.{at_insert, names_tie, get-insert_same, get-insert_other}
-use Rattle.dt_host.proofs.Spots.{IsDir-entry, IsLive-IsDir}
+use Rattle.dt_host.proofs.Spots.{IsDir-entry, IsLive-IsDir, IsLive-IsFile}
 use Rattle.dt_host.proofs.Valued.{get-map_values, map_values-insert, map_values-remove, entries-map_values}
 use Rattle.dt_tree.specs.declared.inode.Inode.{Inode}
 use Rattle.dt_tree.specs.Table.{Table, virtual, renumbered, node_for, shape_of, Pairs}
@@ -227,11 +227,7 @@ file_at-inode t v s n inode there = ap (option_and_then file_bytes) (node_at-ino
     by_found (Some (link target)) = refl
 
 pub has_inode-file : (t : Table) (v : Forest) (n : ℕ) → IsFile (shape_of t v) n → IsSome (get t.inodes n)
-has_inode-file t v n is = has_inode t v n (by_found (node_at (shape_of t v) n) is)
-  where
-    by_found : (found : Option Node) → IsSome (option_and_then file_bytes found) → IsSome found
-    by_found None h = cc
-    by_found (Some x) h = refl
+has_inode-file t v n is = has_inode t v n (IsLive-IsFile (shape_of t v) n is)
 
 pub has_inode-link : (t : Table) (v : Forest) (n : ℕ) → IsLink (shape_of t v) n → IsSome (get t.inodes n)
 has_inode-link t v n is = has_inode t v n (by_found (node_at (shape_of t v) n) is)

@@ -19,6 +19,9 @@ same_name a b = at_insert nat_list_cmp_total names_tie (λ _. (a ≡ b) ⊎ (a �
 pub one_for-same : (n : ℕ) → one_for n n ≡ 1
 one_for-same n = grind (arith, nat_tests)
 
+pub one_for-swap : (n x : ℕ) → one_for n x ≡ one_for x n
+one_for-swap n x = grind (arith, nat_tests)
+
 pub one_for-other : (n x : ℕ) → n ≢ x → one_for n x ≡ 0
 one_for-other n x h = grind (arith, nat_tests)
 

@@ -15,6 +15,7 @@ use Rattle.std.specs.Cmp.Lexicographic.{slice_cmp, nat_list_cmp_total}
 use Rattle.std.proofs.lemmas.Cmp.{tied_itself}
 use Rattle.std.specs.FinMap.{FinMap, get, len, entries, entries_sorted, get-entries}
 use Rattle.std.specs.FinMap.Entries.{find, below_all, is_sorted}
+use Rattle.dt_host.proofs.Conjuncts.{first, second}
 use Rattle.dt_host.specs.World.{Forest, Names, IsDir}
 use Rattle.dt_host.proofs.Spots.{IsDir-entry}
 use Rattle.dt_tree.specs.Shape.{names_of, LeadsUp, IsUnder, IsShaped, is_removed}
@@ -96,14 +97,6 @@ module _ (v : Forest) (s : IsShaped v) where
           let test : (names_of v n == 0) ≡ false = grind (arith, nat_tests) in
           there u ∙ sym (ap (λ b. not (not b && (names_of v n == 0))) e ∙ ap not test)
 
-part_first : (a b : Bool) → T (a && b) → T a
-part_first true b p = tt
-part_first false b p = p
-
-part_second : (a b : Bool) → T (a && b) → T b
-part_second true b p = p
-part_second false b p = absurd p
-
 after_less : (r : Ordering) → T (is_lt r) → is_eq (ordering_reverse r) ≡ false
 after_less Less p = refl
 after_less Equal p = absurd p
@@ -114,13 +107,13 @@ module _ {K X : Type 0} {R : K → K → Ordering} (o : IsTotalOrder R) where
   skip : (e : K × X) (es fs : List (K × X)) → T (below_all R e.0 fs) → AllByRecursion (λ (f : K × X). find R f.0 es ≡ Some f.1) fs → AllByRecursion (λ (f : K × X). find R f.0 (e ∷ es) ≡ Some f.1) fs
   skip e es [] h all = tt
   skip e es (f ∷ fs) h all =
-      let apart : is_eq (R f.0 e.0) ≡ false = ap is_eq (o.antisymm f.0 e.0) ∙ after_less (R e.0 f.0) (part_first _ _ h) in
-      (ap (λ b. cond b (Some e.1) (find R f.0 es)) apart ∙ all.0, skip e es fs (part_second _ _ h) all.1)
+      let apart : is_eq (R f.0 e.0) ≡ false = ap is_eq (o.antisymm f.0 e.0) ∙ after_less (R e.0 f.0) (first _ _ h) in
+      (ap (λ b. cond b (Some e.1) (find R f.0 es)) apart ∙ all.0, skip e es fs (second _ _ h) all.1)
 
   each_found : (es : List (K × X)) → T (is_sorted R es) → AllByRecursion (λ (f : K × X). find R f.0 es ≡ Some f.1) es
   each_found [] h = tt
   each_found (e ∷ es) h =
-      (ap (λ r. cond (is_eq r) (Some e.1) (find R e.0 es)) (tied_itself o e.0), skip e es es (part_first _ _ h) (each_found es (part_second _ _ h)))
+      (ap (λ r. cond (is_eq r) (Some e.1) (find R e.0 es)) (tied_itself o e.0), skip e es es (first _ _ h) (each_found es (second _ _ h)))
 
   pub each_got : (m : FinMap R X) → AllByRecursion (λ (f : K × X). get m f.0 ≡ Some f.1) (entries m)
   each_got m = as_get (entries m) (each_found (entries m) (entries_sorted m))

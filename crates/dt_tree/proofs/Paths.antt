@@ -1,6 +1,6 @@
 -- A path is what stands before its last `/`, that, and a name.
 use Rattle.std.proofs.Common.{arith, ◌≡◌, ◌≢◌, ◌⊎◌, inl, inr, ℕ, zero, suc, ◌-◌, ◌≤◌, ◌<◌, List, [], ◌∷◌, ◌++◌, length, length-append, take, drop, get_or, Bool, true, false, cond, not, ◌&&◌, ◌||◌, refl, sym, ap, ◌∙◌, drop-cons}
-use Rattle.std.proofs.lemmas.Bool.{cases_eq}
+use Rattle.std.proofs.lemmas.Bool.{cases_eq, and_parts}
 use Rattle.std.proofs.lemmas.Bool.Decides.{nat_tests}
 use Rattle.std.proofs.lemmas.Cmp.{tied_itself}
 use Rattle.std.proofs.lemmas.List.{get_or-reverse, length-reverse, take-append-drop}
@@ -17,11 +17,6 @@ use Rattle.dt_base.specs.declared.limits.TheConstants.{PATH_LIMIT}
 use Rattle.dt_base.specs.Path.{is_slash, with_first, components_of, has_no_nul, is_name, is_path, is_top, parent_of}
 use Rattle.dt_tree.specs.FileTree.{is_entry_name}
 use Rattle.dt_tree.specs.ImageTree.{last_name}
-
-both : (a b : Bool) → (a && b) ≡ true → (a ≡ true) × (b ≡ true)
-both true true e = (refl, refl)
-both true false e = cc
-both false b e = cc
 
 either : (a b : Bool) → (a || b) ≡ false → (a ≡ false) × (b ≡ false)
 either true b e = cc
@@ -96,21 +91,21 @@ slash_before path h =
 
 module _ (path : List ℕ) (good : IsTrue (is_path path)) where
   names_good : list_all is_name (components_of (drop 1 path)) ≡ true
-  names_good = (both (nat_le (length path) PATH_LIMIT && bytes_eq (take 1 path) (codes "/") && has_no_nul path) (list_all is_name (components_of (drop 1 path))) good).1
+  names_good = (and_parts (nat_le (length path) PATH_LIMIT && bytes_eq (take 1 path) (codes "/") && has_no_nul path) (list_all is_name (components_of (drop 1 path))) good).1
 
   before_names : (nat_le (length path) PATH_LIMIT && bytes_eq (take 1 path) (codes "/") && has_no_nul path) ≡ true
-  before_names = (both (nat_le (length path) PATH_LIMIT && bytes_eq (take 1 path) (codes "/") && has_no_nul path) (list_all is_name (components_of (drop 1 path))) good).0
+  before_names = (and_parts (nat_le (length path) PATH_LIMIT && bytes_eq (take 1 path) (codes "/") && has_no_nul path) (list_all is_name (components_of (drop 1 path))) good).0
 
   no_nul : has_no_nul path ≡ true
-  no_nul = (both (nat_le (length path) PATH_LIMIT && bytes_eq (take 1 path) (codes "/")) (has_no_nul path) before_names).1
+  no_nul = (and_parts (nat_le (length path) PATH_LIMIT && bytes_eq (take 1 path) (codes "/")) (has_no_nul path) before_names).1
 
   -- a path begins with a `/`
   pub begins : (rest : List ℕ) × (path ≡ 47 ∷ rest)
-  begins = by_first path (both (nat_le (length path) PATH_LIMIT) (bytes_eq (take 1 path) (codes "/")) (both (nat_le (length path) PATH_LIMIT && bytes_eq (take 1 path) (codes "/")) (has_no_nul path) before_names).0).1
+  begins = by_first path (and_parts (nat_le (length path) PATH_LIMIT) (bytes_eq (take 1 path) (codes "/")) (and_parts (nat_le (length path) PATH_LIMIT && bytes_eq (take 1 path) (codes "/")) (has_no_nul path) before_names).0).1
     where
       by_first : (path : List ℕ) → bytes_eq (take 1 path) (codes "/") ≡ true → (rest : List ℕ) × (path ≡ 47 ∷ rest)
       by_first [] e = cc
-      by_first (b ∷ bs) e = let first = both (b == 47) true e in let same : b ≡ 47 = grind (arith, nat_tests, first.0) in (bs, ap (λ x. x ∷ bs) same)
+      by_first (b ∷ bs) e = let first = and_parts (b == 47) true e in let same : b ≡ 47 = grind (arith, nat_tests, first.0) in (bs, ap (λ x. x ∷ bs) same)
 
   some : name_len path < length path
   some = by_len (cases_eq (name_len path) (length path))
@@ -151,16 +146,16 @@ module _ (path : List ℕ) (good : IsTrue (is_path path)) where
       all_three a b c p q r = (λ i. p i && q i && not (r i))
 
       last_no_nul : has_no_nul (last_name path) ≡ true
-      last_no_nul = (both (has_no_nul (parent_of path)) (has_no_nul (last_name path)) (sym (list_all-append (λ b. not (b == 0)) (parent_of path) (47 ∷ last_name path)) ∙ ap has_no_nul (sym split) ∙ no_nul)).1
+      last_no_nul = (and_parts (has_no_nul (parent_of path)) (has_no_nul (last_name path)) (sym (list_all-append (λ b. not (b == 0)) (parent_of path) (47 ∷ last_name path)) ∙ ap has_no_nul (sym split) ∙ no_nul)).1
 
       by_parent : (parent : List ℕ) → parent_of path ≡ parent → is_name (last_name path) ≡ true
       by_parent [] e =
           let rest : drop 1 path ≡ last_name path = ap (drop 1) (split ∙ ap (λ xs. xs ++ 47 ∷ last_name path) e) in
-          (both (is_name (last_name path)) true (ap (list_all is_name) (sym (ap components_of rest ∙ one_component (last_name path) no_slash)) ∙ names_good)).0
+          (and_parts (is_name (last_name path)) true (ap (list_all is_name) (sym (ap components_of rest ∙ one_component (last_name path) no_slash)) ∙ names_good)).0
       by_parent (c ∷ parent) e =
           let rest : drop 1 path ≡ parent ++ 47 ∷ last_name path = ap (drop 1) (split ∙ ap (λ xs. xs ++ 47 ∷ last_name path) e) in
           let parts : components_of (drop 1 path) ≡ components_of parent ++ last_name path ∷ [] = ap components_of rest ∙ components_of-append parent (last_name path) ∙ ap (λ xs. components_of parent ++ xs) (one_component (last_name path) no_slash) in
-          (both (is_name (last_name path)) true (both (list_all is_name (components_of parent)) (is_name (last_name path) && true) (sym (list_all-append is_name (components_of parent) (last_name path ∷ [])) ∙ ap (list_all is_name) (sym parts) ∙ names_good)).1).0
+          (and_parts (is_name (last_name path)) true (and_parts (list_all is_name (components_of parent)) (is_name (last_name path) && true) (sym (list_all-append is_name (components_of parent) (last_name path ∷ [])) ∙ ap (list_all is_name) (sym parts) ∙ names_good)).1).0
 
   -- what has one name stands in the root
   pub top_parent : is_top path ≡ true → parent_of path ≡ []

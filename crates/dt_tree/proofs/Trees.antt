@@ -1,6 +1,6 @@
 -- A tree with a new node and its name is a tree.
-use Rattle.std.proofs.Common.{arith, ◌≡◌, ◌≢◌, ℕ, ◌+◌, ◌≤◌, ◌<◌, cond, true, false, Bool, ◌&&◌, List, length, Option, Some, None, inl, inr, refl, sym, ap, subst, ◌∙◌}
-use Rattle.std.proofs.lemmas.Bool.{cases_eq}
+use Rattle.std.proofs.Common.{arith, ◌≡◌, ◌≢◌, ℕ, ◌+◌, ◌≤◌, ◌<◌, cond, true, List, length, Option, Some, None, inl, inr, refl, sym, ap, subst, ◌∙◌}
+use Rattle.std.proofs.lemmas.Bool.{cases_eq, and_parts}
 use Rattle.std.proofs.lemmas.Bool.Decides.{nat_tests}
 use Rattle.std.specs.Prelude.{is_some, IsSome, IsTrue, nat_le, ◌==◌, unwrap_or, option_map, option_and_then}
 use Rattle.std.specs.Cmp.{nat_cmp_total}
@@ -38,18 +38,13 @@ bare_new (File bytes) = refl
 bare_new Dir = refl
 bare_new (Link target) = refl
 
-both : (a b : Bool) → (a && b) ≡ true → (a ≡ true) × (b ≡ true)
-both true true e = (refl, refl)
-both true false e = cc
-both false b e = cc
-
 -- a good file is within the limit
 pub fits : (bytes : List ℕ) (mode : ℕ) → IsTrue (is_good_what (File bytes) mode) → length bytes ≤ FILE_LIMIT
-fits bytes mode h = let parts = both (nat_le (length bytes) FILE_LIMIT) (nat_le mode MODE_LIMIT) h in grind (arith, nat_tests, parts.0)
+fits bytes mode h = let parts = and_parts (nat_le (length bytes) FILE_LIMIT) (nat_le mode MODE_LIMIT) h in grind (arith, nat_tests, parts.0)
 
 good_new : (what : What) (mode : ℕ) → IsTrue (is_good_what what mode) → IsGoodNode (new_node what) mode
 good_new (File bytes) mode h =
-    let parts = both (nat_le (length bytes) FILE_LIMIT) (nat_le mode MODE_LIMIT) h in
+    let parts = and_parts (nat_le (length bytes) FILE_LIMIT) (nat_le mode MODE_LIMIT) h in
     (grind (arith, nat_tests, parts.0), grind (arith, nat_tests, parts.1))
 good_new Dir mode h = (λ name some. absurd (none_there (get (empty {X = ℕ} {R = slice_cmp nat_cmp}) name) (get-empty (slice_cmp nat_cmp) name) some), grind (arith, nat_tests))
   where
@@ -57,7 +52,7 @@ good_new Dir mode h = (λ name some. absurd (none_there (get (empty {X = ℕ} {R
     none_there None e some = cc
     none_there (Some x) e some = cc
 good_new (Link target) mode h =
-    let parts = both (is_target target) (mode == LINK_MODE) h in
+    let parts = and_parts (is_target target) (mode == LINK_MODE) h in
     (parts.0, grind (arith, nat_tests, parts.1))
 
 module _ (t : FileTree) (d : ℕ) (name : List ℕ) (what : What) (mode stamp : ℕ) (s : IsTree t) (may : MayCreate t d name what mode) where

@@ -1,3 +1,4 @@
+-- Inner words: no public clause cites these.
 pub mod Tables
 pub mod Created
 pub mod Names

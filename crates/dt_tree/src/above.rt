@@ -1,7 +1,7 @@
 // What lies above a directory.
 ghost use Rattle.std.specs.Prelude.{◌≡◌, ◌++◌, [], OnOk, is_some, not, Some, List, map, reverse, unwrap_or, IfOk};
-ghost use Rattle.std.specs.Prelude.{IsErrOf, option_map};
-ghost use Rattle.dt_host.specs.Cause.{HasCause};
+ghost use Rattle.std.specs.Prelude.{option_map};
+ghost use Rattle.dt_host.specs.Asks.{Asks};
 ghost use Rattle.dt_host.specs.Legal.{named};
 ghost use Rattle.dt_host.specs.World.{IsDir};
 ghost use Rattle.dt_tree.specs.declared.limits.TheConstants.{NODE_LIMIT};
@@ -25,9 +25,7 @@ impl Tree {
             (λ path. path ≡ path_of (shape_of self.now (H.view host.old).forest) dir) }
         ensures removed { IfOk result (λ path. is_some path
             ≡ not (is_removed (shape_of self.now (H.view host.old).forest) dir)) }
-        ensures stays { H.view host.new ≡ H.view host.old }
-        ensures cause { HasCause (H.count host.old) (H.count host.new)
-            (IsErrOf result HostErr.Failed) }
+        ensures asks { Asks H.view H.count host.old host.new result }
     {
         match self.names_up(host, dir)? {
             Some(names) => Ok(Some(path_text(self.alloc, names)?)),
@@ -60,9 +58,7 @@ impl Tree {
         requires directory { IsDir (shape_of self.now (H.view host.old).forest) dir }
         ensures ok { IfOk result (λ names. option_map (λ names. reverse names.items) names
             ≡ names_up NODE_LIMIT (shape_of self.now (H.view host.old).forest) dir []) }
-        ensures stays { H.view host.new ≡ H.view host.old }
-        ensures cause { HasCause (H.count host.old) (H.count host.new)
-            (IsErrOf result HostErr.Failed) }
+        ensures asks { Asks H.view H.count host.old host.new result }
     {
         let mut at = dir;
         let mut names = Vec::new(self.alloc);
@@ -88,9 +84,7 @@ impl Tree {
         requires parent { parent_at (shape_of self.now (H.view host.old).forest) n ≡ Some dir }
         ensures ok { IfOk result (λ name. name
             ≡ unwrap_or (name_in (shape_of self.now (H.view host.old).forest) dir n) []) }
-        ensures stays { H.view host.new ≡ H.view host.old }
-        ensures cause { HasCause (H.count host.old) (H.count host.new)
-            (IsErrOf result HostErr.Failed) }
+        ensures asks { Asks H.view H.count host.old host.new result }
     {
         let entries = host.names(self.inode(dir).real)?;
         Ok(name_for(self.alloc, &entries, self.inode(n).real)?)

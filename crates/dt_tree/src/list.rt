@@ -1,6 +1,6 @@
 // Listings of directories.
-ghost use Rattle.std.specs.Prelude.{◌≡◌, ◌++◌, List, map, codes, IfOk, OnOk, IsErrOf, option_map, false};
-ghost use Rattle.dt_host.specs.Cause.{HasCause};
+ghost use Rattle.std.specs.Prelude.{◌≡◌, ◌++◌, List, map, codes, IfOk, OnOk, option_map, false};
+ghost use Rattle.dt_host.specs.Asks.{Asks};
 ghost use Rattle.dt_host.specs.World.{Forest, IsDir, IsLive};
 ghost use Rattle.dt_tree.specs.Shape.{is_removed};
 ghost use Rattle.dt_tree.specs.Listing.{type_at, rank, comes_after, is_left, listed, listing, next_of};
@@ -132,9 +132,7 @@ impl Tree {
         requires there { is_removed (shape_of self.now (H.view host.old).forest) dir ≡ false }
         ensures ok { IfOk result (λ list. list.items ≡ next_of (option_map (λ l. l.now) last.entry) most
             (listing (shape_of self.now (H.view host.old).forest) dir)) }
-        ensures stays { H.view host.new ≡ H.view host.old }
-        ensures cause { HasCause (H.count host.old) (H.count host.new)
-            (IsErrOf result HostErr.Failed) }
+        ensures asks { Asks H.view H.count host.old host.new result }
     {
         let entries = sorted_names(host, self.inode(dir).real)?;
         let mut list = Vec::new(self.alloc);

@@ -1,6 +1,6 @@
 // What is read of a node.
-ghost use Rattle.std.specs.Prelude.{◌≡◌, ◌-◌, ◌++◌, Some, IfOk, IsErrOf, length, take, drop, min};
-ghost use Rattle.dt_host.specs.Cause.{HasCause};
+ghost use Rattle.std.specs.Prelude.{◌≡◌, ◌-◌, ◌++◌, Some, IfOk, length, take, drop, min};
+ghost use Rattle.dt_host.specs.Asks.{Asks};
 ghost use Rattle.dt_host.specs.World.{Forest, IsDir, IsFile, IsLink, content, entry, target_at};
 ghost use Rattle.dt_tree.specs.Above.{dot_dot, parent_at};
 ghost use Rattle.dt_tree.specs.Shape.{is_dir, is_link};
@@ -62,9 +62,7 @@ impl Tree {
         requires directory { IsDir (shape_of self.now (H.view host.old).forest) dir }
         ensures ok { IfOk result
             (λ found. found ≡ entry (shape_of self.now (H.view host.old).forest) dir name.now) }
-        ensures stays { H.view host.new ≡ H.view host.old }
-        ensures cause { HasCause (H.count host.old) (H.count host.new)
-            (IsErrOf result HostErr.Failed) }
+        ensures asks { Asks H.view H.count host.old host.new result }
     {
         let inode = self.inode(dir);
         match host.find(inode.real, name)? {
@@ -79,9 +77,7 @@ impl Tree {
         requires link { IsLink (shape_of self.now (H.view host.old).forest) vino }
         ensures ok { IfOk result
             (λ target. target_at (shape_of self.now (H.view host.old).forest) vino ≡ Some target) }
-        ensures stays { H.view host.new ≡ H.view host.old }
-        ensures cause { HasCause (H.count host.old) (H.count host.new)
-            (IsErrOf result HostErr.Failed) }
+        ensures asks { Asks H.view H.count host.old host.new result }
     {
         host.target(self.inode(vino).real)
     }
@@ -102,9 +98,7 @@ impl Tree {
         ensures prefix { IfOk result (λ n. buf.new
             ≡ take n (drop off (content (shape_of self.now (H.view host.old).forest) vino))
             ++ drop n buf.old) }
-        ensures stays { H.view host.new ≡ H.view host.old }
-        ensures cause { HasCause (H.count host.old) (H.count host.new)
-            (IsErrOf result HostErr.Failed) }
+        ensures asks { Asks H.view H.count host.old host.new result }
     {
         read_whole(host, self.inode(vino).real, off, buf)
     }

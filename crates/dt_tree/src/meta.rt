@@ -1,8 +1,8 @@
 // What is told of a node.
-ghost use Rattle.std.specs.Prelude.{◌≡◌, ◌≤◌, Some, length, not, ◌==◌, ◌&&◌, IsSome, IfOk, IsErrOf, option_map};
+ghost use Rattle.std.specs.Prelude.{◌≡◌, ◌≤◌, Some, length, not, ◌==◌, ◌&&◌, IsSome, IfOk, option_map};
 ghost use Rattle.std.specs.List.{count_by};
 ghost use Rattle.std.specs.FinMap.{get};
-ghost use Rattle.dt_host.specs.Cause.{HasCause};
+ghost use Rattle.dt_host.specs.Asks.{Asks};
 ghost use Rattle.dt_host.specs.World.{Forest, IsDir, IsLive, node_at};
 ghost use Rattle.dt_tree.specs.declared.limits.TheConstants.{NAMES_LIMIT};
 ghost use Rattle.dt_tree.specs.Shape.{is_dir, is_removed, is_bare};
@@ -32,9 +32,7 @@ impl Tree {
         requires live { IsLive (shape_of self.now (H.view host.old).forest) vino }
         ensures ok { IfOk result
             (λ meta. meta_of (tree_of self.now (H.view host.old).forest) vino ≡ Some meta) }
-        ensures stays { H.view host.new ≡ H.view host.old }
-        ensures cause { HasCause (H.count host.old) (H.count host.new)
-            (IsErrOf result HostErr.Failed) }
+        ensures asks { Asks H.view H.count host.old host.new result }
     {
         let nlink = self.nlink(host, vino)?;
         let size = self.size(host, vino)?;
@@ -54,23 +52,18 @@ impl Tree {
         requires directory { IsDir (shape_of self.now (H.view host.old).forest) dir }
         ensures ok { IfOk result
             (λ b. b ≡ is_bare (shape_of self.now (H.view host.old).forest) dir) }
-        ensures stays { H.view host.new ≡ H.view host.old }
-        ensures cause { HasCause (H.count host.old) (H.count host.new)
-            (IsErrOf result HostErr.Failed) }
+        ensures asks { Asks H.view H.count host.old host.new result }
     {
         let entries = host.names(self.inode(dir).real)?;
         Ok(entries.is_empty())
     }
 
-    // The size of a node.
     fn size<H: Host>(&self, host: &mut H, vino: u64) -> Result<u64, HostErr>
         requires stands { Stands self.now (H.view host.old).forest }
         requires live { IsLive (shape_of self.now (H.view host.old).forest) vino }
         ensures ok { IfOk result (λ size. option_map size_of
             (node_at (shape_of self.now (H.view host.old).forest) vino) ≡ Some size) }
-        ensures stays { H.view host.new ≡ H.view host.old }
-        ensures cause { HasCause (H.count host.old) (H.count host.new)
-            (IsErrOf result HostErr.Failed) }
+        ensures asks { Asks H.view H.count host.old host.new result }
     {
         let _before = host.faults();
         let inode = self.inode(vino);
@@ -90,9 +83,7 @@ impl Tree {
         requires live { IsLive (shape_of self.now (H.view host.old).forest) vino }
         ensures ok { IfOk result
             (λ count. count ≡ nlink_of (shape_of self.now (H.view host.old).forest) vino) }
-        ensures stays { H.view host.new ≡ H.view host.old }
-        ensures cause { HasCause (H.count host.old) (H.count host.new)
-            (IsErrOf result HostErr.Failed) }
+        ensures asks { Asks H.view H.count host.old host.new result }
     {
         let _before = host.faults();
         let inode = self.inode(vino);
@@ -108,9 +99,7 @@ impl Tree {
         requires directory { IsDir (shape_of self.now (H.view host.old).forest) dir }
         ensures ok { IfOk result
             (λ count. count ≡ nlink_of (shape_of self.now (H.view host.old).forest) dir) }
-        ensures stays { H.view host.new ≡ H.view host.old }
-        ensures cause { HasCause (H.count host.old) (H.count host.new)
-            (IsErrOf result HostErr.Failed) }
+        ensures asks { Asks H.view H.count host.old host.new result }
     {
         let _before = host.faults();
         if self.is_removed(dir) {
@@ -135,9 +124,7 @@ impl Tree {
         ensures ok { IfOk result
             (λ count. count ≡ subdirectories (shape_of self.now (H.view host.old).forest) dir) }
         ensures few { IfOk result (λ count. count ≤ NAMES_LIMIT) }
-        ensures stays { H.view host.new ≡ H.view host.old }
-        ensures cause { HasCause (H.count host.old) (H.count host.new)
-            (IsErrOf result HostErr.Failed) }
+        ensures asks { Asks H.view H.count host.old host.new result }
     {
         let entries = host.names(self.inode(dir).real)?;
         Ok(self.count_dirs(&entries))

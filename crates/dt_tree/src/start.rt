@@ -1,6 +1,6 @@
 // A tree at its start.
-ghost use Rattle.std.specs.Prelude.{◌≡◌, [], IfOk, IsErrOf};
-ghost use Rattle.dt_host.specs.Cause.{HasCause};
+ghost use Rattle.std.specs.Prelude.{◌≡◌, [], IfOk};
+ghost use Rattle.dt_host.specs.Asks.{Asks};
 ghost use Rattle.dt_tree.specs.ImageTree.{IsEmptyRoot, image_tree};
 ghost use Rattle.dt_tree.specs.Table.{Stands, tree_of};
 
@@ -16,9 +16,7 @@ impl Tree {
         requires { IsEmptyRoot (H.view host.old).forest }
         ensures stands { IfOk result (λ t. Stands t (H.view host.new).forest) }
         ensures tree { IfOk result (λ t. tree_of t (H.view host.new).forest ≡ image_tree []) }
-        ensures stays { H.view host.new ≡ H.view host.old }
-        ensures cause { HasCause (H.count host.old) (H.count host.new)
-            (IsErrOf result HostErr.Failed) }
+        ensures asks { Asks H.view H.count host.old host.new result }
     {
         let real = host.root()?;
         Ok(Tree::of_root(alloc, Inode::new(real, Kind::Dir, ROOT_MODE, 0))?)

@@ -18,7 +18,6 @@ use crate::tree::Tree;
 use dt_base::What;
 use dt_host::{Host, HostErr, NodeKind, write_whole};
 
-// The kind of a new node.
 fn kind_of_new(what: &What) -> Kind
     ensures { result ≡ kind_of (new_node what.now) }
 {

@@ -1,6 +1,6 @@
 -- The names of a text: none is empty, none has a `/`, and none has a 0 where the text has none.
 use Rattle.std.proofs.Common.{◌≡◌, ℕ, cond, Bool, true, false, not, ◌&&◌, ◌||◌, ◌==◌, List, [], ◌∷◌, refl, ap, ◌∙◌}
-use Rattle.std.proofs.lemmas.Bool.{and_from, and_parts}
+use Rattle.std.proofs.lemmas.Bool.{and_from, and_parts, not-true}
 use Rattle.std.proofs.lemmas.List.Elements.{All-nil, All-cons, All-head, All-tail, All-filter, filter_passes}
 use Rattle.std.specs.Prelude.{IsTrue}
 use Rattle.std.specs.List.{All, list_any}
@@ -35,11 +35,7 @@ clean_names text h = All-filter (λ name. not (is_nil name)) IsClean (components
 has_bytes : (names : List (List ℕ)) → All (λ name. not (is_nil name) ≡ true) names → All HasByte names
 has_bytes [] all = All-nil HasByte
 has_bytes (name ∷ names) all =
-    All-cons HasByte name names (not_true (is_nil name) (All-head (λ name. not (is_nil name) ≡ true) name names all)) (has_bytes names (All-tail (λ name. not (is_nil name) ≡ true) name names all))
-  where
-    not_true : (b : Bool) → not b ≡ true → b ≡ false
-    not_true true e = absurd (cc)
-    not_true false e = refl
+    All-cons HasByte name names (not-true (is_nil name) (All-head (λ name. not (is_nil name) ≡ true) name names all)) (has_bytes names (All-tail (λ name. not (is_nil name) ≡ true) name names all))
 
 pub byte_names : (text : List ℕ) → All HasByte (path_names text)
 byte_names text = has_bytes (path_names text) (filter_passes (λ name. not (is_nil name)) (components_of text))

@@ -1,12 +1,13 @@
 -- What is known of a step that ends a walk, and of one that follows a link.
 use Rattle.std.proofs.Common.{arith, ◌≡◌, ℕ, ◌+◌, ◌≤◌, cond, true, false, Bool, not, ◌&&◌, List, length, Option, Some, None, refl, ap, subst, ◌∙◌}
 use Rattle.std.proofs.lemmas.Bool.Decides.{nat_tests}
-use Rattle.std.specs.Prelude.{nat_le, is_some, IsSome, IfSome}
+use Rattle.std.specs.Prelude.{nat_le, IfSome}
 use Rattle.dt_base.specs.declared.errno.Errno.TheVariants.{NoEnt, NotDir, NameTooLong}
 use Rattle.dt_base.specs.declared.limits.TheConstants.{NAME_LIMIT}
-use Rattle.dt_host.specs.World.{Forest, Names, dir_at, IsDir, target_at}
+use Rattle.dt_host.specs.World.{Forest, IsDir, target_at}
 use Rattle.dt_tree.specs.Shape.{is_dir}
 use Rattle.dt_walk.specs.declared.place.Place.{Place}
+use Rattle.dt_tree.proofs.NodeKinds.{is_dir-true}
 use Rattle.dt_walk.specs.declared.step.Found.{Found}
 use Rattle.dt_walk.specs.declared.step.Found.TheVariants.{Node, Missing, Gone}
 use Rattle.dt_walk.specs.declared.step.Step.TheVariants.{On, Done, Refused, Follow}
@@ -19,13 +20,6 @@ pub record EndedAt (v : Forest) (keep : Bool) (last : List ℕ) (place : Place) 
   pub short : length last ≤ NAME_LIMIT
   pub looked : looked_up v place.parent last ≡ node_or Missing place.node
   pub straight : keep ≡ false → IfSome place.node (λ n. target_at v n ≡ None)
-
-pub is_there : (v : Forest) (n : ℕ) → is_dir v n ≡ true → IsDir v n
-is_there v n e = by_found (dir_at v n) e
-  where
-    by_found : (found : Option Names) → is_some found ≡ true → IsSome found
-    by_found None e = absurd (cc)
-    by_found (Some x) e = refl
 
 module _ (v : Forest) (keep last slash : Bool) (at : ℕ) (name : List ℕ) where
   abbrev place_with : Option ℕ → Place
@@ -71,7 +65,7 @@ module _ (v : Forest) (keep last slash : Bool) (at : ℕ) (name : List ℕ) wher
     by_long false e dir h = let short : length name ≤ NAME_LIMIT = grind (arith, nat_tests) in by_found dir short (looked_up v at name) refl h
 
     by_dir : (b : Bool) → is_dir v at ≡ b → cond b (step_in_dir v keep last slash at name) (Refused NotDir) ≡ Done place → EndedAt v keep name place
-    by_dir true e h = by_long (nat_le (NAME_LIMIT + 1) (length name)) refl (is_there v at e) h
+    by_dir true e h = by_long (nat_le (NAME_LIMIT + 1) (length name)) refl (is_dir-true v at e) h
     by_dir false e h = absurd (cc)
 
     pub ended_at : step_of v keep last slash at name ≡ Done place → EndedAt v keep name place

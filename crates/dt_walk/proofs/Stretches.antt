@@ -33,10 +33,6 @@ nil_same [] (y ∷ ys) e = absurd (omega arith)
 nil_same (x ∷ xs) [] e = absurd (omega arith)
 nil_same (x ∷ xs) (y ∷ ys) e = refl
 
-pub none_left : {X : Type 0} (xs : List X) → length xs ≡ 0 → xs ≡ []
-none_left [] e = refl
-none_left (x ∷ xs) e = absurd (omega arith)
-
 -- a walk is one of stretches, one for itself and one for each link
 after_stretch : (v : Forest) (keep : Bool) (follow : ℕ → List (List ℕ) → Bool → Result Place Errno) (at : ℕ) (names : List (List ℕ)) (slash : Bool) → walk_from v keep follow at names slash ≡ on_reached follow (stretch_of v keep at names slash)
 unfolding walk_from stretch_of

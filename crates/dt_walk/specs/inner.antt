@@ -1,1 +1,2 @@
+-- Inner words: no public clause cites these.
 pub mod Stretch

@@ -1,8 +1,8 @@
 // A whole path.
-ghost use Rattle.std.specs.Prelude.{◌≡◌, ◌++◌, ◌||◌, ◌&&◌, reverse, Err, IfOk, OnErr, IsErrOf, IsTrue};
+ghost use Rattle.std.specs.Prelude.{◌≡◌, ◌++◌, ◌||◌, ◌&&◌, reverse, Err, IfOk, OnErr, IsTrue};
 ghost use Rattle.dt_host.specs.declared.error.CallErr.TheVariants.{Host as host_failed};
 ghost use Rattle.dt_host.specs.declared.error.HostErr.TheVariants.{NoMemory as no_memory};
-ghost use Rattle.dt_host.specs.Cause.{HasCause};
+ghost use Rattle.dt_host.specs.Asks.{Asks, AsksOr};
 ghost use Rattle.dt_host.specs.World.{IsDir};
 ghost use Rattle.dt_tree.specs.Table.{Stands, shape_of};
 ghost use Rattle.dt_walk.specs.Answer.{Answers};
@@ -54,9 +54,7 @@ pub fn walk<H: Host>(
     ensures place { IfOk result (IsPlaceIn (shape_of tree.now (H.view host.old).forest)) }
     ensures named { IsTrue (has_no_nul path.now) → IfOk result IsNamedWell }
     ensures followed { IfOk result (IsFollowed (shape_of tree.now (H.view host.old).forest) last) }
-    ensures stays { H.view host.new ≡ H.view host.old }
-    ensures cause { HasCause (H.count host.old) (H.count host.new)
-        (IsErrOf result (host_failed HostErr.Failed)) }
+    ensures asks { AsksOr H.view H.count (host_failed HostErr.Failed) host.old host.new result }
 {
     let _before = host.faults();
     let keep = last == Last::Keep;
@@ -103,9 +101,7 @@ fn walk_on<H: Host>(
     ensures ok { IfOk result (λ reached. reached_of reached names.new.items
         ≡ stretch_of (shape_of tree.now (H.view host.old).forest) keep start
         (reverse names.old.items) slash) }
-    ensures stays { H.view host.new ≡ H.view host.old }
-    ensures cause { HasCause (H.count host.old) (H.count host.new)
-        (IsErrOf result HostErr.Failed) }
+    ensures asks { Asks H.view H.count host.old host.new result }
 {
     let mut at = start;
     while let Some(name) = names.pop() {

@@ -1,6 +1,6 @@
 // One name of a path.
-ghost use Rattle.std.specs.Prelude.{◌≡◌, IfOk, IsErrOf};
-ghost use Rattle.dt_host.specs.Cause.{HasCause};
+ghost use Rattle.std.specs.Prelude.{◌≡◌, IfOk};
+ghost use Rattle.dt_host.specs.Asks.{Asks};
 ghost use Rattle.dt_host.specs.World.{Forest, IsDir, IsLive, target_at};
 ghost use Rattle.dt_tree.specs.Table.{Stands, shape_of};
 ghost use Rattle.dt_tree.specs.Above.{dot_dot};
@@ -50,9 +50,7 @@ pub(crate) fn take_step<H: Host>(
     requires stands { Stands tree.now (H.view host.old).forest }
     ensures ok { IfOk result (λ step. step
         ≡ step_of (shape_of tree.now (H.view host.old).forest) keep last slash at name) }
-    ensures stays { H.view host.new ≡ H.view host.old }
-    ensures cause { HasCause (H.count host.old) (H.count host.new)
-        (IsErrOf result HostErr.Failed) }
+    ensures asks { Asks H.view H.count host.old host.new result }
 {
     let _before = host.faults();
     if !tree.is_dir(at) {
@@ -75,9 +73,7 @@ fn step_in<H: Host>(
     requires directory { IsDir (shape_of tree.now (H.view host.old).forest) at }
     ensures ok { IfOk result (λ step. step
         ≡ step_in_dir (shape_of tree.now (H.view host.old).forest) keep last slash at name) }
-    ensures stays { H.view host.new ≡ H.view host.old }
-    ensures cause { HasCause (H.count host.old) (H.count host.new)
-        (IsErrOf result HostErr.Failed) }
+    ensures asks { Asks H.view H.count host.old host.new result }
 {
     let _before = host.faults();
     if name.len() as u64 > NAME_LIMIT {
@@ -96,9 +92,7 @@ fn look<H: Host>(host: &mut H, tree: &Tree, at: u64, name: &[u8]) -> Result<Foun
     requires directory { IsDir (shape_of tree.now (H.view host.old).forest) at }
     ensures ok { IfOk result
         (λ found. found ≡ looked_up (shape_of tree.now (H.view host.old).forest) at name.now) }
-    ensures stays { H.view host.new ≡ H.view host.old }
-    ensures cause { HasCause (H.count host.old) (H.count host.new)
-        (IsErrOf result HostErr.Failed) }
+    ensures asks { Asks H.view H.count host.old host.new result }
 {
     let _before = host.faults();
     if name == b".".as_slice() {
@@ -139,9 +133,7 @@ fn arrive<H: Host>(
     ensures ok { IfOk result (λ step. step
         ≡ arrived (shape_of tree.now (H.view host.old).forest) keep last slash at name n
         (target_at (shape_of tree.now (H.view host.old).forest) n)) }
-    ensures stays { H.view host.new ≡ H.view host.old }
-    ensures cause { HasCause (H.count host.old) (H.count host.new)
-        (IsErrOf result HostErr.Failed) }
+    ensures asks { Asks H.view H.count host.old host.new result }
 {
     let _before = host.faults();
     if tree.is_link(n) && !(last && keep) {

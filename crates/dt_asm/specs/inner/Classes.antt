@@ -22,7 +22,7 @@ is_branch (Bltu a b c) = true
 is_branch (Bgeu a b c) = true
 is_branch _ = false
 
--- LOAD
+-- LOAD, the loads
 abbrev pub is_load : Instr → Bool
 is_load (Lb a b c) = true
 is_load (Lh a b c) = true
@@ -33,7 +33,7 @@ is_load (Lhu a b c) = true
 is_load (Lwu a b c) = true
 is_load _ = false
 
--- STORE
+-- STORE, the stores
 abbrev pub is_store : Instr → Bool
 is_store (Sb a b c) = true
 is_store (Sh a b c) = true

@@ -7,7 +7,7 @@ pub record IsBits (count : ℕ) (number : ℤ) (bits : ℕ) : Type 0 where
   pub few : bits < 2 ^ count
   pub meaning : format.signed count bits ≡ number
 
--- R
+-- R, as of ADD
 pub record IsR (opcode funct3 funct7 rd rs1 rs2 word : ℕ) : Type 0 where
   pub opcode_is : format.opcode word ≡ opcode
   pub funct3_is : format.funct3 word ≡ funct3
@@ -16,7 +16,7 @@ pub record IsR (opcode funct3 funct7 rd rs1 rs2 word : ℕ) : Type 0 where
   pub rs1_is : format.rs1 word ≡ rs1
   pub rs2_is : format.rs2 word ≡ rs2
 
--- I
+-- I, as of ADDI and LW
 pub record IsI (opcode funct3 rd rs1 : ℕ) (immediate : ℤ) (word : ℕ) : Type 0 where
   pub opcode_is : format.opcode word ≡ opcode
   pub funct3_is : format.funct3 word ≡ funct3
@@ -41,7 +41,7 @@ pub record IsCsr (opcode funct3 rd csr word : ℕ) : Type 0 where
   pub rs1_is : format.rs1 word ≡ 0
   pub csr_is : format.csr word ≡ csr
 
--- S
+-- S, as of SW
 pub record IsS (opcode funct3 rs1 rs2 : ℕ) (immediate : ℤ) (word : ℕ) : Type 0 where
   pub opcode_is : format.opcode word ≡ opcode
   pub funct3_is : format.funct3 word ≡ funct3
@@ -49,7 +49,7 @@ pub record IsS (opcode funct3 rs1 rs2 : ℕ) (immediate : ℤ) (word : ℕ) : Ty
   pub rs2_is : format.rs2 word ≡ rs2
   pub immediate_is : format.s_immediate word ≡ immediate
 
--- B
+-- B, as of BEQ
 pub record IsB (opcode funct3 rs1 rs2 : ℕ) (immediate : ℤ) (word : ℕ) : Type 0 where
   pub opcode_is : format.opcode word ≡ opcode
   pub funct3_is : format.funct3 word ≡ funct3
@@ -57,13 +57,13 @@ pub record IsB (opcode funct3 rs1 rs2 : ℕ) (immediate : ℤ) (word : ℕ) : Ty
   pub rs2_is : format.rs2 word ≡ rs2
   pub immediate_is : format.b_immediate word ≡ immediate
 
--- U
+-- U, as of LUI
 pub record IsU (opcode rd : ℕ) (immediate : ℤ) (word : ℕ) : Type 0 where
   pub opcode_is : format.opcode word ≡ opcode
   pub rd_is : format.rd word ≡ rd
   pub immediate_is : format.u_immediate word ≡ immediate
 
--- J
+-- J, as of JAL
 pub record IsJ (opcode rd : ℕ) (immediate : ℤ) (word : ℕ) : Type 0 where
   pub opcode_is : format.opcode word ≡ opcode
   pub rd_is : format.rd word ≡ rd

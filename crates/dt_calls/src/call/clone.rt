@@ -12,16 +12,15 @@ ghost use Rattle.dt_calls.specs.InCode.{shared_of};
 ghost use Rattle.dt_calls.specs.Sound.{IsSoundHand, Serves, hand};
 
 use super::{Effect, Outcome};
-use crate::numbers::{
-    CLONE, CLONE_CHILD_CLEARTID, CLONE_CHILD_SETTID, CLONE_PARENT_SETTID, CSIGNAL,
-};
 use crate::shared::{Process, Shared};
-use dt_base::abi::{A0, A1, A2, A4, SP};
+use dt_base::abi::{
+    A0, A1, A2, A4, CLONE, CLONE_CHILD_CLEARTID, CLONE_CHILD_SETTID, CLONE_PARENT_SETTID, CSIGNAL,
+    SIGCHLD, SP,
+};
 use dt_base::{Caller, Errno, NoMemory};
 use dt_host::{Host, HostErr};
 use dt_procs::ProcErr;
 use dt_rv64::Machine;
-use dt_signals::numbers::SIGCHLD;
 use std::alloc::Global;
 
 /// clone(2) of a process (fork(2)): EAGAIN where 64 processes and zombies are there.

@@ -49,7 +49,6 @@ pub fn call<H: Host>(
     Ok(answered(alloc, machine, number, answer)?)
 }
 
-// Serves the row of a number.
 #[tactic(auto, unfolding(crate::specs::FileCalls::row_of))]
 fn serve_row<H: Host>(
     alloc: Global,
@@ -87,7 +86,6 @@ fn done_after(count: u64, answer: &Answer) -> u64
     }
 }
 
-// The arguments of a call.
 fn arguments(machine: &Machine) -> [u64; 6]
     ensures { result ≡ arguments machine.now }
 {

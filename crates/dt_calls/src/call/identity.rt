@@ -1,7 +1,8 @@
 // Calls that tell a process who and where it is, and calls that do nothing.
 ghost use Rattle.std.specs.Prelude.{◌≡◌, ◌-◌, ◌++◌, length, replicate, IfOk, OnOk, ◌≤◌, None};
 ghost use Rattle.dt_host.specs.World.{World};
-ghost use Rattle.dt_calls.specs.Identity.{getpid_call, getppid_call, set_robust_list_call, uname_call, field, utsname};
+ghost use Rattle.dt_calls.specs.Identity.{getpid_call, getppid_call, set_robust_list_call, uname_call};
+ghost use Rattle.dt_calls.specs.Identity.{padded_field, utsname};
 ghost use Rattle.dt_calls.specs.InCode.{shared_of, effect_as};
 ghost use Rattle.dt_calls.specs.declared.numbers.TheConstants.{UTSNAME_FIELD as WIDTH};
 
@@ -76,10 +77,10 @@ fn utsname(alloc: Global) -> Result<Vec<u8>, NoMemory>
     Ok(bytes)
 }
 
-// Adds a field: a text, and zeros behind it.
+// Adds a field: a text, padded with zeros to the field's width.
 fn put_field(bytes: &mut Vec<u8>, text: &[u8]) -> Result<(), NoMemory>
     requires { length text.now ≤ WIDTH }
-    ensures { OnOk result (bytes.new.items ≡ bytes.old.items ++ field text.now) }
+    ensures { OnOk result (bytes.new.items ≡ bytes.old.items ++ padded_field text.now) }
 {
     bytes.extend_from_slice(text)?;
     bytes.resize(bytes.len() + (UTSNAME_FIELD - text.len()), 0)?;

@@ -1,17 +1,16 @@
 // Signals that a process sends.
 ghost use Rattle.std.specs.Prelude.{◌≡◌, None};
 ghost use Rattle.dt_host.specs.World.{World};
-ghost use Rattle.dt_calls.specs.Kill.{is_below_one, is_unsent, kill_call, tkill_call, tgkill_call, sends_to};
+ghost use Rattle.dt_calls.specs.Kill.{is_below_one, is_unsupported_signal};
+ghost use Rattle.dt_calls.specs.Kill.{kill_call, tkill_call, tgkill_call, sends_to};
 ghost use Rattle.dt_calls.specs.InCode.{shared_of, effect_as};
 ghost use Rattle.dt_calls.specs.Sound.{StillSignalled};
 
 use super::{Effect, Outcome};
-use crate::numbers::{KILL, TGKILL, TKILL};
 use crate::shared::Shared;
 use dt_base::Errno;
-use dt_base::abi::{A0, A1, A2, low_word};
+use dt_base::abi::{A0, A1, A2, KILL, SIGCHLD, SIGNAL_LIMIT, TGKILL, TKILL, low_word};
 use dt_rv64::Machine;
-use dt_signals::numbers::{SIGCHLD, SIGNAL_LIMIT};
 use std::alloc::Global;
 
 /// kill(2) of one process; to a group of processes it isn't supported.
@@ -24,7 +23,7 @@ pub fn kill(alloc: Global, shared: &mut Shared, machine: &mut Machine) -> Effect
     ensures child { result.child ≡ None }
 {
     let (pid, signal) = (low_word(machine.reg(A0)), low_word(machine.reg(A1)));
-    if is_below_one(pid) || is_unsent(signal) {
+    if is_below_one(pid) || is_unsupported_signal(signal) {
         return Effect::quiet(alloc, Outcome::Unsupported(KILL));
     }
     send(alloc, shared, machine, pid, signal)
@@ -40,7 +39,7 @@ pub fn tkill(alloc: Global, shared: &mut Shared, machine: &mut Machine) -> Effec
     ensures child { result.child ≡ None }
 {
     let (tid, signal) = (low_word(machine.reg(A0)), low_word(machine.reg(A1)));
-    if is_unsent(signal) {
+    if is_unsupported_signal(signal) {
         return Effect::quiet(alloc, Outcome::Unsupported(TKILL));
     }
     if is_below_one(tid) {
@@ -60,7 +59,7 @@ pub fn tgkill(alloc: Global, shared: &mut Shared, machine: &mut Machine) -> Effe
 {
     let (tgid, tid) = (low_word(machine.reg(A0)), low_word(machine.reg(A1)));
     let signal = low_word(machine.reg(A2));
-    if is_unsent(signal) {
+    if is_unsupported_signal(signal) {
         return Effect::quiet(alloc, Outcome::Unsupported(TGKILL));
     }
     if is_below_one(tgid) || is_below_one(tid) || signal > SIGNAL_LIMIT as u32 {
@@ -79,9 +78,9 @@ fn is_below_one(pid: u32) -> bool
     pid == 0 || pid >= 0x8000_0000
 }
 
-// Whether a signal is one that is never sent.
-fn is_unsent(signal: u32) -> bool
-    ensures { result ≡ is_unsent signal }
+// Whether these calls are not supported with a signal.
+fn is_unsupported_signal(signal: u32) -> bool
+    ensures { result ≡ is_unsupported_signal signal }
 {
     signal > u32::from(SIGCHLD) && signal <= SIGNAL_LIMIT as u32
 }

@@ -5,16 +5,15 @@ ghost use Rattle.dt_host.specs.World.{World};
 ghost use Rattle.dt_sigcalls.specs.Sigaction.{sigaction_of};
 ghost use Rattle.dt_sigcalls.specs.Sigprocmask.{sigprocmask_of};
 ghost use Rattle.dt_rv64.specs.Effects.{register};
-ghost use Rattle.dt_calls.specs.SignalCalls.{sigaction_call, sigprocmask_call, sigreturn_call, back_of};
+ghost use Rattle.dt_calls.specs.SignalCalls.{sigaction_call, sigprocmask_call, sigreturn_call, after_sigreturn};
 ghost use Rattle.dt_calls.specs.Container.{signals_in};
-ghost use Rattle.dt_calls.specs.InCode.{BackAt, CalledAt, shared_of, effect_as};
+ghost use Rattle.dt_calls.specs.InCode.{SigreturnAt, CalledAt, shared_of, effect_as};
 ghost use Rattle.dt_calls.specs.Sound.{StillSignalled};
 
 use super::memory::answered;
 use super::{Effect, Outcome};
-use crate::numbers::{RT_SIGACTION, RT_SIGPROCMASK};
 use crate::shared::{Process, Shared};
-use dt_base::abi::{A0, A1, A2, A3, SIGSEGV};
+use dt_base::abi::{A0, A1, A2, A3, RT_SIGACTION, RT_SIGPROCMASK, SIGSEGV};
 use dt_base::{Answer, End, NoMemory};
 use dt_numbered::Numbered;
 use dt_rv64::Machine;
@@ -76,7 +75,7 @@ pub fn rt_sigreturn(
     ensures still { StillSignalled shared.old.signals shared.new.signals }
     ensures child { result.child ≡ None }
 {
-    let outcome = go_back(&mut shared.signals, own.caller.vpid, machine);
+    let outcome = return_from_handler(&mut shared.signals, own.caller.vpid, machine);
     Effect::quiet(alloc, outcome)
 }
 
@@ -111,20 +110,20 @@ fn change_mask(signals: &mut Numbered<Sig>, vpid: u32, machine: &mut Machine) ->
 }
 
 // Returns from a handler, and says what becomes of the process.
-fn go_back(signals: &mut Numbered<Sig>, vpid: u32, machine: &mut Machine) -> Outcome
+fn return_from_handler(signals: &mut Numbered<Sig>, vpid: u32, machine: &mut Machine) -> Outcome
     requires { IsSome (get signals.old vpid) }
-    ensures { BackAt (back_of (signals_in signals.old vpid) machine.old)
+    ensures { SigreturnAt (after_sigreturn (signals_in signals.old vpid) machine.old)
         vpid signals.old signals.new machine.new result }
 {
     match signals.get_mut(u64::from(vpid)) {
-        Some(sig) => go_back_in(sig, machine),
+        Some(sig) => return_from_handler_in(sig, machine),
         None => unreachable!(),
     }
 }
 
 // Returns from a handler with this signal state.
-fn go_back_in(sig: &mut Sig, machine: &mut Machine) -> Outcome
-    ensures { back_of sig.old machine.old
+fn return_from_handler_in(sig: &mut Sig, machine: &mut Machine) -> Outcome
+    ensures { after_sigreturn sig.old machine.old
         ≡ record { signals = sig.new; machine = machine.new; outcome = result } }
 {
     match sigreturn(machine, sig) {

@@ -8,15 +8,21 @@ ghost use Rattle.dt_calls.specs.InCode.{shared_of};
 ghost use Rattle.dt_calls.specs.Sound.{IsSoundHand, Serves, hand};
 
 use super::{Effect, Outcome};
-use crate::numbers::{RUSAGE_SIZE, WAIT_OPTIONS, WAIT4, WNOHANG};
+use crate::numbers::RUSAGE_SIZE;
 use crate::shared::{Process, Shared};
-use dt_base::abi::{A0, A1, A2, A3, low_word};
+use dt_base::abi::{A0, A1, A2, A3, WAIT_OPTIONS, WAIT4, WNOHANG, low_word};
 use dt_base::{End, Errno};
 use dt_host::{Host, HostErr};
 use dt_procs::Reaped;
 use dt_rv64::Machine;
 use dt_space::Space;
 use std::alloc::Global;
+
+/// The greatest pid that is not below 0 as a signed number.
+pub const GREATEST_PID: u32 = 0x7fff_ffff;
+
+/// The pid -1, as 32 bits: any child is waited for (wait4(2)).
+pub const ANY_CHILD: u32 = 0xffff_ffff;
 
 /// wait4(2): reaps a child that has ended; the process waits where one may still.
 #[tactic(auto, unfolding(crate::specs::Wait::wait4_call))]
@@ -53,7 +59,7 @@ pub fn wait4<H: Host>(
 fn is_group(pid: u32) -> bool
     ensures { result ≡ is_group pid }
 {
-    pid > 0x7fff_ffff && pid < 0xffff_ffff
+    pid > GREATEST_PID && pid < ANY_CHILD
 }
 
 // The child that is waited for: any where the pid is 0 or -1.
@@ -61,7 +67,7 @@ fn asked(pid: u32) -> Option<u32>
     ensures { result ≡ asked pid }
 {
     match pid {
-        0 | 0xffff_ffff => None,
+        0 | ANY_CHILD => None,
         pid => Some(pid),
     }
 }

@@ -290,7 +290,6 @@ fn move_unless<H: Host>(
     }
 }
 
-// Moves a name to a place.
 #[tactic(auto, using(crate::proofs::Kept::kept))]
 fn move_name<H: Host>(
     fs: &mut Fs,

@@ -181,7 +181,6 @@ fn tell_found<H: Host>(
     tell_status(fs, host, caller, space, args[2], n)
 }
 
-// Tells the status of a node.
 #[tactic(auto, using(crate::proofs::Kept::after_asking))]
 fn tell_status<H: Host>(
     fs: &Fs,

@@ -40,7 +40,6 @@ work_in phases p m = record { machine = m; phase = phase_in (get phases p) }
 unfoldable pub works_in : Machines → Phases → Works
 works_in machines phases = from_entries (map (λ e. (e.0, work_in phases e.0 e.1)) (entries machines))
 
--- the queue
 abbrev pub queue_of : CoreView → Queue
 queue_of core = record { order = map (λ (p : Process). p.vpid) core.queue; blocked = core.blocked; left = core.left }
 
@@ -53,11 +52,9 @@ state_of s w = record {
   next = s.container.shared.pids.next;
 }
 
--- a turn
 abbrev pub turn_as : State → List Event → Option Verdict → Turn
 turn_as next events verdict = record { next = next; events = events; verdict = verdict }
 
--- a run
 abbrev pub run_as : RunInCode → World → Run
 run_as run w = record { events = run.events.items; verdict = run.verdict; last = shared_of run.last.shared w }
 

@@ -11,7 +11,7 @@ use crate::page_hint::PageHint;
 use dt_base::PAGE_SIZE;
 
 impl Space {
-    /// `fetch`, with a hint.
+    /// `fetch`, with a page hint.
     #[inline]
     pub fn fetch_hinted(&self, hint: &mut PageHint, at: u64) -> Result<u32, Miss>
         ensures { result ≡ loaded_number (load self.now EXECUTE at 4) }
@@ -19,7 +19,7 @@ impl Space {
         self.fetch_at(self.hinted_index(hint, at / PAGE_SIZE), at)
     }
 
-    /// `load1`, with a hint.
+    /// `load1`, with a page hint.
     #[inline]
     pub fn load1_hinted(&self, hint: &mut PageHint, at: u64) -> Result<u64, Miss>
         ensures { result ≡ loaded_number (load self.now READ at 1) }
@@ -27,7 +27,7 @@ impl Space {
         self.load_at(self.hinted_index(hint, at / PAGE_SIZE), at, 1)
     }
 
-    /// `load2`, with a hint.
+    /// `load2`, with a page hint.
     #[inline]
     pub fn load2_hinted(&self, hint: &mut PageHint, at: u64) -> Result<u64, Miss>
         ensures { result ≡ loaded_number (load self.now READ at 2) }
@@ -35,7 +35,7 @@ impl Space {
         self.load_at(self.hinted_index(hint, at / PAGE_SIZE), at, 2)
     }
 
-    /// `load4`, with a hint.
+    /// `load4`, with a page hint.
     #[inline]
     pub fn load4_hinted(&self, hint: &mut PageHint, at: u64) -> Result<u64, Miss>
         ensures { result ≡ loaded_number (load self.now READ at 4) }
@@ -43,7 +43,7 @@ impl Space {
         self.load_at(self.hinted_index(hint, at / PAGE_SIZE), at, 4)
     }
 
-    /// `load8`, with a hint.
+    /// `load8`, with a page hint.
     #[inline]
     pub fn load8_hinted(&self, hint: &mut PageHint, at: u64) -> Result<u64, Miss>
         ensures { result ≡ loaded_number (load self.now READ at 8) }
@@ -51,7 +51,7 @@ impl Space {
         self.load_at(self.hinted_index(hint, at / PAGE_SIZE), at, 8)
     }
 
-    /// `store1`, with a hint.
+    /// `store1`, with a page hint.
     #[inline]
     pub fn store1_hinted(&mut self, hint: &mut PageHint, at: u64, v: u64) -> Result<(), WriteErr>
         ensures stored { Stores self.old at (low_bytes 1 v) self.new result }
@@ -61,7 +61,7 @@ impl Space {
         self.store_at(index, at, v, 1)
     }
 
-    /// `store2`, with a hint.
+    /// `store2`, with a page hint.
     #[inline]
     pub fn store2_hinted(&mut self, hint: &mut PageHint, at: u64, v: u64) -> Result<(), WriteErr>
         ensures stored { Stores self.old at (low_bytes 2 v) self.new result }
@@ -71,7 +71,7 @@ impl Space {
         self.store_at(index, at, v, 2)
     }
 
-    /// `store4`, with a hint.
+    /// `store4`, with a page hint.
     #[inline]
     pub fn store4_hinted(&mut self, hint: &mut PageHint, at: u64, v: u64) -> Result<(), WriteErr>
         ensures stored { Stores self.old at (low_bytes 4 v) self.new result }
@@ -81,7 +81,7 @@ impl Space {
         self.store_at(index, at, v, 4)
     }
 
-    /// `store8`, with a hint.
+    /// `store8`, with a page hint.
     #[inline]
     pub fn store8_hinted(&mut self, hint: &mut PageHint, at: u64, v: u64) -> Result<(), WriteErr>
         ensures stored { Stores self.old at (low_bytes 8 v) self.new result }
@@ -91,7 +91,7 @@ impl Space {
         self.store_at(index, at, v, 8)
     }
 
-    // The index of the page of this number, looked for where the hint says and then by a search.
+    // The index of the page of this number, looked for where the page hint says and then by a search.
     #[inline(always)]
     fn hinted_index(&self, hint: &mut PageHint, number: u64) -> Option<usize>
         ensures { IsIndexOf self.now number result }
@@ -103,7 +103,7 @@ impl Space {
         self.search(hint, number)
     }
 
-    // The index of the page of this number, which the hint keeps.
+    // The index of the page of this number, which the page hint keeps.
     #[inline(never)]
     fn search(&self, hint: &mut PageHint, number: u64) -> Option<usize>
         ensures { IsIndexOf self.now number result }

@@ -8,13 +8,11 @@ use Rattle.dt_tree.specs.declared.inode.Kind.TheVariants.{File, Dir, Link}
 use Rattle.dt_tree.specs.declared.inode.Inode.{Inode}
 use Rattle.dt_tree.specs.Table.{Table}
 
--- a kind as a number
 abbrev pub kind_number : Kind → ℕ
 kind_number File = 0
 kind_number Dir = 1
 kind_number Link = 2
 
--- the kind of a number
 abbrev pub numbered_kind : ℕ → Kind
 numbered_kind n = cond (n == 0) File (cond (n == 1) Dir Link)
 
@@ -24,7 +22,6 @@ numbered_kind-number File = refl
 numbered_kind-number Dir = refl
 numbered_kind-number Link = refl
 
--- a kind
 abbrev pub kind_code : Coded Kind
 kind_code = code_by ℕ coded_ℕ kind_number numbered_kind numbered_kind-number
 
@@ -36,7 +33,6 @@ inode_code =
     (λ p. record { real = p.0; mode = p.1.0; stamp = p.1.1.0; holds = p.1.1.1.0; kind = p.1.1.1.1.0; names = p.1.1.1.1.1.0; up = p.1.1.1.1.1.1 })
     (λ _. refl)
 
--- a table
 abbrev pub table_code : Coded Table
 table_code =
     code_by (FinMap nat_cmp Inode × (FinMap nat_cmp ℕ × (ℕ × ℕ))) (coded× (code coded_ℕ inode_code) (coded× (code coded_ℕ coded_ℕ) (coded× coded_ℕ coded_ℕ)))

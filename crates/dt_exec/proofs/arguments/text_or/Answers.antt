@@ -1,4 +1,4 @@
-use Rattle.dt_exec.proofs.NoNul.{text_no_nul}
+use Rattle.dt_space.proofs.Texts.{text_no_nul}
 use Rattle.dt_exec.proofs.arguments.text_or.Goals as goal
 
 pub returns-in-Ok-clause-no_nul : goal.returns-in-Ok-clause-no_nul

@@ -1,6 +1,7 @@
 use Rattle.std.proofs.Common.{Ok, sym, ap, ◌∙◌}
 use Rattle.dt_tree.specs.Table.{shape_of}
-use Rattle.dt_exec.proofs.Opened.{is_file, file-bytes}
+use Rattle.dt_tree.proofs.NodeKinds.{is_file}
+use Rattle.dt_exec.proofs.Opened.{file-bytes}
 use Rattle.dt_exec.proofs.program.file_of.Goals as goal
 
 pub returns-clause-ok : goal.returns-clause-ok

@@ -1,4 +1,4 @@
-use Rattle.dt_fcalls.proofs.Texts.{text_no_nul}
+use Rattle.dt_space.proofs.Texts.{text_no_nul}
 use Rattle.dt_fcalls.proofs.arguments.text_argument.Goals as goal
 
 -- src/arguments.rt:12:1

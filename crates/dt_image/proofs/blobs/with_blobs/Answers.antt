@@ -45,4 +45,4 @@ pub returns-clause-ok : goal.returns-clause-ok
 returns-clause-ok g c =
     let small = sym (c.fit.ensures ∙ ap (list_all is_small) c.deref.ensures.value) ∙ c.if-not-fit.false in
     let few = ap (λ blobs. nat_le (length blobs) ENTRY_LIMIT) (sym c.deref-2.ensures.value) ∙ sym c.are_few.ensures ∙ c.if-not-are_few.false in
-    told_with_blobs _ _ _ _ _ _ _ _ c.in_ok-blobs.ensures.entries c.in_ok-blobs.ensures.sizes small few c.measure.ensures.stays c.deref-3.ensures.value c.new.ensures c.in_ok-read.ensures.ok
+    told_with_blobs _ _ _ _ _ _ _ _ c.in_ok-blobs.ensures.entries c.in_ok-blobs.ensures.sizes small few c.measure.ensures.asks.stays c.deref-3.ensures.value c.new.ensures c.in_ok-read.ensures.ok

@@ -8,4 +8,4 @@ pub returns-in-Some-clause-refused : goal.returns-in-Some-clause-refused
 returns-in-Some-clause-refused g c = λ r is.
     let read = ap value_of (sym c.deref.ensures.value) ∙ c.in_ok-index.ensures.ok in
     let lists = ap (λ files. Some (map entry_in files)) c.deref-in-Some.ensures.value ∙ rw c.in-Some.is at c.in_ok-entries.ensures.value in
-    told_index (g.S.Store.told c.args.store.now) (g.S.Store.told c.read_index.new.store) _ _ _ _ _ c.read_index.ensures.stays c.in_ok-bytes.ensures.ok read lists (c.read_entries.ensures.refused r is)
+    told_index (g.S.Store.told c.args.store.now) (g.S.Store.told c.read_index.new.store) _ _ _ _ _ c.read_index.ensures.asks.stays c.in_ok-bytes.ensures.ok read lists (c.read_entries.ensures.refused r is)

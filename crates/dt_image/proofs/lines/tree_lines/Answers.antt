@@ -13,4 +13,4 @@ write_lines-requires-clause-live g c =
     let shape = shape_of c.args.tree.now v in
     let live = unmap (λ at. IsLive shape at.1) shown c.in_ok-paths.paths.items (subst (All (λ (at : List ℕ × ℕ). IsLive shape at.1)) (sym c.in_ok-paths.ensures.ok) (live_paths shape c.requires.tree.shaped)) in
     let there = subst (All (λ (at : TreePath). IsLive shape at.inode)) (sym c.deref.ensures.value) live in
-    subst (λ (w : World). All (λ (at : TreePath). IsLive (shape_of c.args.tree.now w.forest) at.inode) c.deref.result.now) (sym c.in_ok-paths.ensures.stays) there
+    subst (λ (w : World). All (λ (at : TreePath). IsLive (shape_of c.args.tree.now w.forest) at.inode) c.deref.result.now) (sym c.in_ok-paths.ensures.asks.stays) there

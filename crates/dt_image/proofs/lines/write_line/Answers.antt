@@ -1,18 +1,10 @@
-use Rattle.std.proofs.Common.{◌≡◌, ◌++◌, ℕ, List, length, sym, ap, ◌∙◌}
+use Rattle.std.proofs.Common.{◌++◌, ℕ, List, sym, ap, ◌∙◌}
 use Rattle.dt_host.specs.World.{World, content}
 use Rattle.dt_tree.specs.Table.{shape_of, tree_of}
 use Rattle.dt_image.specs.Report.{file_line}
 use Rattle.dt_image.specs.inner.PathView.{shown}
 use Rattle.dt_image.proofs.Shown.{line_of_file}
 use Rattle.dt_image.proofs.lines.write_line.Goals as goal
-
-pub read_file-requires-clause-size : goal.read_file-requires-clause-size
-read_file-requires-clause-size g c =
-    let v = (g.H.Host.view c.args.host.now).forest in
-    let no_dir = sym (c.is_dir.ensures v c.requires.stands) ∙ c.if-is_dir.false in
-    let no_link = sym (c.is_link.ensures v c.requires.stands) ∙ c.if-is_link.false in
-    let line = line_of_file (tree_of c.args.tree.now v) (shown c.args.at.now) c.in_ok-meta.meta c.in_ok-meta.ensures.ok no_dir no_link in
-    line.1 ∙ ap (λ (w : World). length (content (shape_of c.args.tree.now w.forest) c.args.at.now.inode)) (sym c.in_ok-meta.ensures.stays)
 
 pub returns-clause-ok : goal.returns-clause-ok
 returns-clause-ok g c =
@@ -22,7 +14,7 @@ returns-clause-ok g c =
     let line = line_of_file (tree_of c.args.tree.now v) (shown c.args.at.now) c.in_ok-meta.meta c.in_ok-meta.ensures.ok no_dir no_link in
     let bytes =
     c.deref.ensures.value ∙ c.in_ok-bytes.ensures.ok
-    ∙ ap (λ (w : World). content (shape_of c.args.tree.now w.forest) c.args.at.now.inode) c.in_ok-meta.ensures.stays in
+    ∙ ap (λ (w : World). content (shape_of c.args.tree.now w.forest) c.args.at.now.inode) c.in_ok-meta.ensures.asks.stays in
     c.in_ok-write_file.ensures
     ∙ ap (λ (bytes : List ℕ). c.args.text.now.items ++ file_line c.args.at.now.inode c.in_ok-meta.meta.mode c.in_ok-meta.meta.stamp c.args.at.now.path bytes) bytes
     ∙ ap (λ more. c.args.text.now.items ++ more) (sym line.2)

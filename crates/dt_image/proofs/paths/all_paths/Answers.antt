@@ -37,8 +37,8 @@ loop-depth-preserved g c =
     ∙ ap (flat_map (below shape)) (ap (map shown) c.deref.ensures.value ∙ c.loop-depth.invariant.here)
     ∙ sym (level_next shape c.loop-depth._depth) in
     record {
-      stays = c.in_ok-level-2.ensures.stays ∙ c.loop-depth.invariant.stays;
-      later = omega (arith, c.in_ok-level-2.ensures.cause.later);
+      stays = c.in_ok-level-2.ensures.asks.stays ∙ c.loop-depth.invariant.stays;
+      later = omega (arith, c.in_ok-level-2.ensures.asks.cause.later);
       here = next;
       found = c.in_ok-add_paths.ensures
           ∙ ap (λ paths. fold with_path paths (map shown c.deref-in-loop-depth.result.now)) c.loop-depth.invariant.found

@@ -43,8 +43,7 @@ returns-in-Done g c =
       place = by_end v keep (IsPlaceIn v) HasByte (place_steps v tree.shaped tree.root keep) 40 start path slash c.in-Done.place some ends;
       named = λ clean. by_end v keep IsNamedWell IsClean (name_steps t tree keep) 40 start path slash c.in-Done.place (clean_names c.args.path.now clean) ends;
       followed = by_end v keep (IsFollowed v c.args.last) HasByte (follow_steps v tree.shaped tree.root c.args.last) 40 start path slash c.in-Done.place some ends;
-      stays = c.walk_on.ensures.stays ∙ c.loop-i.invariant.stays;
-      cause = search rules;
+      asks = record { stays = c.walk_on.ensures.asks.stays ∙ c.loop-i.invariant.stays; cause = search rules };
     }
 
 pub returns-in-Refused-clause-exact : goal.returns-in-Refused-clause-exact
@@ -62,8 +61,8 @@ loop-i-preserved g c =
     let here = subst (λ (w : World). reached_of c.in_ok-place.field-0 c.walk_on.new.names.items ≡ stretch_of (shape_of c.args.tree.now w.forest) c.eq-keep.result c.loop-i.at names c.loop-i.slash) c.loop-i.invariant.stays c.in_ok-place.ensures.ok in
     let stretch = sym here ∙ ap (λ (s : Stretch). reached_of s c.walk_on.new.names.items) c.in-Follow.is in
     record {
-      stays = c.walk_on.ensures.stays ∙ c.loop-i.invariant.stays;
-      later = omega (arith, c.walk_on.ensures.cause.later, c.loop-i.invariant.later);
+      stays = c.walk_on.ensures.asks.stays ∙ c.loop-i.invariant.stays;
+      later = omega (arith, c.walk_on.ensures.asks.cause.later, c.loop-i.invariant.later);
       same = sym (walk_goes (41 - c.loop-i._i) (41 - (c.loop-i._i + 1)) v c.eq-keep.result c.loop-i.at names c.loop-i.slash c.in-Follow.next (reverse c.walk_on.new.names.items) c.in-Follow.ends (omega arith) stretch) ∙ c.loop-i.invariant.same;
     }
 

@@ -2,7 +2,7 @@ use Rattle.std.proofs.Common.{refl, sym, ap, subst, ◌∙◌}
 use Rattle.dt_calls.proofs.Ended.{cwd-left, sound-ended}
 use Rattle.std.specs.FinMap.{remove}
 use Rattle.dt_procs.specs.Table as procs
-use Rattle.dt_signals.specs.declared.numbers.TheConstants.{SIGCHLD}
+use Rattle.dt_base.specs.declared.abi.TheConstants.{SIGCHLD}
 use Rattle.dt_calls.specs.declared.shared.Shared.{Shared}
 use Rattle.dt_calls.specs.Container.{raised_at}
 use Rattle.dt_calls.specs.Sound.{IsSound}

@@ -21,7 +21,7 @@ invariant_of-self c =
     by_found None e is good new = cc
     by_found (Some old) e is good new =
         subst (λ m. Counts m c.self.inside.counts c.self.inside.tables c.self.inside.next) (sym new)
-        (counts-changed _ _ _ _ c.args.number old (with_flags c.args.append c.args.nonblock old) e (record { kind = good.kind; place = good.place; access = good.access }) c.self.invariant)
+        (counts-changed _ _ _ _ c.args.number old (with_flags c.args.append c.args.nonblock old) e (record { kind = good.kind; spot = good.spot; access = good.access }) c.self.invariant)
 
 pub returns-clause-files : goal.returns-clause-files
 unfolding with_description

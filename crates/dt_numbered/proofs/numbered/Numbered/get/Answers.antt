@@ -1,6 +1,6 @@
 use Rattle.std.proofs.Common.{sym, ap, ◌∙◌}
 use Rattle.std.specs.FinMap.{get}
-use Rattle.dt_tree.proofs.Kept.{get-kept}
+use Rattle.dt_numbered.proofs.Kept.{get-kept}
 use Rattle.dt_numbered.proofs.numbered.Numbered.get.Goals as goal
 
 pub returns : goal.returns

@@ -1,7 +1,7 @@
 use Rattle.std.proofs.Common.{sym, ap, subst, ◌∙◌}
 use Rattle.std.specs.Prelude.{IsSome}
 use Rattle.std.specs.FinMap.{get, insert}
-use Rattle.dt_tree.proofs.Kept.{get-kept, put-kept}
+use Rattle.dt_numbered.proofs.Kept.{get-kept, put-kept}
 use Rattle.dt_numbered.proofs.numbered.Numbered.set.Goals as goal
 
 pub replace-requires : goal.replace-requires

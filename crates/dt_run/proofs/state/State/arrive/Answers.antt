@@ -6,7 +6,7 @@ use Rattle.dt_run.specs.declared.phase.Phase.TheVariants.{Ran}
 use Rattle.dt_run.specs.declared.state.State.{State as StateInCode}
 use Rattle.dt_run.specs.Ahead.{ran}
 use Rattle.dt_run.specs.inner.InCode.{state_of}
-use Rattle.dt_run.proofs.Arriving.{owed, owed-held, has_arrived, was_there, arrive-ran, arrive-good, arrive-sound, arrive-smaller}
+use Rattle.dt_run.proofs.Arriving.{run-counts, owed, owed-held, has_arrived, was_there, arrive-ran, arrive-good, arrive-sound, arrive-smaller}
 use Rattle.dt_run.proofs.state.State.arrive.Goals as goal
 
 pub run_segment-requires : goal.run_segment-requires
@@ -15,6 +15,9 @@ run_segment-requires c =
     let at = ap (λ pids. slice_index_or pids c.args.index 0) c.owing.ensures.order in
     let h = owed c.args.self.now vpid c.requires.good (owed-held c.args.self.now c.args.index vpid c.requires.owing at) in
     h.home
+
+pub arrived-requires-clause-count : goal.arrived-requires-clause-count
+arrived-requires-clause-count c = let run = c.in_ok-seg.ensures.run in run-counts run.was run.now c.in_ok-seg.seg run.run
 
 pub returns-clause-ran : goal.returns-clause-ran
 returns-clause-ran c = λ w.

@@ -9,7 +9,7 @@ returns c =
     let w = c.install.new.host.view in
     let files = c.in_ok-files.ensures in
     let pipes_of = λ (w : World). w.pipes in
-    let none = c.install.ensures.rest.pipes ∙ ap pipes_of c.new-3.ensures.stays ∙ ap pipes_of c.in_ok-host.ensures.start in
+    let none = c.install.ensures.rest.pipes ∙ ap pipes_of c.new-3.ensures.asks.stays ∙ ap pipes_of c.in_ok-host.ensures.start in
     let tree = tree_of c.install.new.self w.forest in
     record {
       stands = c.in_ok-install.ensures.stands;

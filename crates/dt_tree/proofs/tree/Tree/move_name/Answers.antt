@@ -23,5 +23,5 @@ shift-requires-clause-may g c =
     let v = (g.H.Host.view c.args.host.now).forest in
     let s = c.requires.stands.tree in
     let here : entry (shape_of c.args.self.now v) c.args.from c.args.old.now ≡ Some c.in-Some.n = sym c.in_ok-n.ensures.ok ∙ c.in-Some.is in
-    subst (λ (w : World). IsMove (shape_of c.args.self.now w.forest) c.args.from c.args.old.now c.args.to c.args.new.now c.in-Some.n) (sym c.find.ensures.stays)
+    subst (λ (w : World). IsMove (shape_of c.args.self.now w.forest) c.args.from c.args.old.now c.args.to c.args.new.now c.in-Some.n) (sym c.find.ensures.asks.stays)
     (is_move (shape_of c.args.self.now v) s.shaped s.few c.args.from c.args.old.now c.args.to c.args.new.now c.in-Some.n c.requires.may (sym (c.is_removed.ensures v c.requires.stands) ∙ c.if-is_removed.false) here)

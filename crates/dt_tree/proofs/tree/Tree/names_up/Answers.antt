@@ -57,8 +57,8 @@ loop-i-preserved g c =
     let names : reverse c.push.new.self.items ≡ unwrap_or (name_in (shape_of c.args.self.now v) c.in-Some.above c.loop-i.at) [] ∷ reverse c.loop-i.names.items =
     ap (λ (xs : List (List ℕ)). reverse xs) (c.in_ok-push-in-Some.ensures).items ∙ reverse-append c.loop-i.names.items (c.in_ok-name_in-in-Some.field-0 ∷ []) ∙ ap (λ (x : List ℕ). x ∷ reverse c.loop-i.names.items) name in
     record {
-      stays = c.name_in.ensures.stays ∙ c.loop-i.invariant.stays;
-      later = omega (arith, c.name_in.ensures.cause.later, c.loop-i.invariant.later);
+      stays = c.name_in.ensures.asks.stays ∙ c.loop-i.invariant.stays;
+      later = omega (arith, c.name_in.ensures.asks.cause.later, c.loop-i.invariant.later);
       is = IsDir-entry (shape_of c.args.self.now v) c.in-Some.above spot.0 c.loop-i.at spot.2;
       same = ap (names_up (4096 - (c.loop-i._i + 1)) (shape_of c.args.self.now v) c.in-Some.above) names
           ∙ sym (up_step (4096 - c.loop-i._i) (4096 - (c.loop-i._i + 1)) (shape_of c.args.self.now v) c.loop-i.at (reverse c.loop-i.names.items) c.in-Some.above (omega arith) (λ e. apart (e ∙ root_is v c.args.self.now)) some)

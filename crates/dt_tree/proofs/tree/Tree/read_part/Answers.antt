@@ -8,7 +8,7 @@ pub returns-clause-ok : goal.returns-clause-ok
 returns-clause-ok g c =
     let w = g.H.Host.view c.args.host.now in
     let t = tree_of c.args.self.now w.forest in
-    let same = ap (λ v. content (shape_of c.args.self.now v.forest) c.args.inode) c.meta.ensures.stays in
+    let same = ap (λ v. content (shape_of c.args.self.now v.forest) c.args.inode) c.meta.ensures.asks.stays in
     let buffer = c.deref_mut.result.now in
     let new = c.read_at.new.buf in
     let n = c.in_ok-read_at.field-0 in

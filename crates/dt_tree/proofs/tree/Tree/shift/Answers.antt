@@ -17,53 +17,53 @@ as_before t now was d name new stays e = subst (λ (w : World). new ≡ with_sha
 
 pub unbind_found-requires-clause-directory : goal.unbind_found-requires-clause-directory
 unbind_found-requires-clause-directory g c =
-    let e1 = as_before _ _ _ _ _ _ c.find.ensures.stays c.in_ok-unbind.ensures.tree in
+    let e1 = as_before _ _ _ _ _ _ c.find.ensures.asks.stays c.in_ok-unbind.ensures.tree in
     subst (λ s. IsDir s c.args.to) (sym (shape_first _ _ _ _ e1)) (is_first _ c.requires.stands.tree.shaped _ _ _ _ _ c.requires.may)
 
 pub unbind_found-requires-clause-found : goal.unbind_found-requires-clause-found
 unbind_found-requires-clause-found g c =
-    let e1 = as_before _ _ _ _ _ _ c.find.ensures.stays c.in_ok-unbind.ensures.tree in
+    let e1 = as_before _ _ _ _ _ _ c.find.ensures.asks.stays c.in_ok-unbind.ensures.tree in
     c.in_ok-replaced.ensures.ok ∙ sym (found_first _ c.requires.stands.tree.shaped _ _ _ _ _ c.requires.may) ∙ ap (λ s. entry s c.args.to c.args.new.now) (sym (shape_first _ _ _ _ e1))
 
 pub unbind_found-requires-clause-once : goal.unbind_found-requires-clause-once
 unbind_found-requires-clause-once g c =
-    let e1 = as_before _ _ _ _ _ _ c.find.ensures.stays c.in_ok-unbind.ensures.tree in
+    let e1 = as_before _ _ _ _ _ _ c.find.ensures.asks.stays c.in_ok-unbind.ensures.tree in
     subst (λ s. IfSome c.in_ok-replaced.replaced (λ n. IsDir s n → names_of s n ≤ 1)) (sym (shape_first _ _ _ _ e1))
     (if_found _ c.in_ok-replaced.replaced (λ n _. once_first _ c.requires.stands.tree.shaped _ _ _ _ _ c.requires.may n))
 
 pub bind-requires-clause-directory : goal.bind-requires-clause-directory
 bind-requires-clause-directory g c =
-    let e1 = as_before _ _ _ _ _ _ c.find.ensures.stays c.in_ok-unbind.ensures.tree in
+    let e1 = as_before _ _ _ _ _ _ c.find.ensures.asks.stays c.in_ok-unbind.ensures.tree in
     subst (λ s. IsDir s c.args.to) (sym (shape_second _ _ _ _ e1 _ _ _ c.in_ok-unbind_found.ensures.tree)) (is_second _ c.requires.stands.tree.shaped _ _ _ _ _ c.requires.may)
 
 pub bind-requires-clause-free : goal.bind-requires-clause-free
 bind-requires-clause-free g c =
-    let e1 = as_before _ _ _ _ _ _ c.find.ensures.stays c.in_ok-unbind.ensures.tree in
+    let e1 = as_before _ _ _ _ _ _ c.find.ensures.asks.stays c.in_ok-unbind.ensures.tree in
     subst (λ s. entry s c.args.to c.args.new.now ≡ None) (sym (shape_second _ _ _ _ e1 _ _ _ c.in_ok-unbind_found.ensures.tree)) (free_second _ c.requires.stands.tree.shaped _ _ _ _ _ c.requires.may)
 
 pub bind-requires-clause-live : goal.bind-requires-clause-live
 bind-requires-clause-live g c =
-    let e1 = as_before _ _ _ _ _ _ c.find.ensures.stays c.in_ok-unbind.ensures.tree in
+    let e1 = as_before _ _ _ _ _ _ c.find.ensures.asks.stays c.in_ok-unbind.ensures.tree in
     subst (λ s. IsLive s c.args.n) (sym (shape_second _ _ _ _ e1 _ _ _ c.in_ok-unbind_found.ensures.tree)) (live_second _ c.requires.stands.tree.shaped _ _ _ _ _ c.requires.may)
 
 pub stamp-requires : goal.stamp-requires
 stamp-requires g c =
     let s = c.requires.stands.tree.shaped in
-    let e1 = as_before _ _ _ _ _ _ c.find.ensures.stays c.in_ok-unbind.ensures.tree in
+    let e1 = as_before _ _ _ _ _ _ c.find.ensures.asks.stays c.in_ok-unbind.ensures.tree in
     let third = shape_third _ _ _ _ e1 _ _ _ c.in_ok-unbind_found.ensures.tree _ _ c.in_ok-bind.ensures.tree in
     has_inode-dir _ (g.H.Host.view c.bind.new.host).forest _ (subst (λ s. IsDir s c.args.from) (sym third) (is_third _ s _ _ _ _ _ c.requires.may c.args.from (is_from _ s _ _ _ _ _ c.requires.may)))
 
 pub stamp-requires-2 : goal.stamp-requires-2
 stamp-requires-2 g c =
     let v = (g.H.Host.view c.bind.new.host).forest in
-    let e1 = as_before _ _ _ _ _ _ c.find.ensures.stays c.in_ok-unbind.ensures.tree in
+    let e1 = as_before _ _ _ _ _ _ c.find.ensures.asks.stays c.in_ok-unbind.ensures.tree in
     let fourth = shape_fourth _ _ _ _ e1 _ _ _ c.in_ok-unbind_found.ensures.tree _ _ c.in_ok-bind.ensures.tree _ _ (c.stamp.ensures.tree v c.in_ok-bind.ensures.mirrors) in
     has_inode-dir _ v _ (subst (λ s. IsDir s c.args.to) (sym fourth) (is_third _ c.requires.stands.tree.shaped _ _ _ _ _ c.requires.may c.args.to c.requires.may.is_dir))
 
 pub sweep_found-requires-clause-tree : goal.sweep_found-requires-clause-tree
 sweep_found-requires-clause-tree g c =
     let v = (g.H.Host.view c.bind.new.host).forest in
-    let e1 = as_before _ _ _ _ _ _ c.find.ensures.stays c.in_ok-unbind.ensures.tree in
+    let e1 = as_before _ _ _ _ _ _ c.find.ensures.asks.stays c.in_ok-unbind.ensures.tree in
     let fourth = c.stamp.ensures.tree v c.in_ok-bind.ensures.mirrors in
     let fifth = c.stamp-2.ensures.tree v (c.stamp.ensures.mirrors v c.in_ok-bind.ensures.mirrors) in
     sweeps _ _ _ _ e1 _ _ _ c.in_ok-unbind_found.ensures.tree _ _ c.in_ok-bind.ensures.tree _ _ fourth _ fifth c.requires.stands.tree c.requires.may c.in_ok-replaced.replaced c.in_ok-replaced.ensures.ok
@@ -71,7 +71,7 @@ sweep_found-requires-clause-tree g c =
 pub sweep_found-requires-clause-live : goal.sweep_found-requires-clause-live
 sweep_found-requires-clause-live g c =
     let v = (g.H.Host.view c.bind.new.host).forest in
-    let e1 = as_before _ _ _ _ _ _ c.find.ensures.stays c.in_ok-unbind.ensures.tree in
+    let e1 = as_before _ _ _ _ _ _ c.find.ensures.asks.stays c.in_ok-unbind.ensures.tree in
     let fourth = c.stamp.ensures.tree v c.in_ok-bind.ensures.mirrors in
     let fifth = c.stamp-2.ensures.tree v (c.stamp.ensures.mirrors v c.in_ok-bind.ensures.mirrors) in
     live_replaced _ _ _ _ e1 _ _ _ c.in_ok-unbind_found.ensures.tree _ _ c.in_ok-bind.ensures.tree _ _ fourth _ fifth c.requires.stands.tree c.requires.may c.in_ok-replaced.replaced c.in_ok-replaced.ensures.ok
@@ -79,7 +79,7 @@ sweep_found-requires-clause-live g c =
 pub returns-clause-tree : goal.returns-clause-tree
 returns-clause-tree g c =
     let v = (g.H.Host.view c.bind.new.host).forest in
-    let e1 = as_before _ _ _ _ _ _ c.find.ensures.stays c.in_ok-unbind.ensures.tree in
+    let e1 = as_before _ _ _ _ _ _ c.find.ensures.asks.stays c.in_ok-unbind.ensures.tree in
     let fourth = c.stamp.ensures.tree v c.in_ok-bind.ensures.mirrors in
     let fifth = c.stamp-2.ensures.tree v (c.stamp.ensures.mirrors v c.in_ok-bind.ensures.mirrors) in
     on_ok c.sweep_found.result (tree_last _ _ _ _ e1 _ _ _ c.in_ok-unbind_found.ensures.tree _ _ c.in_ok-bind.ensures.tree _ _ fourth _ fifth c.requires.stands.tree c.requires.may c.in_ok-replaced.replaced c.in_ok-replaced.ensures.ok _) c.sweep_found.ensures.tree
@@ -87,7 +87,7 @@ returns-clause-tree g c =
 pub returns-clause-stands : goal.returns-clause-stands
 returns-clause-stands g c =
     let v = (g.H.Host.view c.bind.new.host).forest in
-    let e1 = as_before _ _ _ _ _ _ c.find.ensures.stays c.in_ok-unbind.ensures.tree in
+    let e1 = as_before _ _ _ _ _ _ c.find.ensures.asks.stays c.in_ok-unbind.ensures.tree in
     let fourth = c.stamp.ensures.tree v c.in_ok-bind.ensures.mirrors in
     let fifth = c.stamp-2.ensures.tree v (c.stamp.ensures.mirrors v c.in_ok-bind.ensures.mirrors) in
     on_both c.sweep_found.result (λ m e. record {
@@ -99,7 +99,7 @@ returns-clause-stands g c =
 pub returns-clause-held : goal.returns-clause-held
 returns-clause-held g c =
     let v = (g.H.Host.view c.bind.new.host).forest in
-    let e1 = as_before _ _ _ _ _ _ c.find.ensures.stays c.in_ok-unbind.ensures.tree in
+    let e1 = as_before _ _ _ _ _ _ c.find.ensures.asks.stays c.in_ok-unbind.ensures.tree in
     let fourth = c.stamp.ensures.tree v c.in_ok-bind.ensures.mirrors in
     let fifth = c.stamp-2.ensures.tree v (c.stamp.ensures.mirrors v c.in_ok-bind.ensures.mirrors) in
     on_ok c.sweep_found.result (λ e. subst (KeepsHeld _)

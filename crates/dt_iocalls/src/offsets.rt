@@ -1,6 +1,6 @@
 // Where a description goes on, and whether it may be read or written.
 ghost use Rattle.std.specs.Prelude.{◌≡◌};
-ghost use Rattle.dt_iocalls.specs.Places.{is_readable, is_writable, offset_of};
+ghost use Rattle.dt_iocalls.specs.Offsets.{is_readable, is_writable, offset_of};
 
 use dt_base::abi::O_WRONLY;
 use dt_fds::{Desc, Spot};
@@ -19,7 +19,7 @@ pub(crate) fn is_writable(desc: &Desc) -> bool
     desc.access != 0
 }
 
-// The offset at which a file is read or written next; the place of a directory is none.
+// The offset at which a file is read or written next; a directory has none, which is told as 0.
 pub(crate) fn offset_of(spot: &Spot) -> u64
     ensures { result ≡ offset_of spot.now }
 {

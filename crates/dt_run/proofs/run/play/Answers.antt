@@ -1,0 +1,23 @@
+use Rattle.std.proofs.Common.{arith, ◌≡◌, Err, refl, sym, ap, subst}
+use Rattle.std.specs.Prelude.{IfOk}
+use Rattle.dt_run.specs.inner.InCode.{run_as}
+use Rattle.dt_run.proofs.Causes.{passed_on, rose-from}
+use Rattle.dt_run.proofs.Completed.{run_of-came}
+use Rattle.dt_run.proofs.Ending.{launched-home}
+use Rattle.dt_run.proofs.run.play.Goals as goal
+
+pub run_from-requires-clause-home : goal.run_from-requires-clause-home
+run_from-requires-clause-home g c = launched-home _ _ c.launch.new.self (g.H.Host.view c.launch.new.host) _ c.in_ok-launch.ensures.ok
+
+pub returns-clause-ok : goal.returns-clause-ok
+returns-clause-ok g c =
+    let came = run_of-came _ _ _ c.args.seed _ _ _ c.in_ok-container.ensures.ok c.in_ok-launch.ensures.ok refl in
+    subst (λ r. IfOk c.run_from.result (λ run. r ≡ run_as run (g.H.Host.view c.run_from.new.host))) (sym came) c.run_from.ensures.ok
+
+pub returns-in_err-launch-clause-cause : goal.returns-in_err-launch-clause-cause
+returns-in_err-launch-clause-cause g c = record {
+  later = omega (arith, c.install.ensures.cause.later, c.launch.ensures.cause.later);
+  rose = λ failed.
+      rose-from _ _ _ c.install.ensures.cause.later
+      (c.in_err-launch.ensures.cause.rose (ap Err (passed_on _ _ _ c.from_residual-in_err-launch.ensures.1 failed)));
+}
