@@ -9,10 +9,7 @@ use Rattle.dt_base.specs.declared.event.Event.{Event}
 use Rattle.dt_procs.specs.Members.{is_full, without}
 use Rattle.dt_rv64.specs.declared.machine.Machine.{Machine}
 use Rattle.dt_rv64.specs.Effects.{register}
-use Rattle.dt_space.specs.declared.access.TheConstants.{WRITE}
-use Rattle.dt_space.specs.Space.{PageView, load}
-use Rattle.dt_space.specs.Write.{write}
-use Rattle.dt_space.proofs.Kept.{load-kept, write-some}
+use Rattle.dt_space.specs.Argument.{may_fill, with_filled}
 use Rattle.dt_calls.specs.declared.call.effect.Effect.{Effect as EffectInCode}
 use Rattle.dt_calls.specs.declared.call.effect.Outcome.{Outcome}
 use Rattle.dt_calls.specs.declared.numbers.TheConstants.{RUSAGE_SIZE}
@@ -21,7 +18,7 @@ use Rattle.dt_calls.specs.Container.{Shared}
 use Rattle.dt_calls.specs.Effect.{Effect, quiet, done, refused}
 use Rattle.dt_calls.specs.InCode.{effect_as}
 use Rattle.dt_calls.specs.Clone.{is_supported, cloned, clone_call}
-use Rattle.dt_calls.specs.Wait.{takes, with_bytes, status_bytes, usage_bytes, reaps}
+use Rattle.dt_calls.specs.Wait.{status_bytes, usage_bytes, reaps}
 
 -- what serving a stop did, by its parts
 pub effect-is : (c d : Shared) (own new : Process) (m n : Machine) (child : Option Machine) (outcome : Outcome) (e : EffectInCode) → c ≡ d → own ≡ new → m ≡ n → e.child ≡ child → e.events.items ≡ [] → e.outcome ≡ outcome → record (quiet c own m outcome) { child = child } ≡ effect_as d new n e
@@ -44,20 +41,6 @@ unfolding clone_call
 clone_call-made c next own m supported room = pick (is_supported (register m A0)) (is_full c.members) _ _ (cloned c next own m) supported room
 
 -- a zombie is reaped where its status and the use of resources can be written
-pub reaps-done : (c : Shared) (own : Process) (m : Machine) (status usage vpid : ℕ) (end : End) → (takes m.space status 4 && takes m.space usage RUSAGE_SIZE) ≡ true → reaps c own m status usage vpid end ≡ done (record c { members = without c.members vpid }) own (record m { space = with_bytes (with_bytes m.space status (status_bytes end)) usage usage_bytes }) vpid
+pub reaps-done : (c : Shared) (own : Process) (m : Machine) (status usage vpid : ℕ) (end : End) → (may_fill m.space status 4 && may_fill m.space usage RUSAGE_SIZE) ≡ true → reaps c own m status usage vpid end ≡ done (record c { members = without c.members vpid }) own (record m { space = with_filled (with_filled m.space status (status_bytes end)) usage usage_bytes }) vpid
 reaps-done c own m status usage vpid end is =
-    ap (λ b. cond b (done (record c { members = without c.members vpid }) own (record m { space = with_bytes (with_bytes m.space status (status_bytes end)) usage usage_bytes }) vpid) (refused c own m BadAddress)) is
-
-or-kept : (a b c : Bool) → (b ≡ true → c ≡ true) → (a || b) ≡ true → (a || c) ≡ true
-or-kept true b c kept is = refl
-or-kept false b c kept is = kept is
-
-still : (b : Bool) (pages : List PageView) (at : ℕ) (bytes : List ℕ) (address count : ℕ) → takes pages address count ≡ true → takes (cond b pages (write pages at bytes)) address count ≡ true
-still true pages at bytes address count is = is
-still false pages at bytes address count is =
-    or-kept (address == 0) (is_ok (load pages WRITE address count)) (is_ok (load (write pages at bytes) WRITE address count))
-    (λ ok. load-kept pages (write pages at bytes) WRITE (λ a. write-some bytes pages WRITE at a) count address ok) is
-
--- what can be written still can after something was
-pub takes-second : (pages : List PageView) (status usage : ℕ) (bytes : List ℕ) → (takes pages status 4 && takes pages usage RUSAGE_SIZE) ≡ true → takes (with_bytes pages status bytes) usage RUSAGE_SIZE ≡ true
-takes-second pages status usage bytes is = still (status == 0) pages status bytes usage RUSAGE_SIZE (and_parts (takes pages status 4) (takes pages usage RUSAGE_SIZE) is).1
+    ap (λ b. cond b (done (record c { members = without c.members vpid }) own (record m { space = with_filled (with_filled m.space status (status_bytes end)) usage usage_bytes }) vpid) (refused c own m BadAddress)) is

@@ -15,12 +15,10 @@ use Rattle.dt_procs.specs.declared.member.Member.{Member}
 use Rattle.dt_procs.specs.declared.member.TheConstants.{PROCESS_LIMIT}
 use Rattle.dt_procs.specs.Members.{is_live, lives}
 use Rattle.dt_procs.specs.Table.{Table, members_of, member_of, IsRising, IsTable}
+use Rattle.dt_procs.proofs.Standing.{Rises}
 use Rattle.dt_procs.proofs.Pairs.{AllPairs-head, AllPairs-tail}
 use Rattle.dt_rv64.specs.declared.machine.Machine.{Machine}
 use Rattle.dt_calls.specs.Container.{Processes}
-
-abbrev Rises : Member → Member → Type 0
-Rises before after = before.vpid < after.vpid
 
 -- all members that follow have pids above a bound, and so has one that lives
 above_all : (bound q : ℕ) (ms : List Member) → All (λ m. bound < m.vpid) ms → lives ms q ≡ true → bound < q

@@ -42,7 +42,7 @@ use Rattle.dt_calls.specs.declared.call.effect.Effect.{Effect as EffectInCode}
 use Rattle.dt_calls.specs.Effect.{Effect}
 use Rattle.dt_calls.specs.InCode.{shared_of, effect_as}
 use Rattle.dt_signals.specs.declared.signals.Sig.{Sig}
-use Rattle.dt_calls.specs.Sound.{Hand, hand, directories_of, with_own, IsSoundHand, Keeps, Serves, StillSignalled}
+use Rattle.dt_calls.specs.Sound.{Hand, hand, directories_of, with_part, IsSoundHand, Keeps, Serves, StillSignalled}
 use Rattle.dt_calls.proofs.Ended.{by_own}
 use Rattle.dt_calls.proofs.Signalled.{signal-here, sound-signals, still-insert}
 
@@ -177,7 +177,7 @@ module _ (c : Shared) (own : Process) (w : World) (sound : IsSoundHand (hand c o
 
   -- the signal states alone change
   pub keeps-signals : (signals : Signals) → StillSignalled c.signals signals → Keeps (hand c own w) (hand (record c { signals = signals }) own w) None
-  keeps-signals signals still = record { sound = sound-signals (with_own c own) signals w sound still; vpid = refl; parts = λ q there. there; next = refl; child = tt }
+  keeps-signals signals still = record { sound = sound-signals (with_part c own) signals w sound still; vpid = refl; parts = λ q there. there; next = refl; child = tt }
 
   pub keeps-raised : (signals : Signals) (new : Shared) → new ≡ record c { signals = signals } → StillSignalled c.signals new.signals → Keeps (hand c own w) (hand new own w) None
   keeps-raised signals new is still =
@@ -194,7 +194,7 @@ module _ (c : Shared) (own : Process) (w : World) (sound : IsSoundHand (hand c o
       (record { stands = before.stands; is_dir = before.is_dir; all_in = before.all_in; enough = before.enough; piped = before.piped })
       (record { vpid = same.vpid; tables = same.tables; holds = same.holds; files = same.files; dirs = same.dirs })
       refl in
-      record { sound = sound-signals (with_own c now) signals w kept.sound still; vpid = refl; parts = λ q there. there; next = refl; child = tt }
+      record { sound = sound-signals (with_part c now) signals w kept.sound still; vpid = refl; parts = λ q there. there; next = refl; child = tt }
 
   -- open files are closed, and the process's break changes
   pub keeps-closed : (files : Files) (tree : Table) (new : Process) (v : World) → new.caller ≡ own.caller → IsBacked (at files tree v) → KeepsHolds own.caller.vpid (holding (at c.fs.files c.fs.tree w)) (holding (at files tree v)) → OnlyFiles w v → Keeps (hand c own w) (hand (record c { fs = record c.fs { tree = tree; files = files } }) new v) None

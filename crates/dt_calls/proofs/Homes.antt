@@ -8,7 +8,7 @@ use Rattle.std.specs.FinMap.{FinMap, find, get, insert, remove, empty, entries, 
 use Rattle.dt_host.proofs.Maps.{at_remove, get-insert_other, get-remove_same, get-remove_other, insert_same}
 use Rattle.dt_rv64.specs.declared.machine.Machine.{Machine}
 use Rattle.dt_calls.specs.Container.{Machines}
-use Rattle.dt_calls.specs.InCode.{placed, home_in, home_of, entered}
+use Rattle.dt_calls.specs.InCode.{home_in, home_of, entered}
 use Rattle.dt_calls.specs.Settle.{with_own, with_child}
 
 same : {X : Type 0} (m n : FinMap nat_cmp X) → ((q : ℕ) → get m q ≡ get n q) → m ≡ n
@@ -23,14 +23,14 @@ chosen_none : (b : Bool) (y : Option (Option Machine)) → cond b None (option_f
 chosen_none true y = refl
 chosen_none false y = refl
 
-get-placed : (machines : Machines) (p : ℕ) (place : Option Machine) (q : ℕ) → get (placed machines p place) q ≡ cond (is_eq (nat_cmp q p)) place (get machines q)
-get-placed machines p None q = get-remove nat_cmp_total machines p q
-get-placed machines p (Some m) q = get-insert nat_cmp_total machines p m q
+get-with_own : (machines : Machines) (p : ℕ) (place : Option Machine) (q : ℕ) → get (with_own machines p place) q ≡ cond (is_eq (nat_cmp q p)) place (get machines q)
+get-with_own machines p None q = get-remove nat_cmp_total machines p q
+get-with_own machines p (Some m) q = get-insert nat_cmp_total machines p m q
 
 get-home_in : (es : List (ℕ × Option Machine)) (q : ℕ) → get (home_in es) q ≡ option_flatten (find nat_cmp q es)
 get-home_in [] q = get-empty nat_cmp q
 get-home_in (e ∷ es) q =
-    get-placed (home_in es) e.0 e.1 q
+    get-with_own (home_in es) e.0 e.1 q
     ∙ ap (cond (is_eq (nat_cmp q e.0)) e.1) (get-home_in es q)
     ∙ chosen (is_eq (nat_cmp q e.0)) e.1 (find nat_cmp q es)
 

@@ -15,8 +15,8 @@ use Rattle.dt_calls.specs.Delivery.{after_delivery, forced_by}
 use Rattle.dt_calls.specs.Container.{Container, blank_process}
 use Rattle.dt_calls.specs.Effect.{Effect}
 use Rattle.dt_calls.specs.InCode.{ContainerView, home_of, shared_of, container_of}
-use Rattle.dt_calls.specs.Settle.{Settled, Turned, turned, settle, serve, serve_machine, all_ended, with_own as with_machine, with_child, next_after}
-use Rattle.dt_calls.specs.Sound.{IsSound, IsPaired, IsSoundContainer, with_own}
+use Rattle.dt_calls.specs.Settle.{Settled, Turned, turned, settle, serve, serve_machine, all_ended, with_own, with_child, next_after}
+use Rattle.dt_calls.specs.Sound.{IsSound, IsPaired, IsSoundContainer, with_part}
 use Rattle.dt_calls.proofs.Held.{keeps-break}
 use Rattle.dt_calls.specs.AtHome.{Places, Becomes}
 use Rattle.dt_calls.proofs.Homes.{home-given, home-there, own-over}
@@ -25,7 +25,7 @@ use Rattle.dt_calls.proofs.Settled.{paired-insert, parts-kept, part-here}
 -- what the machine became has no part in the turn
 turned-over : (c d : Container) (p : ℕ) (m : Machine) (s : Settled) → d.machines ≡ insert c.machines p m → d.next ≡ c.next → turned d p s ≡ turned c p s
 turned-over c d p m s over same =
-    let own : with_machine d.machines p s.own ≡ with_machine c.machines p s.own = ap (λ ms. with_machine ms p s.own) over ∙ own-over c.machines p m s.own in
+    let own : with_own d.machines p s.own ≡ with_own c.machines p s.own = ap (λ ms. with_own ms p s.own) over ∙ own-over c.machines p m s.own in
     (λ i. record {
       container = record {
         shared = s.shared;
@@ -47,14 +47,14 @@ module _ (v s : ContainerView) (w : World) (p : ℕ) (own : Process) (sound : Is
   pub own-pid : own.caller.vpid ≡ p
   own-pid = subst (λ found. IfSome found (λ x. x.caller.vpid ≡ p)) here (sound.shared.named p)
 
-  put-same : with_own v.shared own ≡ v.shared
+  put-same : with_part v.shared own ≡ v.shared
   put-same =
       ap (λ processes. record v.shared { processes = processes })
       (ap (λ q. insert v.shared.processes q own) own-pid ∙ put_back nat_cmp_total nat_cmp-IsAntisymmetric v.shared.processes p own here)
 
   -- what the call has in hand is sound
-  pub hand-sound : IsSound (with_own s.shared own) w
-  hand-sound = subst (λ (x : SharedInCode). IsSound (with_own x own) w) (sym same_shared) (subst (λ (x : SharedInCode). IsSound x w) (sym put-same) sound.shared)
+  pub hand-sound : IsSound (with_part s.shared own) w
+  hand-sound = subst (λ (x : SharedInCode). IsSound (with_part x own) w) (sym same_shared) (subst (λ (x : SharedInCode). IsSound x w) (sym put-same) sound.shared)
 
   -- its machine is at home in the code's hands too
   pub home-served : IsSome (get (home_of v.places) p) → IsSome (get (home_of s.places) p)
@@ -110,7 +110,7 @@ module _ (v : ContainerView) (w : World) (p : ℕ) (own new : Process) (m : Mach
   new-pid : new.caller.vpid ≡ p
   new-pid = ap (λ caller. caller.vpid) same ∙ own-pid v v w p own sound refl here
 
-  pub sound-started : IsSound (with_own v.shared new) w
+  pub sound-started : IsSound (with_part v.shared new) w
   sound-started =
       let hand = hand-sound v v w p own sound refl here in
       let kept = keeps-break v.shared own w hand new same in
@@ -129,14 +129,14 @@ pub record Launches (new : ContainerView) (w : World) : Type 0 where
 
 pub launches : (inside v : ContainerView) (w : World) (own started : Process) (m : Machine) (put : SharedInCode) (new : ContainerView)
     → IsSoundContainer v w → inside ≡ v → get inside.shared.processes FIRST_PID ≡ Some own → started.caller ≡ own.caller
-    → put ≡ with_own inside.shared started
+    → put ≡ with_part inside.shared started
     → new ≡ record { shared = put; places = insert inside.places FIRST_PID (Some m); events = inside.events }
     → Launches new w
 launches inside v w own started m put new sound is own_is same put_is new_is =
     let here : get v.shared.processes FIRST_PID ≡ Some own = sym (ap (λ (x : ContainerView). get x.shared.processes FIRST_PID) is) ∙ own_is in
-    let given : new ≡ record { shared = with_own v.shared started; places = insert v.places FIRST_PID (Some m); events = v.events } =
+    let given : new ≡ record { shared = with_part v.shared started; places = insert v.places FIRST_PID (Some m); events = v.events } =
     new_is ∙ (λ i. record {
-      shared = (put_is ∙ ap (λ (x : ContainerView). with_own x.shared started) is) i;
+      shared = (put_is ∙ ap (λ (x : ContainerView). with_part x.shared started) is) i;
       places = insert (ap (λ (x : ContainerView). x.places) is i) FIRST_PID (Some m);
       events = ap (λ (x : ContainerView). x.events) is i;
     }) in

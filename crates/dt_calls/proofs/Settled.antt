@@ -18,7 +18,7 @@ use Rattle.dt_calls.specs.declared.call.effect.Effect.{Effect as EffectInCode}
 use Rattle.dt_calls.specs.declared.call.effect.Outcome.TheVariants.{Ends}
 use Rattle.dt_calls.specs.InCode.{ContainerView, home_of, entered, shared_of, container_of, effect_as, turned_as}
 use Rattle.dt_calls.specs.Effect.{Effect}
-use Rattle.dt_calls.specs.Sound.{IsSound, IsPaired, IsSoundContainer, with_own}
+use Rattle.dt_calls.specs.Sound.{IsSound, IsPaired, IsSoundContainer, with_part}
 use Rattle.dt_calls.specs.Settle.{turned, settle, settled_by, ends, ends_shown, all_ended, goes_on, is_gone, with_child, next_after}
 use Rattle.dt_calls.proofs.Homes.{home-entered, home-given, home-gone, home-empty}
 
@@ -27,11 +27,11 @@ Places = FinMap nat_cmp (Option Machine)
 
 -- a container in which a process keeps its machine, by the one that the code had in hand before
 pub kept-view : (inside now : ContainerView) (next : ℕ) (own : Process) (e : EffectInCode) (put : SharedInCode) (new : ContainerView)
-    → inside ≡ now → put ≡ with_own inside.shared own
+    → inside ≡ now → put ≡ with_part inside.shared own
     → new ≡ record { shared = put; places = entered inside.places next e.child; events = e.events.items }
-    → new ≡ record { shared = with_own now.shared own; places = entered now.places next e.child; events = e.events.items }
+    → new ≡ record { shared = with_part now.shared own; places = entered now.places next e.child; events = e.events.items }
 kept-view inside now next own e put new is put_is new_is = new_is ∙ (λ i. record {
-  shared = (put_is ∙ ap (λ (v : ContainerView). with_own v.shared own) is) i;
+  shared = (put_is ∙ ap (λ (v : ContainerView). with_part v.shared own) is) i;
   places = entered (ap (λ (v : ContainerView). v.places) is i) next e.child;
   events = e.events.items;
 })
@@ -112,7 +112,7 @@ child-kept (Some m) step holds = step holds
 -- the container after a turn of a process that keeps its machine
 abbrev pub kept : ContainerView → ℕ → Process → EffectInCode → ContainerView
 kept v next own e = record {
-  shared = with_own v.shared own;
+  shared = with_part v.shared own;
   places = entered v.places next e.child;
   events = e.events.items;
 }
@@ -125,7 +125,7 @@ module _ (v : ContainerView) (next : ℕ) (own : Process) (e : EffectInCode) whe
       (λ q some. parts-kept v.shared.processes own.caller.vpid q own (paired q some))
       (child-kept e.child (parts-kept v.shared.processes own.caller.vpid next own) child))
 
-  pub sound-kept : (new : ContainerView) (w : World) → new ≡ kept v next own e → IsSound (with_own v.shared own) w → IsPaired new → length (keys new.places) ≤ PROCESS_LIMIT → IsSoundContainer new w
+  pub sound-kept : (new : ContainerView) (w : World) → new ≡ kept v next own e → IsSound (with_part v.shared own) w → IsPaired new → length (keys new.places) ≤ PROCESS_LIMIT → IsSoundContainer new w
   sound-kept new w is sound paired few = record { shared = subst (λ (n : ContainerView). IsSound n.shared w) (sym is) sound; paired = paired; few = few }
 
 module _ (v : ContainerView) (w : World) (next : ℕ) (own : Process) (m : Machine) (e : EffectInCode) (number : v.shared.pids.next ≡ next_after next e.child) where
@@ -142,7 +142,7 @@ module _ (v : ContainerView) (w : World) (next : ℕ) (own : Process) (m : Machi
   settle-kept new served home is by lives =
       ap (turned (record (container_of v w) { next = next }) p) by
       ∙ turned-kept (shared_of v.shared w) (with_process (shared_of v.shared w) own) v.places p next v.shared.pids.next m e.child v.events e.events.items served lives number
-      ∙ ap (λ places. turned_as (container_of (record { shared = with_own v.shared own; places = entered places next e.child; events = e.events.items }) w) served) (put_back nat_cmp_total nat_cmp-IsAntisymmetric v.places p (Some m) home)
+      ∙ ap (λ places. turned_as (container_of (record { shared = with_part v.shared own; places = entered places next e.child; events = e.events.items }) w) served) (put_back nat_cmp_total nat_cmp-IsAntisymmetric v.places p (Some m) home)
       ∙ ap (λ n. turned_as (container_of n w) served) (sym is)
 
   -- likewise where the process ended

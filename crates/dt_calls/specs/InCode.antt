@@ -1,7 +1,7 @@
 -- What the code has in hand, as the definitions see it with what its host keeps.
 use Rattle.std.specs.Prelude.{◌≡◌, ℕ, List, [], ◌∷◌, Option, None, Some, IsSome}
 use Rattle.std.specs.Ordering.{nat_cmp}
-use Rattle.std.specs.FinMap.{FinMap, empty, entries, get, insert, remove}
+use Rattle.std.specs.FinMap.{FinMap, empty, entries, get, insert}
 use Rattle.dt_base.specs.declared.answer.Answer.{Answer}
 use Rattle.dt_base.specs.declared.event.Event.{Event}
 use Rattle.dt_rv64.specs.declared.machine.Machine.{Machine}
@@ -21,7 +21,7 @@ use Rattle.dt_calls.specs.Effect.{Effect}
 use Rattle.dt_calls.specs.Delivery.{Standing}
 use Rattle.dt_calls.specs.SignalCalls.{AfterSigreturn}
 use Rattle.dt_calls.specs.Launch.{Launched}
-use Rattle.dt_calls.specs.Settle.{Turned}
+use Rattle.dt_calls.specs.Settle.{Turned, with_own}
 
 -- a container in code: its tables of inodes, pipes and pids stand for a tree, for pipes and for processes where what the host keeps is known;
 -- each live process has a place for its machine, which is empty where the machine is away
@@ -43,15 +43,10 @@ shared_of c w = record {
   signals = c.signals;
 }
 
--- the machine of a place, or none
-abbrev pub placed : Machines → ℕ → Option Machine → Machines
-placed machines p None = remove machines p
-placed machines p (Some m) = insert machines p m
-
 -- the machines in these places
 abbrev pub home_in : List (ℕ × Option Machine) → Machines
 home_in [] = empty
-home_in (e ∷ es) = placed (home_in es) e.0 e.1
+home_in (e ∷ es) = with_own (home_in es) e.0 e.1
 
 -- the machines at home
 unfoldable pub home_of : FinMap nat_cmp (Option Machine) → Machines

@@ -1,6 +1,7 @@
 -- What becomes of a process whose stop was served, and of its container.
 use Rattle.std.specs.Prelude.{ℕ, ◌+◌, ◌==◌, Bool, false, List, [], ◌∷◌, ◌++◌, map, Option, Some, None, option_map, unwrap_or, if◌then◌else◌}
-use Rattle.std.specs.FinMap.{empty, get, insert, remove, keys}
+use Rattle.std.specs.Ordering.{nat_cmp}
+use Rattle.std.specs.FinMap.{FinMap, empty, get, insert, remove, keys}
 use Rattle.dt_base.specs.declared.event.End.{End}
 use Rattle.dt_base.specs.declared.event.End.TheVariants.{Signal}
 use Rattle.dt_base.specs.declared.event.Event.{Event}
@@ -136,10 +137,10 @@ all_ended p Moved = false
 all_ended p Ended = p == FIRST_PID
 all_ended p (Unsupported number) = false
 
--- with the machine of a process, or without where it has ended
-abbrev pub with_own : Machines → ℕ → Option Machine → Machines
-with_own machines p None = remove machines p
-with_own machines p (Some m) = insert machines p m
+-- with what is a process's own, or without where it has ended
+abbrev pub with_own : {X : Type 0} → FinMap nat_cmp X → ℕ → Option X → FinMap nat_cmp X
+with_own owned p None = remove owned p
+with_own owned p (Some own) = insert owned p own
 
 -- with the machine of a child, if there is one
 abbrev pub with_child : Machines → ℕ → Option Machine → Machines

@@ -68,12 +68,12 @@ abbrev pub hand : Shared → Process → World → Hand
 hand c own w = record { shared = c; own = own; world = w }
 
 -- what is shared, with this as the part of its process
-abbrev pub with_own : Shared → Process → Shared
-with_own c own = record c { processes = insert c.processes own.caller.vpid own }
+abbrev pub with_part : Shared → Process → Shared
+with_part c own = record c { processes = insert c.processes own.caller.vpid own }
 
 -- it is sound once the process's part is put back
 abbrev pub IsSoundHand : Hand → Type 0
-IsSoundHand h = IsSound (with_own h.shared h.own) h.world
+IsSoundHand h = IsSound (with_part h.shared h.own) h.world
 
 -- a stop that is served leaves what is sound, the process's pid and each other's part; and the pid of a child was next, and has
 -- its part

@@ -1,5 +1,5 @@
 -- wait4(2): a child that has ended is reaped.
-use Rattle.std.specs.Prelude.{ℕ, ◌*◌, ◌==◌, ◌||◌, ◌&&◌, nat_lt, not, Bool, List, replicate, Option, None, Some, is_ok, if◌then◌else◌}
+use Rattle.std.specs.Prelude.{ℕ, ◌*◌, ◌==◌, ◌||◌, ◌&&◌, nat_lt, not, Bool, List, replicate, Option, None, Some, if◌then◌else◌}
 use Rattle.dt_base.specs.declared.abi.TheConstants.{A0, A1, A2, A3, WAIT4, WNOHANG, WAIT_OPTIONS}
 use Rattle.dt_base.specs.Abi.{low_word}
 use Rattle.dt_base.specs.declared.errno.Errno.TheVariants.{Inval, Child, Fault as BadAddress}
@@ -11,9 +11,7 @@ use Rattle.dt_procs.specs.declared.member.Reaped.TheVariants.{Got, NoneReady, No
 use Rattle.dt_procs.specs.Members.{look_for, without}
 use Rattle.dt_rv64.specs.declared.machine.Machine.{Machine}
 use Rattle.dt_rv64.specs.Effects.{register}
-use Rattle.dt_space.specs.declared.access.TheConstants.{WRITE}
-use Rattle.dt_space.specs.Space.{PageView, load}
-use Rattle.dt_space.specs.Write.{write}
+use Rattle.dt_space.specs.Argument.{may_fill, with_filled}
 use Rattle.dt_scene.specs.Arguments.{has_only}
 use Rattle.dt_base.specs.Abi.{has}
 use Rattle.dt_calls.specs.declared.call.effect.Outcome.TheVariants.{Blocked, Unsupported}
@@ -36,14 +34,6 @@ abbrev pub status_of : End → ℕ
 status_of (Code code) = code * 256
 status_of (Signal signal) = signal
 
--- so many bytes can be written at an address, or it is null
-abbrev pub takes : List PageView → ℕ → ℕ → Bool
-takes pages address count = (address == 0) || is_ok (load pages WRITE address count)
-
--- the pages with bytes at an address, unless it is null
-abbrev pub with_bytes : List PageView → ℕ → List ℕ → List PageView
-with_bytes pages address bytes = if address == 0 then pages else write pages address bytes
-
 -- the bytes of a status word
 abbrev pub status_bytes : End → List ℕ
 status_bytes end = low_bytes 4 (status_of end)
@@ -55,9 +45,9 @@ usage_bytes = replicate RUSAGE_SIZE 0
 -- a zombie is reaped, and its pid is the answer; EFAULT where its status or the use of resources can't be written
 abbrev pub reaps : Shared → Process → Machine → ℕ → ℕ → ℕ → End → Effect
 reaps c own m status usage vpid end =
-    if takes m.space status 4 && takes m.space usage RUSAGE_SIZE
+    if may_fill m.space status 4 && may_fill m.space usage RUSAGE_SIZE
     then done (record c { members = without c.members vpid }) own
-    (record m { space = with_bytes (with_bytes m.space status (status_bytes end)) usage usage_bytes }) vpid
+    (record m { space = with_filled (with_filled m.space status (status_bytes end)) usage usage_bytes }) vpid
     else refused c own m BadAddress
 
 -- by what there is: with WNOHANG the answer is 0 where no child has ended, and else the process waits

@@ -8,7 +8,7 @@ ghost use Rattle.dt_tree.specs.ImageTree.{image_tree};
 ghost use Rattle.dt_tree.specs.Table.{Stands, tree_of};
 ghost use Rattle.dt_calls.specs.Container.{blank_process, first_shared};
 ghost use Rattle.dt_calls.specs.InCode.{shared_of};
-ghost use Rattle.dt_calls.specs.Sound.{IsSound, with_own};
+ghost use Rattle.dt_calls.specs.Sound.{IsSound, with_part};
 
 use crate::numbers::FIRST_UMASK;
 use dt_base::Caller;
@@ -112,7 +112,7 @@ impl Shared {
     /// Puts the part of a live process back, which a call has changed.
     pub fn put(&mut self, own: Process)
         requires { IsSome (get self.old.processes own.caller.vpid) }
-        ensures { self.new ≡ with_own self.old own }
+        ensures { self.new ≡ with_part self.old own }
     {
         self.processes.set(u64::from(own.caller.vpid), own);
     }

@@ -2,15 +2,13 @@
 use Rattle.std.proofs.Common.{◌≡◌, ℕ, ◌+◌, ◌-◌, ◌*◌, ◌<◌, ◌≤◌, List, [], ◌∷◌, ◌++◌, length, get_or, drop, take, replicate, refl, sym, ap, ◌∙◌, append-nil, append_assoc, length-append, add-one, arith}
 use Rattle.std.proofs.Math.Seq.{drop-cons}
 use Rattle.std.proofs.lemmas.List.{drop_all, take_all, length-replicate}
+use Rattle.dt_base.proofs.Lists.{drop-at}
 use Rattle.dt_base.specs.Fields.{low_bytes}
 use Rattle.dt_elf.specs.Stack.{Invocation, terminated, addresses, word_bytes, size, strings, strings_start, words_at, stack_words, laid_out}
 use Rattle.dt_elf.specs.declared.layout.TheConstants.{RANDOM_SIZE, STACK_START}
 use Rattle.dt_base.specs.declared.limits.TheConstants.{ARGUMENT_LIMIT, PATH_LIMIT}
 use Rattle.dt_base.specs.Command.{Words}
 use Rattle.dt_elf.specs.Executable.{Executable}
-
-drop-at : {X : Type 0} (xs : List X) (i : ℕ) (x d : X) → i < length xs → x ≡ get_or xs i d → drop i xs ≡ x ∷ drop (i + 1) xs
-drop-at xs i x d lt is = drop-cons xs i d lt ∙ rw (add-one, ← is) refl
 
 size-cons : (word : List ℕ) (rest : List (List ℕ)) → size (word ∷ rest) ≡ length word + 9 + size rest
 unfolding size

@@ -2,4 +2,3 @@ pub mod Walked
 pub mod Opened
 pub mod NoNul
 pub mod Collected
-pub mod Positions

@@ -15,7 +15,7 @@ use Rattle.dt_exec.specs.declared.limits.TheConstants.{SCRIPT_LINE_LIMIT}
 use Rattle.dt_exec.specs.declared.script.Script.{Script}
 use Rattle.dt_base.specs.declared.errno.Errno.TheVariants.{NameTooLong}
 use Rattle.dt_base.specs.declared.limits.TheConstants.{PATH_LIMIT}
-use Rattle.dt_exec.specs.Arguments.{text_or, not_empty, path_argument}
+use Rattle.dt_space.specs.Argument.{text_or, not_empty, path_argument}
 use Rattle.dt_exec.specs.Script.{HasNoNul, is_blank, blanks_skipped, blanks_cut, some_word, script_named, script_by, script_args}
 
 both : (a b : Bool) → IsTrue (a && b) → IsTrue a × IsTrue b

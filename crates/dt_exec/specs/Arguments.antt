@@ -1,35 +1,18 @@
--- What execve(2) is handed in memory: a path, and two lists of words.
+-- What execve(2) is handed in memory beside a path: two lists of words.
 use Rattle.std.specs.Prelude.{ℕ, zero, suc, ◌+◌, ◌%◌, ◌^◌, ◌==◌, List, [], ◌∷◌, Result, Ok, Err, nat_lt, if◌then◌else◌}
 use Rattle.dt_base.specs.Command.{Words}
 use Rattle.dt_base.specs.declared.errno.Errno.{Errno}
-use Rattle.dt_base.specs.declared.errno.Errno.TheVariants.{NoEnt, TooBig, NameTooLong, Fault as BadAddress}
-use Rattle.dt_base.specs.declared.limits.TheConstants.{PATH_LIMIT, ADDRESS_LIMIT, ARGUMENT_LIMIT}
+use Rattle.dt_base.specs.declared.errno.Errno.TheVariants.{TooBig, Fault as BadAddress}
+use Rattle.dt_base.specs.declared.limits.TheConstants.{ADDRESS_LIMIT, ARGUMENT_LIMIT}
 use Rattle.dt_elf.specs.Stack.{size}
 use Rattle.dt_exec.specs.declared.limits.TheConstants.{LIST_LIMIT}
 use Rattle.dt_space.specs.declared.access.Miss.{Miss}
-use Rattle.dt_space.specs.declared.access.TextErr.{TextErr}
-use Rattle.dt_space.specs.declared.access.TextErr.TheVariants as text_err
 use Rattle.dt_space.specs.declared.access.TheConstants.{READ}
+use Rattle.dt_space.specs.Argument.{text_or}
 use Rattle.dt_space.specs.Space.{PageView, load, loaded_number}
 use Rattle.dt_space.specs.Text.{text_at}
 
--- a text that was read, or why there is none: EFAULT, or this where no NUL ends it in time
-abbrev pub text_or : Errno → Result (List ℕ) TextErr → Result (List ℕ) Errno
-text_or too_long (Ok text) = Ok text
-text_or too_long (Err text_err.Long) = Err too_long
-text_or too_long (Err error) = Err BadAddress
-
--- a text that may not be empty
-abbrev pub not_empty : Result (List ℕ) Errno → Result (List ℕ) Errno
-not_empty (Err errno) = Err errno
-not_empty (Ok []) = Err NoEnt
-not_empty (Ok (byte ∷ bytes)) = Ok (byte ∷ bytes)
-
--- the path, of 1 to 4,095 bytes
-abbrev pub path_argument : List PageView → ℕ → Result (List ℕ) Errno
-path_argument pages address = not_empty (text_or NameTooLong (text_at pages address (suc PATH_LIMIT)))
-
--- a word, which has no limit of its own: a NUL ends it before the first address that no page has, or there is EFAULT
+-- a word, which has no limit of its own: a NUL ends it before the first byte that can't be read, or there is EFAULT
 abbrev pub word_at : List PageView → ℕ → Result (List ℕ) Errno
 word_at pages address = text_or BadAddress (text_at pages address ADDRESS_LIMIT)
 

@@ -15,7 +15,8 @@ use Rattle.dt_elf.specs.FirstMachine.{first}
 use Rattle.dt_elf.specs.ProgramBreak.{program_break}
 use Rattle.dt_exec.specs.declared.program.Program.{Program}
 use Rattle.dt_exec.specs.declared.script.Script.{Script}
-use Rattle.dt_exec.specs.Arguments.{path_argument, command_argument}
+use Rattle.dt_exec.specs.Arguments.{command_argument}
+use Rattle.dt_space.specs.Argument.{path_argument}
 use Rattle.dt_exec.specs.Lookup.{lookup}
 use Rattle.dt_exec.specs.Script.{is_script, script_of, script_args}
 

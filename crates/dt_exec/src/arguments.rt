@@ -1,27 +1,16 @@
-// What execve(2) is handed in memory: a path, and two lists of words.
+// What execve(2) is handed in memory beside a path: two lists of words.
 ghost use Rattle.std.specs.Prelude.{◌≡◌, Err, IfOk, IsTrue, MatchResult, MatchOption};
 ghost use Rattle.dt_base.specs.Path.{has_no_nul};
-ghost use Rattle.dt_space.specs.Text.{text_at};
-ghost use Rattle.dt_exec.specs.Arguments.{text_or, path_argument, word_at, words_at, list_argument, one_at_least};
+ghost use Rattle.dt_exec.specs.Arguments.{word_at, words_at, list_argument, one_at_least};
 ghost use Rattle.dt_exec.specs.Arguments.{within_limit, command_argument};
 ghost use Rattle.dt_exec.specs.Listed.{AreListed, IsTooBig};
 
 use crate::limits::{LIST_ENTRY, LIST_LIMIT};
 use crate::word_list::WordList;
-use dt_base::{ADDRESS_LIMIT, Blob, Command, Errno, NoMemory, PATH_LIMIT};
+use dt_base::{ADDRESS_LIMIT, Blob, Command, Errno, NoMemory};
 use dt_elf::are_too_many;
-use dt_space::{Space, TextErr};
+use dt_space::{Space, text_or};
 use std::alloc::Global;
-
-/// The path at an address: EFAULT where it can't be read, ENAMETOOLONG over 4,095 bytes, ENOENT where it is empty.
-pub fn path_argument(space: &Space, at: u64) -> Result<Result<Blob, Errno>, NoMemory>
-    ensures value { IfOk result (λ path. path ≡ path_argument space.now at) }
-{
-    match text_or(Errno::NameTooLong, space, at, PATH_LIMIT as usize + 1)? {
-        Ok(path) if path.is_empty() => Ok(Err(Errno::NoEnt)),
-        found => Ok(found),
-    }
-}
 
 /// The words of two lists: EFAULT where a byte of either can't be read, else E2BIG where they count more than 131,072.
 #[tactic(auto, unfolding(crate::specs::Arguments::command_argument))]
@@ -48,24 +37,6 @@ pub fn command_argument(
         return Ok(Err(Errno::TooBig));
     };
     Ok(within_limit(Command::new(one_at_least(args)?, env)))
-}
-
-// A text, or this refusal where no NUL ends it among `max` bytes.
-fn text_or(
-    too_long: Errno,
-    space: &Space,
-    at: u64,
-    max: usize,
-) -> Result<Result<Blob, Errno>, NoMemory>
-    ensures value { IfOk result (λ text. text ≡ text_or too_long (text_at space.now at max)) }
-    ensures no_nul { IfOk result (λ text. IfOk text (λ bytes. IsTrue (has_no_nul bytes))) }
-{
-    match space.read_text(at, max) {
-        Ok(text) => Ok(Ok(text)),
-        Err(TextErr::Miss(_)) => Ok(Err(Errno::Fault)),
-        Err(TextErr::Long) => Ok(Err(too_long)),
-        Err(TextErr::NoMemory) => Err(NoMemory),
-    }
 }
 
 // A word of a list, which has no limit of its own.

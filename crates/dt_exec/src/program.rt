@@ -9,14 +9,14 @@ ghost use Rattle.dt_exec.specs.Script.{HasNoNul};
 ghost use Rattle.dt_exec.specs.Program.{argv0, file_or_refused, file_by_path, program_of_interpreter};
 ghost use Rattle.dt_exec.specs.Program.{program_of_script, program_at, program_of, start_program, execve_program};
 
-use crate::arguments::{command_argument, path_argument};
+use crate::arguments::command_argument;
 use crate::lookup::lookup;
 use crate::script::{Script, is_script, script_command, script_of};
 use dt_base::{Blob, Command, Errno, NoMemory, PATH_LIMIT};
 use dt_elf::{ElfErr, StartErr, are_too_many, read_elf, start};
 use dt_host::{Host, HostErr};
 use dt_rv64::Machine;
-use dt_space::Space;
+use dt_space::{Space, path_argument};
 use dt_tree::{ROOT, Tree};
 use std::alloc::Global;
 

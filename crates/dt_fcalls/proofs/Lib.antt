@@ -1,5 +1,4 @@
 pub mod Targets
-pub mod Filled
 pub mod Drawn
 pub mod Kept
 pub mod Described

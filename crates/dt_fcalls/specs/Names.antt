@@ -15,7 +15,7 @@ use Rattle.dt_fcalls.specs.declared.modes.TheConstants.{DIR_MODES}
 use Rattle.dt_fcalls.specs.declared.places.LastLink.{LastLink}
 use Rattle.dt_fcalls.specs.declared.places.LastLink.TheVariants.{Follow, Keep, KeepWithoutSlash}
 use Rattle.dt_scene.specs.Arguments.{argument, has_only}
-use Rattle.dt_fcalls.specs.Arguments.{path_argument}
+use Rattle.dt_space.specs.Argument.{path_argument}
 use Rattle.dt_fcalls.specs.Places.{place_at, on_place, on_path}
 use Rattle.dt_scene.specs.Scene.{Scene, Row, refused, stamp, by_done}
 

@@ -22,7 +22,8 @@ use Rattle.dt_walk.specs.declared.place.Place.{Place}
 use Rattle.dt_fcalls.specs.declared.open.TheConstants.{OPEN_FLAGS}
 use Rattle.dt_fcalls.specs.declared.places.LastLink.{LastLink}
 use Rattle.dt_fcalls.specs.declared.places.LastLink.TheVariants.{Follow, Keep, KeepWithoutSlash}
-use Rattle.dt_fcalls.specs.Arguments.{path_argument, start_of}
+use Rattle.dt_space.specs.Argument.{path_argument}
+use Rattle.dt_fcalls.specs.Arguments.{start_of}
 use Rattle.dt_fcalls.specs.Names.{masked, on_text, unless_refused}
 use Rattle.dt_fcalls.specs.Places.{place_from, on_place}
 use Rattle.dt_scene.specs.Arguments.{argument, has_only}

@@ -11,7 +11,8 @@ use Rattle.dt_walk.specs.Placed.{IsPlaceIn, IsNamedWell}
 use Rattle.dt_walk.specs.Walk.{walk_of, ends_in_slash}
 use Rattle.dt_fcalls.specs.declared.places.LastLink.{LastLink}
 use Rattle.dt_fcalls.specs.declared.places.LastLink.TheVariants.{Follow, Keep, KeepWithoutSlash}
-use Rattle.dt_fcalls.specs.Arguments.{path_argument, start_of}
+use Rattle.dt_space.specs.Argument.{path_argument}
+use Rattle.dt_fcalls.specs.Arguments.{start_of}
 use Rattle.dt_scene.specs.Scene.{Scene, Row, refused}
 
 -- whether a link that is the last name of a path is followed

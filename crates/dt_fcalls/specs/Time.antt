@@ -1,13 +1,14 @@
 -- The calls on time: nanosleep(2), clock_gettime(2), clock_nanosleep(2), gettimeofday(2).
-use Rattle.std.specs.Prelude.{ℕ, ◌+◌, ◌-◌, ◌*◌, ◌/◌, ◌%◌, ◌^◌, ◌==◌, ◌&&◌, ◌||◌, Bool, not, List, ◌++◌, replicate, Result, Ok, Err, is_ok, min, max, nat_lt, nat_le, if◌then◌else◌}
+use Rattle.std.specs.Prelude.{ℕ, ◌+◌, ◌-◌, ◌*◌, ◌/◌, ◌%◌, ◌^◌, ◌==◌, ◌&&◌, ◌||◌, Bool, not, List, ◌++◌, replicate, Result, Ok, Err, min, max, nat_lt, nat_le, if◌then◌else◌}
 use Rattle.dt_base.specs.Abi.{low_word}
 use Rattle.dt_base.specs.declared.errno.Errno.{Errno}
 use Rattle.dt_base.specs.declared.errno.Errno.TheVariants.{Inval, Fault as BadAddress}
 use Rattle.dt_base.specs.Fields.{low_bytes}
 use Rattle.dt_space.specs.declared.access.Miss.{Miss}
-use Rattle.dt_space.specs.declared.access.TheConstants.{READ, WRITE}
+use Rattle.dt_space.specs.declared.access.TheConstants.{READ}
+use Rattle.dt_space.specs.Argument.{may_fill, with_filled}
 use Rattle.dt_space.specs.Space.{PageView, load, loaded_number}
-use Rattle.dt_space.specs.Write.{stored, write}
+use Rattle.dt_space.specs.Write.{stored}
 use Rattle.dt_virt.specs.declared.clock.TheConstants.{READING_TICKS, TICK_LIMIT}
 use Rattle.dt_virt.specs.Clock.{later}
 use Rattle.dt_base.specs.declared.abi.TheConstants.{CLOCK_REALTIME, CLOCK_MONOTONIC, CLOCK_REALTIME_COARSE, CLOCK_BOOTTIME, TIMER_ABSTIME}
@@ -55,14 +56,6 @@ clock_gettime_row args s =
     let clock = low_word (argument args 0) in
     if nat_lt CLOCK_BOOTTIME clock then refused s Inval
     else told s (stored s.space (argument args 1) (timespec_bytes (time_of clock (reading s))))
-
--- so many bytes may be written at an address, or it is null and nothing will be
-abbrev pub may_fill : List PageView → ℕ → ℕ → Bool
-may_fill pages address count = (address == 0) || is_ok (load pages WRITE address count)
-
--- the pages with these bytes written, unless the address is null
-abbrev pub with_filled : List PageView → ℕ → List ℕ → List PageView
-with_filled pages address bytes = if address == 0 then pages else write pages address bytes
 
 -- the wall time and a time zone of zeros come into their buffers. Only a time that is told takes some
 abbrev pub tells_time_of_day : ℕ → ℕ → Scene → Row

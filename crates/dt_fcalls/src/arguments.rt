@@ -1,43 +1,19 @@
-// The texts and paths that a call is handed, and where a path begins.
+// Where a path that a call is handed begins.
 ghost use Rattle.std.specs.Prelude.{◌≡◌, IfOk, IsTrue};
 ghost use Rattle.dt_base.specs.Path.{has_no_nul};
-ghost use Rattle.dt_fcalls.specs.Arguments.{text_argument, path_argument, dir_described, start_of};
+ghost use Rattle.dt_fcalls.specs.Arguments.{dir_described, start_of};
 ghost use Rattle.dt_host.specs.World.{IsDir};
 ghost use Rattle.dt_scene.specs.Scene.{described};
 ghost use Rattle.dt_scene.specs.Sound.{Sound, stage, scene};
 ghost use Rattle.dt_tree.specs.Table.{shape_of};
 
 use dt_base::abi::{AT_FDCWD, low_word, signed_word};
-use dt_base::{Blob, Caller, Errno, NoMemory, PATH_LIMIT, begins_with_slash};
+use dt_base::{Caller, Errno, begins_with_slash};
 use dt_fds::DescKind;
 use dt_host::Host;
 use dt_scene::Fs;
-use dt_space::{Space, TextErr};
+use dt_space::Space;
 use dt_tree::ROOT;
-
-/// The text at an address, which may be empty.
-pub(crate) fn text_argument(space: &Space, at: u64) -> Result<Result<Blob, Errno>, NoMemory>
-    ensures value { IfOk result (λ text. text ≡ text_argument space.now at) }
-    ensures no_nul { IfOk result (λ text. IfOk text (λ bytes. IsTrue (has_no_nul bytes))) }
-{
-    match space.read_text(at, PATH_LIMIT as usize + 1) {
-        Ok(text) => Ok(Ok(text)),
-        Err(TextErr::Miss(_)) => Ok(Err(Errno::Fault)),
-        Err(TextErr::Long) => Ok(Err(Errno::NameTooLong)),
-        Err(TextErr::NoMemory) => Err(NoMemory),
-    }
-}
-
-/// The path at an address, which is not empty.
-pub(crate) fn path_argument(space: &Space, at: u64) -> Result<Result<Blob, Errno>, NoMemory>
-    ensures value { IfOk result (λ path. path ≡ path_argument space.now at) }
-    ensures no_nul { IfOk result (λ path. IfOk path (λ bytes. IsTrue (has_no_nul bytes))) }
-{
-    match text_argument(space, at)? {
-        Ok(path) if path.is_empty() => Ok(Err(Errno::NoEnt)),
-        found => Ok(found),
-    }
-}
 
 // The directory that a descriptor refers to.
 #[tactic(auto, using(crate::proofs::Described::is_there))]

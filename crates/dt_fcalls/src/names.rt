@@ -12,14 +12,13 @@ mod link;
 mod rename;
 mod unlink;
 
-use crate::arguments::path_argument;
 use crate::modes::DIR_MODES;
 use crate::places::{LastLink, place_at};
 use dt_base::abi::low_word;
 use dt_base::{Answer, Blob, Caller, Errno, LINK_MODE, What};
 use dt_host::{CallErr, Host, HostErr};
 use dt_scene::Fs;
-use dt_space::Space;
+use dt_space::{Space, path_argument};
 use dt_walk::Place;
 pub use link::linkat;
 pub use rename::renameat2;

@@ -15,7 +15,7 @@ ghost use Rattle.dt_fcalls.specs.Open.{opens_at, is_full, place_of_path, opens_p
 ghost use Rattle.dt_fcalls.specs.Places.{IsFound};
 ghost use Rattle.dt_scene.specs.Sound.{Sound, Serves, Ends, stage, scene};
 
-use crate::arguments::{path_argument, start_of};
+use crate::arguments::start_of;
 use crate::names::masked;
 use crate::places::{LastLink, walk_from};
 use dt_base::abi::{
@@ -26,7 +26,7 @@ use dt_base::{Answer, Blob, Caller, Errno, MODE_LIMIT, What};
 use dt_fds::{Desc, DescKind, Spot};
 use dt_host::{CallErr, Host, HostErr};
 use dt_scene::Fs;
-use dt_space::Space;
+use dt_space::{Space, path_argument};
 use dt_tree::Tree;
 use dt_walk::Place;
 use std::alloc::Global;

@@ -9,12 +9,12 @@ ghost use Rattle.dt_walk.specs.Walk.{walk_of};
 ghost use Rattle.dt_fcalls.specs.Places.{last_of, place_at};
 ghost use Rattle.dt_scene.specs.Sound.{Sound, stage, scene};
 
-use crate::arguments::{path_argument, start_of};
+use crate::arguments::start_of;
 use dt_base::abi::AT_FDCWD;
 use dt_base::{Caller, Errno};
 use dt_host::{CallErr, Host, HostErr};
 use dt_scene::Fs;
-use dt_space::Space;
+use dt_space::{Space, path_argument};
 use dt_tree::Tree;
 use dt_walk::{Last, Place, ends_in_slash, walk};
 use std::alloc::Global;

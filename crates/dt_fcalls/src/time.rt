@@ -1,9 +1,10 @@
 //! The calls on time (nanosleep(2), clock_gettime(2), clock_nanosleep(2), gettimeofday(2)), and what they count in.
 ghost use Rattle.std.specs.Prelude.{◌≡◌, ◌≤◌, ℕ, IsTrue, length, min, max};
+ghost use Rattle.dt_space.specs.Argument.{may_fill};
 ghost use Rattle.dt_space.specs.Write.{stored};
 ghost use Rattle.dt_scene.specs.Sound.{Sound, Serves, Ends, Reaches, stage, scene};
-ghost use Rattle.dt_fcalls.specs.Time.{is_wall, first_second, time_of, timespec_bytes, timeval_bytes, may_fill};
-ghost use Rattle.dt_fcalls.specs.Time.{with_filled, time_at, ticks_in, ticks_at, is_for_sleep, told};
+ghost use Rattle.dt_fcalls.specs.Time.{is_wall, first_second, time_of, timespec_bytes, timeval_bytes, time_at};
+ghost use Rattle.dt_fcalls.specs.Time.{ticks_in, ticks_at, is_for_sleep, told};
 ghost use Rattle.dt_fcalls.specs.Time.{tells_time_of_day, clock_gettime_row, gettimeofday_row, nanosleep_row};
 ghost use Rattle.dt_fcalls.specs.Time.{clock_nanosleep_row};
 
@@ -13,7 +14,7 @@ use dt_base::abi::{
 use dt_base::{Answer, Caller, Errno, put64};
 use dt_host::{Host, HostErr};
 use dt_scene::Fs;
-use dt_space::Space;
+use dt_space::{Space, fill_unless_null, may_fill};
 use dt_virt::{Clock, TICK_LIMIT};
 
 /// The second at which logical time begins: 2000-01-01 00:00:00 UTC, in seconds since 1970.
@@ -175,29 +176,6 @@ fn tell<H: Host>(
     }
     fs.clock.read();
     Ok(Answer::Value(0))
-}
-
-// Whether so many bytes may be written at an address, or it is null.
-fn may_fill(space: &Space, at: u64, len: usize) -> bool
-    ensures { result ≡ may_fill space.now at len }
-{
-    at == 0 || space.writable(at, len as u64).is_ok()
-}
-
-// Writes bytes, unless the address is null.
-fn fill_unless_null(space: &mut Space, at: u64, bytes: &[u8])
-    requires { IsTrue (may_fill space.old at (length bytes.now)) }
-    ensures filled { space.new ≡ with_filled space.old at bytes.now }
-    ensures kept { (address count : ℕ) → IsTrue (may_fill space.old address count)
-        → IsTrue (may_fill space.new address count) }
-{
-    if at == 0 {
-        return;
-    }
-    match space.write_bytes(at, bytes) {
-        Ok(()) => {}
-        Err(_) => unreachable!(),
-    }
 }
 
 /// gettimeofday(2): tells the wall time to the microsecond and a time zone of zeros, each where the guest wants it, and

@@ -19,6 +19,7 @@ use Rattle.dt_fds.specs.declared.desc.Slot.{Slot}
 use Rattle.dt_tree.specs.Shape.{one_for}
 use Rattle.dt_fds.specs.Descriptions.{IsDesc, Descriptions, Table, table_of, refers, descriptors_of, with_slot, swept, freed}
 use Rattle.dt_fds.specs.inner.Counts.{Counts}
+use Rattle.dt_fds.proofs.Slots.{flat}
 
 abbrev pub Tables : Type 0
 Tables = FinMap nat_cmp Table
@@ -28,10 +29,6 @@ count tables k = total (sum_by (refers k)) tables
 
 abbrev pub table_in : Tables → ℕ → Table
 table_in tables p = unwrap_or (get tables p) []
-
-flat : {X : Type 0} (found : Option (Option X)) → option_flatten found ≡ unwrap_or found None
-flat None = refl
-flat (Some found) = refl
 
 there_is : {X : Type 0} (found : Option X) (d : X) → IsSome found → found ≡ Some (unwrap_or found d)
 there_is None d h = cc

@@ -11,6 +11,7 @@ use Rattle.dt_pipes.specs.Table.{has_pipe}
 use Rattle.dt_pipes.specs.Changes.{OnlyPipes}
 use Rattle.dt_fds.specs.declared.files.Files.{Files}
 use Rattle.dt_fds.specs.OpenFiles.{pipes_at}
+use Rattle.dt_base.proofs.Lists.{none-taken}
 use Rattle.dt_base.specs.declared.errno.Errno.{Errno}
 use Rattle.dt_host.specs.declared.error.CallErr.{CallErr}
 use Rattle.dt_tree.specs.Calls.{UnlessFailed}
@@ -47,13 +48,9 @@ pub if_ok : {A E P : Type 0} (r : Result A E) → P → IfOk r (λ _. P)
 if_ok (Ok value) p = p
 if_ok (Err error) p = tt
 
-none_of : (n : ℕ) → ◌≡◌ {A = List ℕ} (take n []) []
-none_of zero = refl
-none_of (suc n) = refl
-
 -- where nothing came the buffer stays
 pub nothing-came : (most : ℕ) (bytes buffer : List ℕ) → length bytes ≡ 0 → buffer ≡ take most bytes ++ drop (length (take most bytes)) buffer
-nothing-came most [] buffer none = ap (λ (xs : List ℕ). xs ++ drop (length xs) buffer) (sym (none_of most))
+nothing-came most [] buffer none = ap (λ (xs : List ℕ). xs ++ drop (length xs) buffer) (sym (none-taken most))
 nothing-came most (b ∷ bytes) buffer none = absurd (omega (arith, none))
 
 -- what came of a pipe

@@ -16,7 +16,7 @@ use Rattle.dt_fds.specs.Holding.{Holding, without, closed_below, without_marked,
 use Rattle.dt_fds.specs.declared.desc.Desc.{Desc}
 use Rattle.dt_fds.specs.Descriptions.{Descriptions, Table, table_of, slot_at, descriptors_of, lowest_free, with_slot, with_new, opened, swept, freed}
 
-flat : {X : Type 0} (found : Option (Option X)) → option_flatten found ≡ unwrap_or found None
+pub flat : {X : Type 0} (found : Option (Option X)) → option_flatten found ≡ unwrap_or found None
 flat None = refl
 flat (Some found) = refl
 

@@ -8,7 +8,7 @@ use Rattle.dt_host.specs.declared.entry.HostEntry.{HostEntry}
 use Rattle.dt_host.specs.declared.kind.NodeKind.{NodeKind}
 use Rattle.dt_host.specs.declared.kind.NodeKind.TheVariants.{File, Dir, Pipe, Link}
 use Rattle.dt_host.specs.Sink.{MovesSome}
-use Rattle.dt_host.specs.World.{World, Forest, Node, file, dir, link, node_at, with_node, with_forest, with_pids, with_pipe}
+use Rattle.dt_host.specs.World.{World, Forest, file, dir, link, node_at, with_node, with_forest, with_pids, with_pipe}
 use Rattle.dt_host.specs.World.{without_pipe, with_entry, without_entry, without_node, with_bytes, content, held}
 use Rattle.dt_host.specs.World.{IsLive, IsNameless, IsBare}
 use Rattle.dt_base.specs.Bytes.{overwritten, resized}

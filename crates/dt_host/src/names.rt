@@ -1,7 +1,7 @@
 // The entries of a directory in one order, whatever order the host gives.
-ghost use Rattle.std.specs.Prelude.{◌≡◌, map, IfOk, IsErrOf};
+ghost use Rattle.std.specs.Prelude.{◌≡◌, map, IfOk};
 ghost use Rattle.std.specs.FinMap.{entries};
-ghost use Rattle.dt_host.specs.Cause.{HasCause};
+ghost use Rattle.dt_host.specs.Asks.{Asks};
 ghost use Rattle.dt_host.specs.World.{IsDir, names_at};
 ghost use Rattle.dt_host.specs.Legal.{named};
 
@@ -14,8 +14,7 @@ pub fn sorted_names<H: Host>(host: &mut H, dir: u64) -> Result<Vec<HostEntry>, H
     requires { IsDir (H.view host.old).forest dir }
     ensures sorted { IfOk result
         (λ found. map named found.items ≡ entries (names_at (H.view host.old).forest dir)) }
-    ensures stays { H.view host.new ≡ H.view host.old }
-    ensures cause { HasCause (H.count host.old) (H.count host.new) (IsErrOf result HostErr.Failed) }
+    ensures asks { Asks H.view H.count host.old host.new result }
 {
     let mut found = host.names(dir)?;
     found.sort()?;

@@ -1,21 +1,14 @@
 -- Directories that an index lists, as a set of their paths, and the path that is the parent of another.
-use Rattle.std.proofs.Common.{◌≡◌, ℕ, suc, ◌+◌, ◌-◌, ◌≤◌, Bool, true, false, not, cond, ◌&&◌, ◌||◌, List, [], ◌∷◌, ◌++◌, length, take, reverse, Bor, refl, sym, ap, ◌∙◌, arith, length-append}
-use Rattle.std.specs.List.{list_any, before_last, suffix_len, prefix_len}
+use Rattle.std.proofs.Common.{◌≡◌, ℕ, ◌+◌, ◌-◌, Bool, true, false, not, cond, ◌||◌, List, [], ◌∷◌, ◌++◌, length, take, reverse, Bor, refl, ap, ◌∙◌, arith, length-append}
+use Rattle.std.specs.List.{before_last, suffix_len, prefix_len}
 use Rattle.std.specs.Str.{bytes_eq}
-use Rattle.std.specs.declared.cmp.Ordering.{Ordering}
-use Rattle.std.specs.Ordering.{nat_cmp, is_eq}
-use Rattle.std.specs.Cmp.Lexicographic.{slice_cmp}
 use Rattle.std.specs.BTreeSet.{BTreeSet}
 use Rattle.std.specs.BTreeSet as set
 use Rattle.std.proofs.lemmas.Map.Text.{is_eq-slice_cmp}
 use Rattle.std.proofs.Math.Seq.{take-append_seam}
 use Rattle.std.proofs.lemmas.List.{reverse-append, take-append-le}
-use Rattle.dt_image.proofs.Sorting.{bytes_eq-sym}
+use Rattle.dt_image.proofs.Sorting.{by_text, bytes_eq-sym}
 use Rattle.dt_image.specs.inner.IndexView.{has_dir}
-
--- how the set compares its paths
-abbrev pub by_bytes : Bor (List ℕ) → Bor (List ℕ) → Ordering
-by_bytes x y = slice_cmp nat_cmp x.now y.now
 
 either : (a b c : Bool) → a ≡ b → cond a true c ≡ (c || b)
 either true b true e = refl
@@ -24,7 +17,7 @@ either false b true e = refl
 either false b false e = e
 
 -- one path more
-pub has_dir-added : (old new : BTreeSet (Bor (List ℕ))) (k : Bor (List ℕ)) → set.Updates by_bytes old new k true → (path : List ℕ) → has_dir path new ≡ (has_dir path old || bytes_eq path k.now)
+pub has_dir-added : (old new : BTreeSet (Bor (List ℕ))) (k : Bor (List ℕ)) → set.Updates by_text old new k true → (path : List ℕ) → has_dir path new ≡ (has_dir path old || bytes_eq path k.now)
 has_dir-added old new k updates path =
     let q : Bor (List ℕ) = record { ref_ptr = (0, 0); now = path } in
     updates.0 q ∙ either _ _ _ (is_eq-slice_cmp k.now path ∙ bytes_eq-sym k.now path)

@@ -1,8 +1,8 @@
 -- The line of a node, by what is told of it.
-use Rattle.std.proofs.Common.{◌≡◌, ℕ, Bool, true, false, List, [], length, Option, Some, None, is_some, refl, sym, ap, ◌∙◌}
+use Rattle.std.proofs.Common.{◌≡◌, ℕ, true, false, List, [], length, Option, Some, None, is_some, refl, sym, ap, ◌∙◌}
 use Rattle.std.specs.Prelude.{IsSome, option_map, option_and_then, unwrap_or}
 use Rattle.std.specs.FinMap.{get}
-use Rattle.dt_host.specs.World.{Forest, Node, file, dir, link, node_at, file_at, file_bytes, dir_names, link_target, target_at, content, IsFile, IsLive}
+use Rattle.dt_host.specs.World.{Node, file, dir, link, node_at, file_bytes, dir_names, link_target, target_at, content, IsFile}
 use Rattle.dt_tree.specs.declared.meta.Meta.{Meta}
 use Rattle.dt_tree.specs.FileTree.{Attributes, FileTree}
 use Rattle.dt_tree.specs.Listing.{type_of}

@@ -16,6 +16,7 @@ use Rattle.std.proofs.lemmas.List.Folds.{list_any-append}
 use Rattle.std.proofs.lemmas.List.Sums.{fold_push}
 use Rattle.std.proofs.lemmas.Slice.Eq.{bytes_eq-Decides}
 use Rattle.std.proofs.lemmas.Map.Text.{is_eq-slice_cmp}
+use Rattle.dt_host.proofs.Conjuncts.{either-last}
 use Rattle.dt_image.specs.declared.index.EntryRef.{EntryRef}
 use Rattle.dt_image.specs.declared.index.SourceRef.{SourceRef}
 use Rattle.dt_image.specs.declared.index.SourceRef.TheVariants.{File}
@@ -23,7 +24,7 @@ use Rattle.dt_image.specs.Index.{IndexEntry}
 use Rattle.dt_image.specs.inner.IndexView.{entry_in, entry_at, keyed, path_cmp}
 use Rattle.dt_image.specs.ImageOf.{has_path, has_twice, placed, sorted}
 
--- how the code's map compares its keys
+-- how the code's map and set compare paths
 abbrev pub by_text : Bor (List ℕ) → Bor (List ℕ) → Ordering
 by_text x y = slice_cmp nat_cmp x.now y.now
 
@@ -173,15 +174,11 @@ pub twice_more : (files : List EntryRef) (i : ℕ) (d : EntryRef) → i < length
 twice_more files i d within =
     ap has_twice (map_more entry_in files i d within) ∙ has_twice_push (map entry_in (take i files)) (entry_in (get_or files i d))
 
-or_both : (a b : Bool) → b ≡ true → (a || b) ≡ true
-or_both true b e = refl
-or_both false b e = e
-
 -- a path that the map has already stands twice
 pub twice_found : (files : List EntryRef) (i : ℕ) (d : EntryRef) (es : List (Bor (List ℕ) × SourceRef)) (v : SourceRef) → i < length files → map keyed es ≡ sorted (map entry_in (take i files))
     → Some v ≡ lookup (is_at (by_text (get_or files i d).path)) es → has_twice (map entry_in files) ≡ true
 twice_found files i d es v within order found =
-    let so_far = twice_more files i d within ∙ or_both (has_twice (map entry_in (take i files))) _ (sym (seen_before files i d es order) ∙ ap is_some (sym found)) in
+    let so_far = twice_more files i d within ∙ either-last (has_twice (map entry_in (take i files))) _ (sym (seen_before files i d es order) ∙ ap is_some (sym found)) in
     ap has_twice (ap (map entry_in) (sym (take-append-drop (i + 1) files)) ∙ map-append entry_in (take (i + 1) files) (drop (i + 1) files))
     ∙ has_twice-append (map entry_in (take (i + 1) files)) (map entry_in (drop (i + 1) files)) so_far
 

@@ -2,6 +2,7 @@
 use Rattle.std.proofs.Common.{arith, ◌≡◌, ℕ, zero, suc, ◌≤◌, ◌==◌, ◌++◌, false, List, [], ◌∷◌, length, take, drop, Option, None, Some, Result, Ok, Err, refl, sym, ap, subst, ◌∙◌}
 use Rattle.std.specs.Prelude.{Bool, IfOk, IfSome, IsOk, min, option_map, unwrap_or, if◌then◌else◌}
 use Rattle.std.proofs.lemmas.List.{take_min, length-take, drop_all, append-nil}
+use Rattle.dt_base.proofs.Lists.{none-taken}
 use Rattle.dt_base.specs.declared.answer.Answer.{Answer}
 use Rattle.dt_base.specs.declared.caller.Caller.{Caller}
 use Rattle.dt_base.specs.declared.errno.Errno.{Errno}
@@ -118,10 +119,6 @@ pub whole-buffer : (came before after : List ℕ) → length before ≡ length c
 whole-buffer came before after same is = is ∙ ap (λ rest. came ++ rest) (drop_all (length came) before (omega (arith, same))) ∙ append-nil came
 
 -- where a read is refused nothing comes
-none-taken : (n : ℕ) → ◌≡◌ {A = List ℕ} (take n []) []
-none-taken zero = refl
-none-taken (suc n) = refl
-
 refused-of : (h : Holding) (q : ℕ) (nonblock : Bool) (most n : ℕ) (bytes : List ℕ) (errno : Errno) (next : Holding) → read_of h q nonblock most bytes ≡ record { answer = Err errno; next = next } → take n bytes ≡ []
 refused-of h q nonblock most n [] errno next is = none-taken n
 refused-of h q nonblock most n (b ∷ bytes) errno next is =

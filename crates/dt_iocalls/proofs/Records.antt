@@ -4,12 +4,10 @@ use Rattle.std.proofs.Math.Seq.{drop-cons}
 use Rattle.std.proofs.lemmas.Bool.Decides.{nat_tests}
 use Rattle.std.proofs.lemmas.List.{drop_all, take_all, take_more, take-replicate}
 use Rattle.std.specs.Prelude.{nat_le}
+use Rattle.dt_base.proofs.Lists.{drop-at}
 use Rattle.dt_base.specs.Fields.{low_bytes}
 use Rattle.dt_tree.specs.declared.list.Listed.{Listed}
 use Rattle.dt_iocalls.specs.Entries.{record_len, dirent, dirents, fitting}
-
-drop-at : {X : Type 0} (xs : List X) (i : ℕ) (x d : X) → i < length xs → x ≡ get_or xs i d → drop i xs ≡ x ∷ drop (i + 1) xs
-drop-at xs i x d lt is = drop-cons xs i d lt ∙ rw (add-one, ← is) refl
 
 dirents-cons : (entry : Listed) (rest : List Listed) → dirents (entry ∷ rest) ≡ dirent entry ++ dirents rest
 unfolding dirents

@@ -16,7 +16,7 @@ use Rattle.std.specs.FinMap.{entries, empty, get, insert, remove, same_map, get-
 use Rattle.std.specs.FinMap.Entries.{find, put, by_order}
 use Rattle.std.proofs.lemmas.Bool.Decides.{nat_tests}
 use Rattle.dt_host.specs.Entries.{map_of}
-use Rattle.dt_host.proofs.Maps.{names_tie, at_remove}
+use Rattle.dt_host.proofs.Maps.{names_tie, at_remove, number_tie}
 use Rattle.dt_host.proofs.MapOf.{get-map_of}
 use Rattle.dt_memhost.specs.Order.{Order, without}
 use Rattle.dt_memhost.specs.inner.Dir.{order_of, names_of}
@@ -28,9 +28,6 @@ alike_pushed f g xs ys x y prefix last =
     ∙ ap (λ zs. zs ++ f x ∷ []) prefix
     ∙ ap (λ z. map g ys ++ z ∷ []) last
     ∙ sym (map-append g ys (y ∷ []))
-
-number_tie : (x y : ℕ) → nat_eq x y ≡ is_eq (nat_cmp x y)
-number_tie x y = grind (arith, nat_tests)
 
 then_tie : (r s : Ordering) → is_eq (ordering_then r s) ≡ (is_eq r && is_eq s)
 then_tie Less s = refl

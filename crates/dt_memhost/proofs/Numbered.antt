@@ -10,6 +10,7 @@ use Rattle.std.specs.BTreeMap as tree
 use Rattle.std.specs.BTreeMap.{BTreeMap, btree_map_len}
 use Rattle.std.specs.FinMap.{get, contains_key}
 use Rattle.std.proofs.lemmas.Map.Steps.{le-length_from_below}
+use Rattle.dt_host.proofs.Conjuncts.{either-last}
 use Rattle.dt_memhost.specs.declared.node.MemNode.{MemNode}
 use Rattle.dt_memhost.specs.declared.node.MemNode.TheVariants.{File, Dir, Link, Pipe}
 use Rattle.dt_memhost.specs.inner.Node.{node_of, nodes_of, node_in, held_of, pipes_of}
@@ -41,10 +42,6 @@ pub none_if : {X : Type 0} (found : Option X) → is_some found ≡ false → fo
 none_if None e = refl
 none_if (Some x) e = cc
 
-or_true : (a b : Bool) → b ≡ true → (a || b) ≡ true
-or_true true b e = refl
-or_true false b e = e
-
 -- a number found among entries is there, also counted from another start
 found_past : {X : Type 0} (start q : ℕ) (entries : List (ℕ × X)) → is_some (lookup (λ k. is_eq (nat_cmp (start + q) k)) entries) ≡ true → list_any (eqb q) (map (λ e. e.0 - start) entries) ≡ true
 found_past start q [] h = cc
@@ -53,7 +50,7 @@ found_past start q (e ∷ entries) h =
       | true ↦ λ tie some.
           let is : start + q ≡ e.0 = tied _ _ tie in
           ap (λ b. b || list_any (eqb q) (map (λ e. e.0 - start) entries)) (eq-eqb q (e.0 - start) (omega arith))
-      | false ↦ λ tie some. or_true _ _ (found_past start q entries some)
+      | false ↦ λ tie some. either-last _ _ (found_past start q entries some)
     ] refl h
   where
     tied : (x y : ℕ) → is_eq (nat_cmp x y) ≡ true → x ≡ y

@@ -2,23 +2,19 @@
 use Rattle.std.proofs.Common.{arith, ◌≡◌, ◌≢◌, false, ℕ, Option, Some, None, nat_eq, refl, sym, ap, ◌∙◌}
 use Rattle.std.proofs.lemmas.Bool.Decides.{nat_tests}
 use Rattle.std.specs.Prelude.{option_map}
-use Rattle.std.specs.Ordering.{nat_cmp, is_eq}
+use Rattle.std.specs.Ordering.{nat_cmp}
 use Rattle.std.specs.Cmp.{nat_cmp_total}
 use Rattle.std.specs.HashMap as hash
 use Rattle.std.specs.HashMap.{HashMap}
 use Rattle.std.specs.Map.{lookup}
 use Rattle.std.specs.FinMap.{get, insert, remove, same_map, nat_cmp-IsAntisymmetric}
 use Rattle.dt_host.specs.Entries.{map_of}
-use Rattle.dt_host.proofs.Maps.{at_insert, at_remove}
+use Rattle.dt_host.proofs.Maps.{at_insert, at_remove, number_tie}
 use Rattle.dt_host.proofs.MapOf.{get-map_of}
 
 same_found : {X : Type 0} (found : Option X) → option_map (λ x. x) found ≡ found
 same_found None = refl
 same_found (Some x) = refl
-
--- numbers are equal exactly where they tie
-pub number_tie : (x y : ℕ) → nat_eq x y ≡ is_eq (nat_cmp x y)
-number_tie x y = grind (arith, nat_tests)
 
 -- a number that isn't another isn't equal to it
 pub unequal : (n q : ℕ) → q ≢ n → nat_eq n q ≡ false

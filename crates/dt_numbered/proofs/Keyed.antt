@@ -1,5 +1,5 @@
 -- The keys of a table by number, once sorted, as a finite map has them.
-use Rattle.std.proofs.Common.{arith, ◌≡◌, ◌&&◌, cond, true, false, Bool, ℕ, List, [], ◌∷◌, length, map, Some, None, nat_eq, refl, sym, ap, subst, ◌∙◌}
+use Rattle.std.proofs.Common.{arith, ◌≡◌, cond, false, Bool, ℕ, List, [], ◌∷◌, length, Some, None, nat_eq, refl, sym, ap, subst, ◌∙◌}
 use Rattle.std.proofs.lemmas.List.{map-id}
 use Rattle.std.proofs.lemmas.List.Sorted.{IsPermutation-refl, IsPermutation-cons, IsPermutation-trans, IsPermutation-middle, IsPermutation-map, sum_by-IsPermutation}
 use Rattle.std.proofs.lemmas.List.Sums.{sum_by-cons}
@@ -16,20 +16,14 @@ use Rattle.std.specs.HashMap.{HashMap}
 use Rattle.std.specs.FinMap.{keys, entries, entries_sorted, empty, from_entries, entries-insert, get-entries, get-from_entries, len-entries, len-empty, nat_cmp-IsAntisymmetric}
 use Rattle.std.specs.FinMap.Entries.{find, put, by_order, below_all, is_sorted}
 use Rattle.dt_host.specs.Entries.{map_of}
+use Rattle.dt_host.proofs.Conjuncts.{first, second}
+use Rattle.dt_host.proofs.Sorted.{same_entries}
 use Rattle.dt_host.proofs.InOrder.{Rises, same_rising, rises_from_sort}
-use Rattle.dt_numbered.proofs.Kept.{number_tie}
+use Rattle.dt_host.proofs.Maps.{number_tie}
 
 none_left : {A : Type 0} (xs : List A) → length xs ≡ 0 → xs ≡ []
 none_left [] e = refl
 none_left (x ∷ xs) e = absurd (omega arith)
-
-first : (a b : Bool) → T (a && b) → T a
-first true b p = tt
-first false b p = absurd p
-
-second : (a b : Bool) → T (a && b) → T b
-second true b p = p
-second false b p = absurd p
 
 -- 1 where it holds
 abbrev one_if : Bool → ℕ
@@ -52,10 +46,6 @@ module _ {X : Type 0} where
   rising : (es : List (ℕ × X)) → T (is_sorted nat_cmp es) → Rises nat_cmp (keys_of es)
   rising [] h = tt
   rising (e ∷ es) h = (none_above e.0 es (first _ _ h), rising es (second _ _ h))
-
-  same_entries : (es : List (ℕ × X)) → map (λ e. (e.0, e.1)) es ≡ es
-  same_entries [] = refl
-  same_entries (e ∷ es) = ap (λ xs. e ∷ xs) (same_entries es)
 
   -- an entry whose number is new is one entry more
   put_new : (n : ℕ) (x : X) (es : List (ℕ × X)) → find nat_cmp n es ≡ None → IsPermutation (put nat_cmp n x es) ((n, x) ∷ es)

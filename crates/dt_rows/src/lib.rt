@@ -6,4 +6,6 @@ mod came;
 #[cfg(test)]
 mod images;
 #[cfg(test)]
+mod twice;
+#[cfg(test)]
 mod words;

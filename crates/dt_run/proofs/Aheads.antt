@@ -7,11 +7,11 @@ use Rattle.dt_host.specs.Values.{map_values}
 use Rattle.dt_host.proofs.Maps.{put_back}
 use Rattle.dt_host.proofs.Valued.{get-map_values, map_values-insert, map_values-remove}
 use Rattle.dt_rv64.specs.declared.machine.Machine.{Machine}
-use Rattle.dt_calls.specs.Settle.{next_after}
+use Rattle.dt_calls.specs.Settle.{next_after, with_own}
 use Rattle.dt_run.specs.declared.phase.Phase.{Phase}
 use Rattle.dt_run.specs.declared.phase.Phase.TheVariants.{Owes, Ran, Waits}
 use Rattle.dt_run.specs.Work.{Work, Works, owing, ran_in, with_segment}
-use Rattle.dt_run.specs.Turn.{State, Act, act, acted, changed, all_ended, with_own, with_child, stuck, taken, headed, first_of, turn}
+use Rattle.dt_run.specs.Turn.{State, Act, act, acted, changed, all_ended, with_child, stuck, taken, headed, first_of, turn}
 use Rattle.dt_run.specs.Ahead.{ahead, ahead_of, ran, ran_where, TurnAhead, RanAhead}
 
 ran_in-again : (w : Work) (phase : Phase) → w.phase ≡ phase → with_segment (ran_in w phase) ≡ ran_in w phase

@@ -6,9 +6,9 @@ use Rattle.std.specs.Cmp.{nat_cmp_total}
 use Rattle.std.specs.FinMap.{find, get, insert, empty, remove, get-insert, same_map, nat_cmp-IsAntisymmetric}
 use Rattle.dt_host.proofs.Maps.{at_insert, at_remove, get-remove_same, get-remove_other, get-insert_same, get-insert_other}
 use Rattle.dt_rv64.specs.declared.machine.Machine.{Machine}
-use Rattle.dt_calls.specs.Settle.{next_after}
+use Rattle.dt_calls.specs.Settle.{next_after, with_own}
 use Rattle.dt_run.specs.Work.{Work, Works, owing, with_segment}
-use Rattle.dt_run.specs.Turn.{State, Act, act, changed, all_ended, with_own, with_child, taken, headed, first_of, turn}
+use Rattle.dt_run.specs.Turn.{State, Act, act, changed, all_ended, with_child, taken, headed, first_of, turn}
 use Rattle.dt_run.specs.Ahead.{Away, put_all, home, home_after, IsAway, HasHead, TurnAway}
 
 -- the first of two that is there

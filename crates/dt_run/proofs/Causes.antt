@@ -1,22 +1,11 @@
 -- Why a call failed, where another call's error is passed on.
-use Rattle.std.proofs.Common.{arith, ◌≡◌, ◌≤◌, ℕ, Result, Ok, Err, refl}
-use Rattle.std.specs.Prelude.{IsErrAnd}
-use Rattle.dt_host.specs.Cause.{Rose}
+use Rattle.std.proofs.Common.{◌≡◌, refl}
 use Rattle.dt_host.specs.declared.error.HostErr.{HostErr}
 use Rattle.dt_host.specs.declared.error.HostErr.TheVariants as host_err
 use Rattle.dt_host.specs.declared.error.SinkErr.{SinkErr}
 use Rattle.dt_host.specs.declared.error.SinkErr.TheVariants as sink_err
 use Rattle.dt_run.specs.declared.error.RunErr.TheVariants.{Host, Sink}
 use Rattle.dt_run.specs.inner.Errors.{of_host, of_sink}
-
--- an error that was answered is the one that was passed on
-pub passed_on : {A E : Type 0} (r : Result A E) (e x : E) → IsErrAnd r (λ y. y ≡ e) → r ≡ Err x → e ≡ x
-passed_on (Ok a) e x from is = absurd from
-passed_on (Err y) e x from is = cc
-
--- a rise after a count that is no less is a rise
-pub rose-from : (old mid new : ℕ) → old ≤ mid → Rose mid new → Rose old new
-rose-from old mid new later rose = omega (arith, later, rose)
 
 -- a host fault is the host's, and an output fault is none
 pub of_host-failed : (e : HostErr) → of_host e ≡ Host → e ≡ host_err.Failed

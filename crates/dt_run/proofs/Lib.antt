@@ -14,3 +14,4 @@ pub mod Wanting
 pub mod Failing
 pub mod Lines
 pub mod Causes
+pub mod Ran

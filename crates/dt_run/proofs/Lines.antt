@@ -35,7 +35,7 @@ refusal_line f status told words out out_now old new before now by fails three l
     record { refusal = r.refusal; first = r.first; line = subst (λ found. AddsLine (failure_line found) old new before now) r.is line }
 
 -- a run that was completed has no line
-run_line : (status : ℕ) → IsTrue (is_run_status status) → status_line status ≡ []
+pub run_line : (status : ℕ) → IsTrue (is_run_status status) → status_line status ≡ []
 run_line status is =
     elim (cases_eq status 0) [
       | inl e ↦ rw e

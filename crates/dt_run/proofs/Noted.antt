@@ -14,10 +14,10 @@ use Rattle.dt_calls.specs.declared.container.Served.TheVariants.{Done, Child, La
 use Rattle.dt_calls.specs.Container.{Shared, Machines}
 use Rattle.dt_calls.specs.Effect.{Effect}
 use Rattle.dt_calls.specs.Settle as calls
-use Rattle.dt_calls.specs.Settle.{Settled, settled_by, settle, serve_machine, machines_after}
+use Rattle.dt_calls.specs.Settle.{Settled, settled_by, settle, serve_machine, machines_after, with_own}
 use Rattle.dt_run.specs.declared.phase.Phase.{Phase}
 use Rattle.dt_run.specs.Work.{Works}
-use Rattle.dt_run.specs.Turn.{with_own, with_child, own_after, phase_after}
+use Rattle.dt_run.specs.Turn.{with_child, own_after, phase_after}
 use Rattle.dt_run.specs.inner.InCode.{Phases, phase_in, works_in, noted}
 use Rattle.dt_run.proofs.Works.{Only, works_in-insert, works_in-remove, works_in-empty}
 

@@ -1,18 +1,13 @@
 -- What is wanted, by the words' request and the image that was read.
-use Rattle.std.proofs.Common.{◌≡◌, ℕ, Bool, true, false, cond, List, Option, Some, None, Result, Ok, Err, refl, sym, ap, subst, eqb, inl, inr}
-use Rattle.std.specs.Prelude.{IsTrue, IsSome, IfSome, IfErr, IsErrAnd}
+use Rattle.std.proofs.Common.{◌≡◌, ℕ, List, Option, Some, None, Result, Ok, Err, refl, sym, ap, subst, inl, inr}
+use Rattle.std.specs.Prelude.{IsSome, IfSome, IfErr, IsErrAnd}
 use Rattle.dt_base.specs.declared.image.Entry.{Entry}
-use Rattle.dt_base.specs.declared.event.End.{End}
-use Rattle.dt_base.specs.declared.event.End.TheVariants.{Code, Signal}
 use Rattle.dt_base.specs.declared.refusal.Refusal.{Refusal}
 use Rattle.dt_base.specs.declared.refusal.ImageErr.{ImageErr}
 use Rattle.dt_base.specs.declared.refusal.ImageErr.TheVariants.{Refused as ImageRefused, Store as StoreFailed, NoMemory as NoImageMemory}
 use Rattle.dt_base.specs.Image.{IsImage}
 use Rattle.dt_host.specs.Store.{Files}
-use Rattle.dt_host.specs.World.{World}
 use Rattle.dt_options.specs.Options.{Request, request_of}
-use Rattle.dt_procs.specs.declared.member.TheConstants.{FIRST_PID}
-use Rattle.dt_procs.specs.Members.{end_of}
 use Rattle.dt_options.specs.declared.options.UsageErr.{UsageErr}
 use Rattle.dt_options.specs.declared.options.UsageErr.TheVariants.{Refused as WordsRefused, NoMemory as NoWordsMemory}
 use Rattle.dt_image.specs.ImageOf.{image_of}
@@ -20,25 +15,11 @@ use Rattle.dt_run.specs.declared.error.RunErr.{RunErr}
 use Rattle.dt_run.specs.declared.error.RunErr.TheVariants.{Host as HostFailed, Sink as SinkFailed, NoMemory as NoRunMemory}
 use Rattle.dt_run.specs.declared.failure.Failure.{Failure}
 use Rattle.dt_run.specs.declared.failure.Failure.TheVariants.{Usage, Image}
-use Rattle.dt_run.specs.Run.{Run, status_by}
+use Rattle.dt_run.specs.Run.{Run}
 use Rattle.dt_run.specs.Wanted.{run_on, run_or_refusal, wanted, wanted_by}
 use Rattle.dt_run.specs.SomeRun.{SomeRun, AddsReportPart}
-use Rattle.dt_run.specs.Statuses.{is_run_status, Completes}
 use Rattle.dt_run.specs.inner.Fails.{Fails}
 use Rattle.dt_run.specs.inner.Failures.{of_usage, of_image, of_run}
-
-code_status : (b : Bool) → IsTrue (is_run_status (cond b 0 1))
-code_status true = refl
-code_status false = refl
-
-status_by-end : (end : Option End) → IsTrue (is_run_status (status_by end))
-status_by-end None = refl
-status_by-end (Some (Code code)) = code_status (eqb code 0)
-status_by-end (Some (Signal signal)) = refl
-
--- the status of a run is 0, 1 or 10
-pub completes-status : (run : Run) (status : ℕ) (old new : Option (List ℕ)) (w : World) → Completes run status old new w → IsTrue (is_run_status status)
-completes-status run status old new w c = subst (λ s. IsTrue (is_run_status s)) (sym c.status) (status_by-end (end_of run.last.members FIRST_PID))
 
 -- what a request wants, for words that make it
 wanted-request : (told : Option Files) (words : List (List ℕ)) (request : Option Request) → request_of words ≡ request → wanted told words ≡ wanted_by request told

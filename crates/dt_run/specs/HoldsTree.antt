@@ -24,9 +24,13 @@ what_of (link target) = Link target
 abbrev pub shown_at : Forest → List (List ℕ) → Option What
 shown_at v names = option_map what_of (option_and_then (node_at v) (reached v names))
 
--- the same paths lead to something, and it shows the same; and two paths lead to one number at the host exactly where
--- they lead to one inode
-pub record HoldsTree (w : World) (t : FileTree) : Type 0 where
-  pub shown : (names : List (List ℕ)) → shown_at w.forest names ≡ shown_at t.shape names
-  pub together : (a b : List (List ℕ)) → reached w.forest a ≡ reached w.forest b → reached t.shape a ≡ reached t.shape b
-  pub apart : (a b : List (List ℕ)) → reached t.shape a ≡ reached t.shape b → reached w.forest a ≡ reached w.forest b
+-- the same paths lead to something in both, and it shows the same; and two paths lead to one node of the one exactly where
+-- they lead to one node of the other
+pub record HoldSame (v w : Forest) : Type 0 where
+  pub shown : (names : List (List ℕ)) → shown_at v names ≡ shown_at w names
+  pub together : (a b : List (List ℕ)) → reached v a ≡ reached v b → reached w a ≡ reached w b
+  pub apart : (a b : List (List ℕ)) → reached w a ≡ reached w b → reached v a ≡ reached v b
+
+-- the host holds what the tree has, its nodes under numbers for which the tree has inodes
+abbrev pub HoldsTree : World → FileTree → Type 0
+HoldsTree w t = HoldSame w.forest t.shape

@@ -1,6 +1,6 @@
 -- One turn of a run: the head of the queue.
 use Rattle.std.specs.Prelude.{ℕ, ◌-◌, List, [], ◌∷◌, Bool, true, false, Option, Some, None, option_map, nat_le, if◌then◌else◌}
-use Rattle.std.specs.FinMap.{empty, get, insert, remove}
+use Rattle.std.specs.FinMap.{empty, get, insert}
 use Rattle.dt_base.specs.declared.event.Event.{Event}
 use Rattle.dt_base.specs.declared.event.Verdict.{Verdict}
 use Rattle.dt_base.specs.declared.event.Verdict.TheVariants as verdict
@@ -8,13 +8,13 @@ use Rattle.dt_rv64.specs.declared.machine.Machine.{Machine}
 use Rattle.dt_calls.specs.declared.container.Served.{Served}
 use Rattle.dt_calls.specs.declared.container.Served.TheVariants.{Done, Child, LastChild, Blocked, Moved, Ended, Unsupported}
 use Rattle.dt_calls.specs.Container.{Shared}
-use Rattle.dt_calls.specs.Settle.{Settled, serve_machine, next_after}
+use Rattle.dt_calls.specs.Settle.{Settled, serve_machine, next_after, with_own}
 use Rattle.dt_run.specs.declared.phase.Phase.{Phase}
 use Rattle.dt_run.specs.declared.phase.Phase.TheVariants.{Owes, Waits}
 use Rattle.dt_run.specs.Work.{Work, Works, owing, with_segment, cost_of, stop_of}
 use Rattle.dt_run.specs.Queue.{Queue, told, queue_after, verdict_by}
 
--- a run between two turns: what processes share, each one's own part, the queue, and the pid that the next child gets
+-- a run between two turns: what processes share, each one's work, the queue, and the pid that the next child gets
 pub record State : Type 0 where
   pub shared : Shared
   pub works : Works
@@ -27,8 +27,8 @@ pub record Turn : Type 0 where
   pub events : List Event
   pub verdict : Option Verdict
 
--- what a turn of one process comes to: what is shared and the queue then, its own part, or none where it has ended, a
--- child's machine, what shows, and the verdict, where there is one. The others' own parts have no part in it
+-- what a turn of one process comes to: what is shared and the queue then, its work, or none where it has ended, a
+-- child's machine, what shows, and the verdict, where there is one. The others' work has no part in it
 pub record Act : Type 0 where
   pub shared : Shared
   pub queue : Queue
@@ -47,7 +47,7 @@ phase_after phase Moved = Waits
 phase_after phase Ended = phase
 phase_after phase (Unsupported number) = phase
 
--- its own part then, or none where it has ended
+-- its work then, or none where it has ended
 abbrev pub own_after : Phase → Served → Option Machine → Option Work
 own_after phase served machine = option_map (λ m. record { machine = m; phase = phase_after phase served }) machine
 
@@ -88,11 +88,6 @@ all_ended (Some verdict.Budget) = false
 all_ended (Some (verdict.Unsupported vpid number)) = false
 all_ended (Some (verdict.NoStart errno)) = false
 
--- with a process's own part, or without where it has ended
-abbrev pub with_own : Works → ℕ → Option Work → Works
-with_own works p None = remove works p
-with_own works p (Some w) = insert works p w
-
 -- with a child, which owes a segment
 abbrev pub with_child : Works → ℕ → Option Machine → Works
 with_child works next None = works
@@ -115,11 +110,11 @@ acted s p a = record {
   verdict = a.verdict;
 }
 
--- nobody stands in the queue, or the first of it has no part at home; no run comes here
+-- nobody stands in the queue, or the first of it has no work at home; no run comes here
 abbrev pub stuck : State → Turn
 stuck s = record { next = s; events = []; verdict = Some verdict.Deadlock }
 
--- the turn of a process whose own part is at home: the segment that it owes is run, its cost is paid, and its stop is
+-- the turn of a process whose work is at home: the segment that it owes is run, its cost is paid, and its stop is
 -- served
 abbrev pub taken : State → ℕ → Option Work → Turn
 taken s p None = stuck s

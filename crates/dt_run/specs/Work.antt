@@ -1,4 +1,4 @@
--- A live process's own part, which nothing but its own turns sees.
+-- A live process's work, which nothing but its own turns sees.
 use Rattle.std.specs.Prelude.{ℕ, max}
 use Rattle.std.specs.Ordering.{nat_cmp}
 use Rattle.std.specs.FinMap.{FinMap}

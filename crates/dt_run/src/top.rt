@@ -116,7 +116,6 @@ fn run_words<S: Store, H: Host + Send, O: Sink + Send, G: Gate + Sync>(
     requires { IsEmptyStart (H.view host.old) }
     ensures completed { IfOk result (λ status. SomeRun (S.told store.old) (map string_bytes words.now)
         (λ run. Completes run status (O.told out.old) (O.told out.new) (H.view host.new))) }
-    ensures statuses { IfOk result (λ status. IsTrue (is_run_status status)) }
     ensures failed { IfErr result
         (λ f. Fails f (S.told store.old) (map string_bytes words.now) (O.told out.old) (O.told out.new)) }
     ensures store { HasCause (S.count store.old) (S.count store.new) (IsErrOf result Failure.Store) }

@@ -21,7 +21,7 @@ use Rattle.dt_host.specs.World.{Pipes}
 use Rattle.dt_fds.specs.Holding.{Outcome}
 use Rattle.dt_base.specs.declared.errno.Errno.{Errno}
 use Rattle.dt_fds.proofs.Backing.{named}
-use Rattle.dt_host.specs.Cause.{Rose}
+use Rattle.dt_host.proofs.Asking.{cause-from}
 use Rattle.dt_host.specs.Total.{weight}
 use Rattle.dt_host.specs.World.{World, Forest, IsFile, IsDir, OnlyForest}
 use Rattle.dt_host.specs.declared.error.HostErr.{HostErr}
@@ -148,11 +148,8 @@ reaches_after defined fs w v caller space new result before mid now stays later 
   sound = s.sound;
   others = subst (λ x. OnOk result (KeepsOthers (scene (stage fs x caller space)) (scene new))) stays s.others;
   rest = s.rest ∙ ap (λ (x : World). x.pids) stays;
-  cause = record { later = omega arith; rose = λ failed. rose_from (s.cause.rose failed) };
+  cause = cause-from before mid now later s.cause;
 }
-  where
-    rose_from : Rose mid now → Rose before now
-    rose_from rose = omega arith
 
 -- a call changed tree and time, and left what is held
 pub reaches_kept : (defined : Row) (old : Fs) (tree : Table) (clock : ℕ) (w v : World) (caller : Caller) (space : List PageView) (answer : Answer) (before now : ℕ)
@@ -226,7 +223,7 @@ reaches_next defined rest old mid new result before between now first only later
   sound = s.sound;
   others = both_of result s.others;
   rest = s.rest ∙ only;
-  cause = record { later = omega (arith, s.cause.later); rose = λ failed. rose_from (s.cause.rose failed) };
+  cause = cause-from before between now later s.cause;
 }
   where
     by_result : (result : Result Answer HostErr) → IfOk result (λ answer. rest ≡ record { next = scene new; answer = answer }) → IfOk result (λ answer. defined ≡ record { next = scene new; answer = answer })
@@ -236,9 +233,6 @@ reaches_next defined rest old mid new result before between now first only later
     both_of : (result : Result Answer HostErr) → OnOk result (KeepsOthers (scene mid) (scene new)) → OnOk result (KeepsOthers (scene old) (scene new))
     both_of (Ok answer) second = others_both (scene old) (scene mid) (scene new) first second
     both_of (Err error) second = second
-
-    rose_from : Rose between now → Rose before now
-    rose_from rose = omega arith
 
 -- what is reached is defined in other words
 pub reaches_same : (defined other : Row) (old new : Stage) (result : Result Answer HostErr) (before now : ℕ) → defined ≡ other → Reaches other old new result before now → Reaches defined old new result before now

@@ -15,37 +15,35 @@ use Rattle.dt_space.specs.Pages.{pages_from, EndsBelow}
 use Rattle.dt_space.specs.Ranges.{is_in, map_refusal, mapped}
 use Rattle.dt_space.specs.inner.Index.{number_at}
 use Rattle.dt_space.specs.inner.Gap.{IsLower, IsGap}
+use Rattle.dt_space.proofs.Pages.{no_page}
 use Rattle.dt_space.proofs.Rights.{granted-granted}
 use Rattle.dt_space.proofs.Spaces.{BeginsAt, IsSpace-take, IsSpace-drop, IsSpace-append}
 use Rattle.dt_space.proofs.Following.{IsSpace-more, EndsBelow-more, length-pages_from}
 
-abbrev none : PageView
-none = record { number = 0; rights = 0; bytes = [] }
-
 -- the number of a page that was read
 pub number-read : (pages : List PageView) (index number : ℕ) (page : PageView) → index < length pages → page ≡ get_or pages index page → number ≡ page.number → number_at pages index ≡ number
-number-read pages index number page lt read same = ap (λ (p : PageView). p.number) (get_or_default pages index none page lt ∙ sym read) ∙ sym same
+number-read pages index number page lt read same = ap (λ (p : PageView). p.number) (get_or_default pages index no_page page lt ∙ sym read) ∙ sym same
 
 -- the numbers don't fall
 pub numbers_rise : (pages : List PageView) → IsSpace pages → IsNonDecreasingBy (λ (page : PageView). page.number) pages
-numbers_rise pages space = IsNonDecreasingBy-from_default (λ (page : PageView). page.number) pages none (λ i j le lt. grind (arith, space.rising i j none, λ (same : i ≡ j). ap (number_at pages) same))
+numbers_rise pages space = IsNonDecreasingBy-from_default (λ (page : PageView). page.number) pages no_page (λ i j le lt. grind (arith, space.rising i j no_page, λ (same : i ≡ j). ap (number_at pages) same))
 
 -- where a binary search by number parts them
 pub lower-parted : (pages : List PageView) (number index : ℕ) → index ≤ length pages → IsPartitionPoint (λ (page : PageView). ltb page.number number ≡ true) (λ (page : PageView). ltb page.number number ≡ false) pages index → IsLower pages number index
 lower-parted pages number index within parted =
-    let below : (i : ℕ) → i < index → number_at pages i < number = λ i lt. let test = parted.0 i none (omega arith) lt in grind (arith, nat_tests) in
-    let above : (i : ℕ) → index ≤ i → i < length pages → number ≤ number_at pages i = λ i le lt. let test = parted.1 i none le lt in grind (arith, nat_tests) in
+    let below : (i : ℕ) → i < index → number_at pages i < number = λ i lt. let test = parted.0 i no_page (omega arith) lt in grind (arith, nat_tests) in
+    let above : (i : ℕ) → index ≤ i → i < length pages → number ≤ number_at pages i = λ i le lt. let test = parted.1 i no_page le lt in grind (arith, nat_tests) in
     record { within = within; below = below; above = above }
 
 -- where every page is below a range or above it, none is in it
 pub free : (pages : List PageView) (first count index : ℕ) → IsLower pages first index → (index < length pages → first + count ≤ number_at pages index) → IsSpace pages → (i : ℕ) → index ≤ i → i < length pages → first + count ≤ number_at pages i
 free pages first count index lower clear space i le lt = elim (cases_lt index i) [
-  | inl after ↦ omega (arith, clear (omega arith), space.rising index i none after lt)
+  | inl after ↦ omega (arith, clear (omega arith), space.rising index i no_page after lt)
   | inr here ↦ let same : i ≡ index = omega arith in rw same (clear (omega arith))
 ]
 
 pub not_busy : (pages : List PageView) (first count index : ℕ) → IsLower pages first index → ((i : ℕ) → index ≤ i → i < length pages → first + count ≤ number_at pages i) → list_any (λ (page : PageView). is_in first count page.number) pages ≡ false
-not_busy pages first count index lower above = list_any_none (λ (page : PageView). is_in first count page.number) pages (λ i d lt. ap (λ (page : PageView). is_in first count page.number) (get_or_default pages i d none lt) ∙ out i lt)
+not_busy pages first count index lower above = list_any_none (λ (page : PageView). is_in first count page.number) pages (λ i d lt. ap (λ (page : PageView). is_in first count page.number) (get_or_default pages i d no_page lt) ∙ out i lt)
   where
     out : (i : ℕ) → i < length pages → is_in first count (number_at pages i) ≡ false
     out i lt = elim (cases_lt i index) [
@@ -57,7 +55,7 @@ not_busy pages first count index lower above = list_any_none (λ (page : PageVie
 pub busy-at : (pages : List PageView) (first count index : ℕ) → index < length pages → first ≤ number_at pages index → number_at pages index < first + count → list_any (λ (page : PageView). is_in first count page.number) pages ≡ true
 busy-at pages first count index lt from to =
     let here : is_in first count (number_at pages index) ≡ true = grind (arith, nat_tests) in
-    list_any_at (λ (page : PageView). is_in first count page.number) pages index none lt here
+    list_any_at (λ (page : PageView). is_in first count page.number) pages index no_page lt here
 
 -- the refusals of a mapping
 module _ (pages : List PageView) (first count : ℕ) (some : count ≢ 0) (low : first + count ≤ 2 ^ 26) where
@@ -105,13 +103,13 @@ protected-more f pages now i page is lt read =
     ap (λ (l : List PageView). set l i (f page)) prefix_is ∙ set_at (map f (take i pages)) (get_or pages i page) (drop (i + 1) pages) (f page) i long ∙ rw (mapped, append_assoc) refl
 
 -- the first and the last elements of a list, as what a test keeps of it
-filter-prefix : (test : PageView → Bool) (pages : List PageView) (index : ℕ) → ((i : ℕ) → i < index → i < length pages → test (get_or pages i none) ≡ true) → ((i : ℕ) → index ≤ i → i < length pages → test (get_or pages i none) ≡ false) → filter test pages ≡ take index pages
+filter-prefix : (test : PageView → Bool) (pages : List PageView) (index : ℕ) → ((i : ℕ) → i < index → i < length pages → test (get_or pages i no_page) ≡ true) → ((i : ℕ) → index ≤ i → i < length pages → test (get_or pages i no_page) ≡ false) → filter test pages ≡ take index pages
 filter-prefix test [] zero hit out = refl
 filter-prefix test [] (suc index) hit out = refl
 filter-prefix test (x ∷ pages) zero hit out = rw (out 0 (omega arith) (omega arith)) (filter-prefix test pages zero (λ i lt within. hit (suc i) (omega (arith, lt)) (omega (arith, within))) (λ i le within. out (suc i) (omega arith) (omega (arith, within))))
 filter-prefix test (x ∷ pages) (suc index) hit out = rw (hit 0 (omega arith) (omega arith)) (ap (λ (rest : List PageView). x ∷ rest) (filter-prefix test pages index (λ i lt within. hit (suc i) (omega (arith, lt)) (omega (arith, within))) (λ i le within. out (suc i) (omega (arith, le)) (omega (arith, within)))))
 
-pub filter-back : (test : PageView → Bool) (pages : List PageView) (index : ℕ) → ((i : ℕ) → i < index → i < length pages → test (get_or pages i none) ≡ false) → ((i : ℕ) → index ≤ i → i < length pages → test (get_or pages i none) ≡ true) → filter test pages ≡ drop index pages
+pub filter-back : (test : PageView → Bool) (pages : List PageView) (index : ℕ) → ((i : ℕ) → i < index → i < length pages → test (get_or pages i no_page) ≡ false) → ((i : ℕ) → index ≤ i → i < length pages → test (get_or pages i no_page) ≡ true) → filter test pages ≡ drop index pages
 filter-back test [] zero out hit = refl
 filter-back test [] (suc index) out hit = refl
 filter-back test (x ∷ pages) zero out hit = rw (hit 0 (omega arith) (omega arith)) (ap (λ (rest : List PageView). x ∷ rest) (filter-back test pages zero (λ i lt within. out (suc i) (omega (arith, lt)) (omega (arith, within))) (λ i le within. hit (suc i) (omega arith) (omega (arith, within)))))
@@ -140,12 +138,12 @@ module _ (pages : List PageView) (space : IsSpace pages) (first count index righ
   prefix-below i d within =
       let lt : i < index = omega (arith, within, long-prefix) in
       let here : i < length pages = omega (arith, lt, gap.within) in
-      rw (get_or-take index pages i d lt, get_or_default pages i d none here) (gap.below i lt)
+      rw (get_or-take index pages i d lt, get_or_default pages i d no_page here) (gap.below i lt)
 
   back-above : BeginsAt (drop index pages) (first + count)
   back-above i d within =
       let here : index + i < length pages = omega (arith, within, length-drop index pages) in
-      rw (get_or-drop index pages i d, get_or_default pages (index + i) d none here) (gap.above (index + i) (omega arith) here)
+      rw (get_or-drop index pages i d, get_or_default pages (index + i) d no_page here) (gap.above (index + i) (omega arith) here)
 
   fresh-space : IsSpace (take index pages ++ pages_from first (granted rights) [] count)
   fresh-space = IsSpace-more (take index pages) (IsSpace-take index pages space) first (granted rights) [] count prefix-below (granted-granted rights) gap.low (omega (arith, long-prefix, gap.within, gap.few)) (All-nil (λ (b : ℕ). b < 256))

@@ -11,17 +11,14 @@ use Rattle.dt_space.specs.Ranges.{is_in, unmapped, first_missing, with_rights}
 use Rattle.dt_space.specs.Gaps.{pages_in, is_free, first_free, lowest_gap, IsLowestGap, HasNoGap}
 use Rattle.dt_space.specs.inner.Index.{number_at}
 use Rattle.dt_space.specs.inner.Gap.{IsLower, IsRun}
-use Rattle.dt_space.proofs.Pages.{page_at_absent}
+use Rattle.dt_space.proofs.Pages.{no_page, page_at_absent}
 use Rattle.dt_space.proofs.Mapped.{filter-back, free, not_busy, busy-at, some-index}
-
-abbrev none : PageView
-none = record { number = 0; rights = 0; bytes = [] }
 
 -- all pages have numbers below one past them all
 pub lower-all : (pages : List PageView) (number : ℕ) → IsSpace pages → 2 ^ 26 ≤ number → IsLower pages number (length pages)
 lower-all pages number space past = record {
   within = omega arith;
-  below = λ i lt. let page = space.each i none lt in omega (arith, page.low);
+  below = λ i lt. let page = space.each i no_page lt in omega (arith, page.low);
   above = λ i from lt. absurd (omega (arith, from, lt));
 }
 
@@ -30,10 +27,10 @@ pub lower-next : (pages : List PageView) (number index : ℕ) → IsSpace pages 
 lower-next pages number index space lower lt = record {
   within = omega arith;
   below = λ i under. elim (cases_lt i index) [
-    | inl before ↦ omega (arith, space.rising i index none before lt)
+    | inl before ↦ omega (arith, space.rising i index no_page before lt)
     | inr here ↦ let same : i ≡ index = omega arith in rw same (omega arith)
   ];
-  above = λ i from within. omega (arith, space.rising index i none (omega arith) within);
+  above = λ i from within. omega (arith, space.rising index i no_page (omega arith) within);
 }
 
 -- the indices are in order
@@ -46,7 +43,7 @@ run-of pages first count start end lower upper =
     record { ordered = ordered; lower = lower; upper = upper }
 
 -- what a test leaves that no element between two indices passes
-filter-cut : (test : PageView → Bool) (pages : List PageView) (start end : ℕ) → start ≤ end → ((i : ℕ) → i < start → i < length pages → test (get_or pages i none) ≡ true) → ((i : ℕ) → start ≤ i → i < end → i < length pages → test (get_or pages i none) ≡ false) → ((i : ℕ) → end ≤ i → i < length pages → test (get_or pages i none) ≡ true) → filter test pages ≡ take start pages ++ drop end pages
+filter-cut : (test : PageView → Bool) (pages : List PageView) (start end : ℕ) → start ≤ end → ((i : ℕ) → i < start → i < length pages → test (get_or pages i no_page) ≡ true) → ((i : ℕ) → start ≤ i → i < end → i < length pages → test (get_or pages i no_page) ≡ false) → ((i : ℕ) → end ≤ i → i < length pages → test (get_or pages i no_page) ≡ true) → filter test pages ≡ take start pages ++ drop end pages
 filter-cut test pages zero end le low inside high = filter-back test pages end (λ i lt within. inside i (omega arith) lt within) high
 filter-cut test pages (suc start) zero le low inside high = absurd (omega (arith, le))
 filter-cut test [] (suc start) (suc end) le low inside high = refl
@@ -95,12 +92,12 @@ module _ (pages : List PageView) (first count start end : ℕ) (run : IsRun page
   low-out i d within =
       let long : length (take start pages) ≡ start = length-take-le start pages run.lower.within in
       let lt : i < start = omega (arith, within, long) in
-      rw (get_or-take start pages i d lt, get_or_default pages i d none (omega (arith, lt, run.lower.within))) (under i lt)
+      rw (get_or-take start pages i d lt, get_or_default pages i d no_page (omega (arith, lt, run.lower.within))) (under i lt)
 
   high-out : All (λ page. is_in first count page.number ≡ false) (drop end pages)
   high-out i d within =
       let lt : end + i < length pages = omega (arith, within, length-drop end pages) in
-      rw (get_or-drop end pages i d, get_or_default pages (end + i) d none lt) (over (end + i) (omega arith) lt)
+      rw (get_or-drop end pages i d, get_or_default pages (end + i) d no_page lt) (over (end + i) (omega arith) lt)
 
   -- the pages around the range keep their rights
   pub low-kept : (rights : ℕ) → map (with_rights first count rights) (take start pages) ≡ take start pages
@@ -115,7 +112,7 @@ module _ (pages : List PageView) (first count start end : ℕ) (run : IsRun page
       let lt : i < length pages = omega (arith, run.upper.within) in
       let long : length (map (with_rights first count rights) (take i pages)) ≡ i = length-map (take i pages) (with_rights first count rights) ∙ length-take-le i pages (omega arith) in
       let here : page ≡ get_or pages i page = read ∙ ap (λ (l : List PageView). get_or l i page) (is ∙ rw (drop_more pages i page lt) refl) ∙ get_or_at (map (with_rights first count rights) (take i pages)) (get_or pages i page) (drop (i + 1) pages) page i long in
-      let number : page.number ≡ number_at pages i = ap (λ (p : PageView). p.number) (here ∙ get_or_default pages i page none lt) in
+      let number : page.number ≡ number_at pages i = ap (λ (p : PageView). p.number) (here ∙ get_or_default pages i page no_page lt) in
       rights-in first count rights page (ap (is_in first count) number ∙ inside i from to)
 
   -- and where it ends
@@ -129,7 +126,7 @@ absent : (pages : List PageView) (number index : ℕ) → IsSpace pages → IsLo
 absent pages number index space lower other = page_at_absent pages number (λ j lt same. elim (cases_lt j index) [
   | inl before ↦ omega (arith, lower.below j before, same)
   | inr from ↦ elim (cases_lt index j) [
-    | inl after ↦ omega (arith, lower.above index (omega arith) (omega arith), space.rising index j none after lt, same)
+    | inl after ↦ omega (arith, lower.above index (omega arith) (omega arith), space.rising index j no_page after lt, same)
     | inr to ↦ let here : j ≡ index = omega arith in other (omega arith) (rw here at same)
   ]
 ])

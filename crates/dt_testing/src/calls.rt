@@ -92,8 +92,8 @@ fn ask(guest: &mut Guest, number: u32, arguments: [i64; 5]) -> Result<(), NoMemo
     guest.call(number)
 }
 
-// Stores a0 at an address.
-fn keep(guest: &mut Guest, at: i64) -> Result<(), NoMemory> {
+/// Stores a0 at an address.
+pub fn keep(guest: &mut Guest, at: i64) -> Result<(), NoMemory> {
     guest.li(T0, at)?;
     guest.ins(Instr::Sd {
         rs1: T0,

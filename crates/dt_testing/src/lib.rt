@@ -14,10 +14,10 @@ mod step;
 mod trial;
 
 pub use bench::{Call, Came, RUN_HELLO, USAGE, Words, strings};
-pub use calls::{Does, MEMORY, keeping};
+pub use calls::{Does, MEMORY, keep, keeping};
 pub use guests::{HELLO_DIGEST, HELLO_INDEX, HELLO_SHOWN, hello, hello_report};
 pub use named::Run;
 pub use schedule::{Schedule, Turn};
-pub use shown::{Shown, before_tree};
+pub use shown::{Shown, add_write, before_tree};
 pub use step::{Step, guest};
 pub use trial::{Case, Outcome, Setting, Tree, Trial};

@@ -85,8 +85,8 @@ fn counted_byte(offset: u64) -> u8 {
     bytes[(offset & 7) as usize]
 }
 
-// Adds what is written to a stream.
-fn add_write(
+/// Adds what is written to a stream.
+pub fn add_write(
     alloc: Global,
     text: &mut Vec<u8>,
     stream: u8,

@@ -1,5 +1,5 @@
 // Whole runs of a guest: what it shows, its answers, and the tree that it leaves.
-use dt_testing::{Call, Does, Words, keeping};
+use dt_testing::{Call, Does, Words, add_write, keeping};
 use sha2::{Digest, Sha256};
 use std::alloc::Global;
 use std::process::Abort;
@@ -18,15 +18,6 @@ pub struct Run<'a> {
     /// What the report says of the tree before the line of the program, and its inode.
     pub tree: &'a str,
     pub inode: u64,
-}
-
-// Adds what is written to a stream.
-fn add_event(text: &mut Vec<u8>, alloc: Global, stream: u8, bytes: &[u8]) -> Result<(), Fail> {
-    let count = bytes.len();
-    text.extend_from_slice(format!(in alloc; "out {stream} {count}\n")?.as_bytes())?;
-    text.extend_from_slice(bytes)?;
-    text.push(b'\n')?;
-    Ok(())
 }
 
 fn program(alloc: Global, rows: &[(Does, Option<i64>)]) -> Result<Vec<u8>, Fail> {
@@ -50,9 +41,9 @@ fn answers(alloc: Global, rows: &[(Does, Option<i64>)]) -> Result<Vec<u8>, Fail>
 fn report(alloc: Global, run: &Run, program: &[u8]) -> Result<Vec<u8>, Fail> {
     let mut text = Vec::from_slice(alloc, b"dettrace 1\n".as_slice())?;
     for bytes in run.shown {
-        add_event(&mut text, alloc, 1, bytes)?;
+        add_write(alloc, &mut text, 1, bytes)?;
     }
-    add_event(&mut text, alloc, 2, &answers(alloc, run.rows)?)?;
+    add_write(alloc, &mut text, 2, &answers(alloc, run.rows)?)?;
     text.extend_from_slice(b"exit 1 code 0\nverdict ended\n".as_slice())?;
     text.extend_from_slice(run.tree.as_bytes())?;
     let inode = run.inode;

@@ -1,8 +1,7 @@
 // A program that makes a directory with a link in it, moves it, and is refused twice.
 use dt_asm::{AsmErr, Guest};
 use dt_base::NoMemory;
-use dt_rv64::Instr;
-use dt_testing::{Call, MEMORY, Words};
+use dt_testing::{Call, MEMORY, Words, keep};
 use std::alloc::Global;
 use std::test::Fail;
 
@@ -26,9 +25,7 @@ const AT_FDCWD: i64 = -100;
 
 const AT_REMOVEDIR: i64 = 0x200;
 
-// Registers: a temporary one, and that of the first argument and the answer.
-const T0: u8 = 5;
-
+// The register of the first argument and the answer.
 const A0: u8 = 10;
 
 // Where paths stand in the program's memory, and where it keeps what it writes: the working directory, and the answers.
@@ -71,16 +68,6 @@ const CALLS: [(u32, [i64; 5], i64); 7] = [
     (UNLINKAT, [AT_FDCWD, E, AT_REMOVEDIR, 0, 0], -39),
     (RENAMEAT2, [AT_FDCWD, E, AT_FDCWD, E_Q, 0], -22),
 ];
-
-// Stores a0 at an address.
-fn keep(guest: &mut Guest, at: i64) -> Result<(), NoMemory> {
-    guest.li(T0, at)?;
-    guest.ins(Instr::Sd {
-        rs1: T0,
-        rs2: A0,
-        imm: 0,
-    })
-}
 
 fn ask(guest: &mut Guest, number: u32, arguments: &[i64]) -> Result<(), NoMemory> {
     let mut register = A0;

@@ -1,5 +1,6 @@
 // What a report shows of the calls of a table.
 use crate::row::{After, Entry, Row, Status};
+use dt_testing::add_write;
 use sha2::{Digest, Sha256};
 use std::alloc::{AllocError, Global};
 
@@ -25,7 +26,7 @@ pub fn shown(alloc: Global, tables: &[&[Row]]) -> Result<Vec<u8>, AllocError> {
             add_shown(alloc, &mut text, row.3)?;
         }
     }
-    add_event(alloc, &mut text, 2, &answers)?;
+    add_write(alloc, &mut text, 2, &answers)?;
     text.extend_from_slice(b"exit 1 code 0\nverdict ended\n".as_slice())?;
     Ok(text)
 }
@@ -36,34 +37,20 @@ fn add_shown(alloc: Global, text: &mut Vec<u8>, after: After) -> Result<(), Allo
         After::Shows(shown) => {
             let mut bytes = Vec::from_slice(alloc, shown.as_bytes())?;
             bytes.push(0)?;
-            add_event(alloc, text, 1, &bytes)
+            add_write(alloc, text, 1, &bytes)
         }
         After::Tells(status) => {
             let bytes = stat(alloc, status)?;
-            add_event(alloc, text, 1, &bytes)
+            add_write(alloc, text, 1, &bytes)
         }
         After::Lists(entries) => {
             let bytes = dirents(alloc, entries)?;
-            add_event(alloc, text, 1, &bytes)
+            add_write(alloc, text, 1, &bytes)
         }
-        After::Fills(bytes) => add_event(alloc, text, 1, bytes),
-        After::Puts(stream, bytes) => add_event(alloc, text, stream, bytes),
+        After::Fills(bytes) => add_write(alloc, text, 1, bytes),
+        After::Puts(stream, bytes) => add_write(alloc, text, stream, bytes),
         After::Stays | After::Ticks => Ok(()),
     }
-}
-
-// Adds what is written to a stream.
-fn add_event(
-    alloc: Global,
-    text: &mut Vec<u8>,
-    stream: u8,
-    bytes: &[u8],
-) -> Result<(), AllocError> {
-    let count = bytes.len();
-    text.extend_from_slice(format!(in alloc; "out {stream} {count}\n")?.as_bytes())?;
-    text.extend_from_slice(bytes)?;
-    text.push(b'\n')?;
-    Ok(())
 }
 
 // Records of a directory, one behind the other.

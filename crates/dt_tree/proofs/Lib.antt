@@ -1,4 +1,3 @@
-pub mod Outcomes
 pub mod Namings
 pub mod NodeKinds
 pub mod Shapes

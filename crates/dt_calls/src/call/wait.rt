@@ -1,9 +1,10 @@
 // The wait for a child that ends.
-ghost use Rattle.std.specs.Prelude.{◌≡◌, ◌&&◌, length, true};
+ghost use Rattle.std.specs.Prelude.{◌≡◌, ◌&&◌};
+ghost use Rattle.dt_space.specs.Argument.{may_fill};
 ghost use Rattle.dt_calls.specs.declared.numbers.TheConstants.{RUSAGE_SIZE as RUSAGE};
 ghost use Rattle.dt_procs.specs.declared.member.Reaped.{Reaped as Found};
 ghost use Rattle.dt_procs.specs.Members.{look_for};
-ghost use Rattle.dt_calls.specs.Wait.{wait4_call, by_found, asked, is_group, status_of, takes, with_bytes};
+ghost use Rattle.dt_calls.specs.Wait.{wait4_call, by_found, asked, is_group, status_of};
 ghost use Rattle.dt_calls.specs.InCode.{shared_of};
 ghost use Rattle.dt_calls.specs.Sound.{IsSoundHand, Serves, hand};
 
@@ -15,7 +16,7 @@ use dt_base::{End, Errno};
 use dt_host::{Host, HostErr};
 use dt_procs::Reaped;
 use dt_rv64::Machine;
-use dt_space::Space;
+use dt_space::{Space, fill_unless_null, may_fill};
 use std::alloc::Global;
 
 /// The greatest pid that is not below 0 as a signed number.
@@ -82,28 +83,11 @@ fn status_of(end: End) -> u32
     }
 }
 
-// Whether so many bytes can be written at an address, or it is null.
-fn takes(space: &Space, address: u64, count: usize) -> bool
-    ensures { result ≡ takes space.now address count }
-{
-    address == 0 || space.writable(address, count as u64).is_ok()
-}
-
 // Whether a status and the use of resources can be written there.
 fn takes_both(space: &Space, status: u64, usage: u64) -> bool
-    ensures { result ≡ (takes space.now status 4 && takes space.now usage RUSAGE) }
+    ensures { result ≡ (may_fill space.now status 4 && may_fill space.now usage RUSAGE) }
 {
-    takes(space, status, 4) && takes(space, usage, RUSAGE_SIZE)
-}
-
-// Puts bytes at an address, unless it is null.
-fn give(space: &mut Space, address: u64, bytes: &[u8])
-    requires { takes space.old address (length bytes.now) ≡ true }
-    ensures { space.new ≡ with_bytes space.old address bytes.now }
-{
-    if address != 0 {
-        let _ = space.write_bytes(address, bytes);
-    }
+    may_fill(space, status, 4) && may_fill(space, usage, RUSAGE_SIZE)
 }
 
 // Reaps a zombie that was found, if its status and the use of resources can be given.
@@ -131,7 +115,7 @@ fn reap<H: Host>(
     }
     let _next = shared.pids.next();
     shared.pids.wait_for(host, own.caller.vpid, which)?;
-    give(&mut machine.space, status, &status_of(end).to_le_bytes());
-    give(&mut machine.space, usage, &[0; RUSAGE_SIZE]);
+    fill_unless_null(&mut machine.space, status, &status_of(end).to_le_bytes());
+    fill_unless_null(&mut machine.space, usage, &[0; RUSAGE_SIZE]);
     Ok(Effect::done(alloc, machine, u64::from(vpid)))
 }

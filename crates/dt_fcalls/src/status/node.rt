@@ -11,7 +11,6 @@ ghost use Rattle.dt_scene.specs.Sound.{Sound, Serves, Ends, stage, scene};
 ghost use Rattle.dt_fcalls.specs.Status.{tells_status, tells_descriptor, is_of_dirfd, status_rule, fstat_row};
 ghost use Rattle.dt_fcalls.specs.Status.{newfstatat_row};
 
-use crate::arguments::text_argument;
 use crate::places::{LastLink, place_at};
 use crate::stat::{STAT_FLAGS, pipe_stat, stat_of, stream_stat};
 use dt_base::abi::{AT_EMPTY_PATH, AT_FDCWD, AT_SYMLINK_NOFOLLOW, has, low_word, signed_word};
@@ -19,7 +18,7 @@ use dt_base::{Answer, Caller, Errno, NoMemory};
 use dt_fds::DescKind;
 use dt_host::{Host, HostErr};
 use dt_scene::{Fs, fill};
-use dt_space::Space;
+use dt_space::{Space, text_argument};
 use dt_tree::Meta;
 use dt_walk::Place;
 use std::alloc::Global;

@@ -32,7 +32,7 @@ abbrev pub phase_in : Option Phase → Phase
 phase_in None = Owes
 phase_in (Some phase) = phase
 
--- the own part of a process whose machine is at home
+-- the work of a process whose machine is at home
 abbrev pub work_in : Phases → ℕ → Machine → Work
 work_in phases p m = record { machine = m; phase = phase_in (get phases p) }
 

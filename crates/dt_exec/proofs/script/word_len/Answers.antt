@@ -1,5 +1,5 @@
 use Rattle.dt_exec.specs.Script.{is_blank}
-use Rattle.dt_exec.proofs.Positions.{len_some, len_none}
+use Rattle.dt_base.proofs.Positions.{len_some, len_none}
 use Rattle.dt_exec.proofs.script.word_len.Goals as goal
 
 pub returns-in-Some : goal.returns-in-Some

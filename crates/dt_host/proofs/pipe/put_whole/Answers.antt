@@ -1,4 +1,4 @@
-use Rattle.std.proofs.Common.{◌≡◌, ℕ, ◌+◌, ◌≤◌, length, take, ap, sym, subst, ◌∙◌, arith, length-take-le, length-append}
+use Rattle.std.proofs.Common.{length, take, ap, sym, subst, ◌∙◌, arith, length-take-le, length-append}
 use Rattle.std.proofs.lemmas.Result.{MatchResult-from_err}
 use Rattle.dt_host.specs.World.{IsPipe, held}
 use Rattle.dt_host.specs.Legal.{with_put}

@@ -1,6 +1,7 @@
 use Rattle.std.proofs.Common.{◌<◌, Err, length, ap, arith}
 use Rattle.dt_image.proofs.Sorting.{no_entry}
-use Rattle.dt_image.proofs.Measures.{missing_at, passed_on}
+use Rattle.dt_host.proofs.Asking.{passed_on}
+use Rattle.dt_image.proofs.Measures.{missing_at}
 use Rattle.dt_image.proofs.blobs.measure.Goals as goal
 
 pub returns-in_err-measure_one-clause-refused : goal.returns-in_err-measure_one-clause-refused

@@ -6,7 +6,8 @@ use Rattle.dt_base.specs.declared.refusal.Refusal.TheVariants.{TooBig, TooMany}
 use Rattle.dt_base.specs.declared.limits.TheConstants.{ENTRY_LIMIT}
 use Rattle.dt_image.specs.ImageOf.{with_blobs}
 use Rattle.dt_image.specs.inner.IndexView.{entry_in, is_sound, spot_of}
-use Rattle.dt_image.proofs.Measures.{is_small, passed_on, told_missing, told_big, told_many, told_with_blobs, sound_all}
+use Rattle.dt_host.proofs.Asking.{passed_on}
+use Rattle.dt_image.proofs.Measures.{is_small, told_missing, told_big, told_many, told_with_blobs, sound_all}
 use Rattle.dt_image.proofs.Rising.{IsImage-made}
 use Rattle.dt_image.proofs.blobs.with_blobs.Goals as goal
 

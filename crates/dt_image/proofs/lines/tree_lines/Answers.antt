@@ -1,4 +1,4 @@
-use Rattle.std.proofs.Common.{◌≡◌, ℕ, List, sym, subst}
+use Rattle.std.proofs.Common.{ℕ, List, sym, subst}
 use Rattle.std.specs.List.{All}
 use Rattle.dt_host.specs.World.{World, IsLive}
 use Rattle.dt_tree.specs.Table.{shape_of}

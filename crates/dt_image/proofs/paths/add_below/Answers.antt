@@ -1,4 +1,4 @@
-use Rattle.std.proofs.Common.{◌≡◌, ◌++◌, ◌-◌, ◌^◌, true, false, map, sym, ap, ◌∙◌, arith, append-nil}
+use Rattle.std.proofs.Common.{◌++◌, ◌-◌, ◌^◌, map, sym, ap, ◌∙◌, arith, append-nil}
 use Rattle.dt_tree.specs.Table.{shape_of, tree_of}
 use Rattle.dt_image.specs.inner.PathView.{shown, listed_below}
 use Rattle.dt_image.proofs.Children.{listed_after, below_listed, none_below}

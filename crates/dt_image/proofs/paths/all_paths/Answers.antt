@@ -1,4 +1,4 @@
-use Rattle.std.proofs.Common.{◌≡◌, ℕ, [], ◌∷◌, map, fold, refl, sym, ap, subst, ◌∙◌, arith}
+use Rattle.std.proofs.Common.{◌≡◌, [], ◌∷◌, map, fold, refl, sym, ap, subst, ◌∙◌, arith}
 use Rattle.std.specs.List.{All, flat_map}
 use Rattle.std.specs.Cmp.Lexicographic.{nat_list_cmp_total}
 use Rattle.dt_host.specs.World.{World}
@@ -6,7 +6,7 @@ use Rattle.dt_host.proofs.MapOf.{map_of-nil}
 use Rattle.dt_tree.specs.Table.{shape_of}
 use Rattle.dt_image.specs.declared.paths.TreePath.{TreePath}
 use Rattle.dt_image.specs.Paths.{below, level, paths_to, with_path}
-use Rattle.dt_image.specs.inner.PathView.{shown, paths_in, IsPlaced}
+use Rattle.dt_image.specs.inner.PathView.{shown, IsPlaced}
 use Rattle.dt_image.proofs.Children.{unmap, placed_level, level_next, paths_next}
 use Rattle.dt_image.proofs.paths.all_paths.Goals as goal
 

@@ -1,7 +1,7 @@
-use Rattle.std.proofs.Common.{arith, ◌≡◌, Err, refl, sym, ap, subst}
+use Rattle.std.proofs.Common.{◌≡◌, Err, refl, sym, ap, subst}
 use Rattle.std.specs.Prelude.{IfOk}
 use Rattle.dt_run.specs.inner.InCode.{run_as}
-use Rattle.dt_run.proofs.Causes.{passed_on, rose-from}
+use Rattle.dt_host.proofs.Asking.{cause-from, passed_on}
 use Rattle.dt_run.proofs.Completed.{run_of-came}
 use Rattle.dt_run.proofs.Ending.{launched-home}
 use Rattle.dt_run.proofs.run.play.Goals as goal
@@ -15,9 +15,9 @@ returns-clause-ok g c =
     subst (λ r. IfOk c.run_from.result (λ run. r ≡ run_as run (g.H.Host.view c.run_from.new.host))) (sym came) c.run_from.ensures.ok
 
 pub returns-in_err-launch-clause-cause : goal.returns-in_err-launch-clause-cause
-returns-in_err-launch-clause-cause g c = record {
-  later = omega (arith, c.install.ensures.cause.later, c.launch.ensures.cause.later);
-  rose = λ failed.
-      rose-from _ _ _ c.install.ensures.cause.later
-      (c.in_err-launch.ensures.cause.rose (ap Err (passed_on _ _ _ c.from_residual-in_err-launch.ensures.1 failed)));
-}
+returns-in_err-launch-clause-cause g c =
+    let launched = c.in_err-launch.ensures.cause in
+    cause-from _ _ _ c.install.ensures.cause.later (record {
+      later = launched.later;
+      rose = λ failed. launched.rose (ap Err (passed_on _ _ _ c.from_residual-in_err-launch.ensures.1 failed));
+    })

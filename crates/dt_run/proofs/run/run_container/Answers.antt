@@ -1,7 +1,8 @@
 use Rattle.std.proofs.Common.{arith, Err, sym, ap, subst, ◌∙◌}
 use Rattle.dt_host.specs.Sink.{added, AddsPart}
 use Rattle.dt_run.specs.Run.{status_by, status_of, report_of}
-use Rattle.dt_run.proofs.Causes.{passed_on, rose-from, of_host-failed, of_host-no_sink, of_sink-failed, of_sink-no_host}
+use Rattle.dt_host.proofs.Asking.{cause-from, passed_on}
+use Rattle.dt_run.proofs.Causes.{of_host-failed, of_host-no_sink, of_sink-failed, of_sink-no_host}
 use Rattle.dt_run.proofs.Completed.{holds_last}
 use Rattle.dt_run.proofs.run.run_container.Goals as goal
 
@@ -25,12 +26,12 @@ returns-in_err-sink_all-clause-part g c =
     subst (AddsPart (g.O.Sink.told c.args.out.now) (g.O.Sink.told c.sink_all.new.sink)) (c.deref.ensures.value ∙ c.in_ok-text.ensures.ok ∙ sym (ap report_of came)) c.sink_all.ensures.part
 
 pub returns-in_err-text-clause-host : goal.returns-in_err-text-clause-host
-returns-in_err-text-clause-host g c = record {
-  later = omega (arith, c.play.ensures.cause.later, c.report_text.ensures.asks.cause.later);
-  rose = λ failed.
-      rose-from _ _ _ c.play.ensures.cause.later
-      (c.in_err-text.ensures.asks.cause.rose (ap Err (of_host-failed _ (passed_on _ _ _ c.from_residual-in_err-text.ensures.1 failed))));
-}
+returns-in_err-text-clause-host g c =
+    let asked = c.in_err-text.ensures.asks.cause in
+    cause-from _ _ _ c.play.ensures.cause.later (record {
+      later = asked.later;
+      rose = λ failed. asked.rose (ap Err (of_host-failed _ (passed_on _ _ _ c.from_residual-in_err-text.ensures.1 failed)));
+    })
 
 pub returns-in_err-text-clause-sink : goal.returns-in_err-text-clause-sink
 returns-in_err-text-clause-sink g c = record {

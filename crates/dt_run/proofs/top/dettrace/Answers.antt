@@ -1,16 +1,54 @@
-use Rattle.std.proofs.Common.{◌≡◌, Err, sym, ap, ◌∙◌}
+use Rattle.std.proofs.Common.{◌≡◌, Err, refl, sym, ap, ◌∙◌}
+use Rattle.dt_run.specs.declared.status.TheConstants.{WORDS_REFUSED, IMAGE_REFUSED, STORE_FAULT, HOST_FAULT, OUTPUT_FAULT, OUT_OF_MEMORY}
+use Rattle.dt_run.proofs.Ran as ran
 use Rattle.dt_run.proofs.Failing as failing
 use Rattle.dt_run.proofs.Lines.{own_line, refusal_line, no_line, no_refusal}
 use Rattle.dt_run.proofs.top.dettrace.Goals as goal
 
+pub returns-in-Ok-clause-statuses : goal.returns-in-Ok-clause-statuses
+returns-in-Ok-clause-statuses g c = ran.ends_with c.in-Ok.status (ran.status-of _ _ _ _ _ _ c.in-Ok.ensures.completed)
+
+pub returns-in-Ok-clause-part : goal.returns-in-Ok-clause-part
+returns-in-Ok-clause-part g c = λ late. absurd (ran.not_failed c.in-Ok.status (ran.status-of _ _ _ _ _ _ c.in-Ok.ensures.completed) late)
+
+pub returns-in-Ok-clause-memory : goal.returns-in-Ok-clause-memory
+returns-in-Ok-clause-memory g c = λ is. absurd (ran.never c.in-Ok.status OUT_OF_MEMORY (ran.status-of _ _ _ _ _ _ c.in-Ok.ensures.completed) refl is)
+
+pub returns-in-Ok-clause-nothing : goal.returns-in-Ok-clause-nothing
+returns-in-Ok-clause-nothing g c = λ early. absurd (ran.not_before c.in-Ok.status (ran.status-of _ _ _ _ _ _ c.in-Ok.ensures.completed) early)
+
+pub returns-in-Ok-clause-usage : goal.returns-in-Ok-clause-usage
+returns-in-Ok-clause-usage g c = λ is. absurd (ran.never c.in-Ok.status WORDS_REFUSED (ran.status-of _ _ _ _ _ _ c.in-Ok.ensures.completed) refl is)
+
+pub returns-in-Ok-clause-image : goal.returns-in-Ok-clause-image
+returns-in-Ok-clause-image g c = λ is. absurd (ran.never c.in-Ok.status IMAGE_REFUSED (ran.status-of _ _ _ _ _ _ c.in-Ok.ensures.completed) refl is)
+
+pub returns-in-Ok-clause-store : goal.returns-in-Ok-clause-store
+returns-in-Ok-clause-store g c = record {
+  later = c.run_words.ensures.store.later;
+  rose = λ is. absurd (ran.never c.in-Ok.status STORE_FAULT (ran.status-of _ _ _ _ _ _ c.in-Ok.ensures.completed) refl is);
+}
+
+pub returns-in-Ok-clause-host : goal.returns-in-Ok-clause-host
+returns-in-Ok-clause-host g c = record {
+  later = c.run_words.ensures.host.later;
+  rose = λ is. absurd (ran.never c.in-Ok.status HOST_FAULT (ran.status-of _ _ _ _ _ _ c.in-Ok.ensures.completed) refl is);
+}
+
+pub returns-in-Ok-clause-output : goal.returns-in-Ok-clause-output
+returns-in-Ok-clause-output g c = record {
+  later = c.run_words.ensures.output.later;
+  rose = λ is. absurd (ran.never c.in-Ok.status OUTPUT_FAULT (ran.status-of _ _ _ _ _ _ c.in-Ok.ensures.completed) refl is);
+}
+
 pub returns-in-Ok-clause-line : goal.returns-in-Ok-clause-line
-returns-in-Ok-clause-line g c = λ _ _. no_line c.in-Ok.status (g.E.Sink.told c.args.err.now) (g.E.Sink.count c.args.err.now) c.in-Ok.ensures.statuses
+returns-in-Ok-clause-line g c = λ _ _. no_line c.in-Ok.status (g.E.Sink.told c.args.err.now) (g.E.Sink.count c.args.err.now) (ran.status-of _ _ _ _ _ _ c.in-Ok.ensures.completed)
 
 pub returns-in-Ok-clause-image_line : goal.returns-in-Ok-clause-image_line
-returns-in-Ok-clause-image_line g c = λ three. absurd (no_refusal c.in-Ok.status c.in-Ok.ensures.statuses three)
+returns-in-Ok-clause-image_line g c = λ three. absurd (no_refusal c.in-Ok.status (ran.status-of _ _ _ _ _ _ c.in-Ok.ensures.completed) three)
 
 pub returns-in-Ok-clause-complete : goal.returns-in-Ok-clause-complete
-returns-in-Ok-clause-complete g c = λ _ _ _. failing.completed c.in-Ok.status _ _ c.in-Ok.ensures.statuses
+returns-in-Ok-clause-complete g c = λ _ _ _. failing.completed c.in-Ok.status _ _ (ran.status-of _ _ _ _ _ _ c.in-Ok.ensures.completed)
 
 pub returns-in-Ok-clause-refused_words : goal.returns-in-Ok-clause-refused_words
 returns-in-Ok-clause-refused_words g c = λ is. absurd (failing.not_refused_words _ _ c.in-Ok.ensures.completed is)

@@ -1,6 +1,6 @@
 use Rattle.std.proofs.Common.{Err, ap, subst}
 use Rattle.dt_base.specs.Image.{IsImage}
-use Rattle.dt_run.proofs.Wanting.{completes-status, some_run, on_err, fails_words, fails_image, fails_run_of}
+use Rattle.dt_run.proofs.Wanting.{some_run, on_err, fails_words, fails_image, fails_run_of}
 use Rattle.dt_run.proofs.top.run_words.Goals as goal
 
 pub returns-in_err-options-clause-failed : goal.returns-in_err-options-clause-failed
@@ -21,6 +21,3 @@ returns-in_err-run_image-clause-failed g c =
 pub returns-clause-completed : goal.returns-clause-completed
 returns-clause-completed g c =
     some_run _ _ _ _ _ _ c.in_ok-options.ensures.ok c.as_str.ensures (subst IsImage c.image.view_is c.image.invariant) c.in_ok-image.ensures.ok c.in_ok-run_image.ensures.completed
-
-pub returns-clause-statuses : goal.returns-clause-statuses
-returns-clause-statuses g c = completes-status _ _ _ _ _ c.in_ok-run_image.ensures.completed

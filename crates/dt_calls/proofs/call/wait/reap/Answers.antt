@@ -1,4 +1,5 @@
 use Rattle.std.proofs.Common.{rules, ◌≡◌, ◌&&◌, true, sym, ap, subst, refl, ◌∙◌, None, List}
+use Rattle.std.proofs.lemmas.Bool.{and_parts}
 use Rattle.dt_base.specs.declared.abi.TheConstants.{A1, A3}
 use Rattle.dt_fds.specs.OpenFiles.{pipes_at}
 use Rattle.dt_procs.specs.declared.member.Member.{Member}
@@ -7,24 +8,24 @@ use Rattle.dt_procs.specs.declared.member.Reaped.TheVariants.{Got}
 use Rattle.dt_procs.specs.Members.{reaped, without}
 use Rattle.dt_procs.specs.Table.{members_of}
 use Rattle.dt_rv64.specs.Effects.{register, answered}
+use Rattle.dt_space.specs.Argument.{may_fill, with_filled}
 use Rattle.dt_tree.specs.Table.{tree_of}
 use Rattle.dt_calls.specs.declared.call.effect.Outcome.TheVariants.{Done}
 use Rattle.dt_calls.specs.declared.numbers.TheConstants.{RUSAGE_SIZE}
 use Rattle.dt_calls.specs.declared.shared.Shared.{Shared}
 use Rattle.dt_calls.specs.InCode.{shared_of}
 use Rattle.dt_calls.specs.Sound.{hand, Keeps}
-use Rattle.dt_calls.specs.Wait.{takes, with_bytes, status_bytes, usage_bytes}
-use Rattle.dt_calls.proofs.Done.{effect-is, reaps-done, takes-second}
+use Rattle.dt_calls.specs.Wait.{status_bytes, usage_bytes}
+use Rattle.dt_calls.proofs.Done.{effect-is, reaps-done}
 use Rattle.dt_calls.proofs.Held.{keeps-reaped}
 use Rattle.dt_calls.proofs.call.wait.reap.Goals as goal
 
-pub give-requires-2 : goal.give-requires-2
-give-requires-2 g c =
-    let both : (takes c.args.machine.now.space (register c.args.machine.now A1) 4 && takes c.args.machine.now.space (register c.args.machine.now A3) RUSAGE_SIZE) ≡ true = search rules in
+pub fill_unless_null-requires-2 : goal.fill_unless_null-requires-2
+fill_unless_null-requires-2 g c =
     let m = c.args.machine.now in
-    let after = takes-second m.space (register m A1) (register m A3) c.to_le_bytes.result both in
-    let space : c.give.new.space ≡ with_bytes m.space (register m A1) c.to_le_bytes.result = c.give.ensures ∙ ap (λ a. with_bytes m.space a c.to_le_bytes.result) c.reg-status.ensures in
-    subst (λ u. takes c.give.new.space u RUSAGE_SIZE ≡ true) (sym c.reg-usage.ensures) (subst (λ s. takes s (register m A3) RUSAGE_SIZE ≡ true) (sym space) after)
+    let both : (may_fill m.space (register m A1) 4 && may_fill m.space (register m A3) RUSAGE_SIZE) ≡ true = search rules in
+    let may = (and_parts (may_fill m.space (register m A1) 4) (may_fill m.space (register m A3) RUSAGE_SIZE) both).1 in
+    subst (λ u. may_fill c.fill_unless_null.new.space u RUSAGE_SIZE ≡ true) (sym c.reg-usage.ensures) (c.fill_unless_null.ensures.kept _ _ may)
 
 pub returns : goal.returns
 returns g c =
@@ -33,7 +34,7 @@ returns g c =
     let m = c.args.machine.now in
     let world = g.H.Host.view c.args.host.now in
     let after = g.H.Host.view c.wait_for.new.host in
-    let both : (takes m.space (register m A1) 4 && takes m.space (register m A3) RUSAGE_SIZE) ≡ true = search rules in
+    let both : (may_fill m.space (register m A1) 4 && may_fill m.space (register m A3) RUSAGE_SIZE) ≡ true = search rules in
     let found : c.in_ok-wait_for.field-0 ≡ Got c.args.vpid c.args.end = c.in_ok-wait_for.ensures.found ∙ c.requires.found in
     let members : members_of c.wait_for.new.self ≡ without (members_of shared.pids) c.args.vpid = c.in_ok-wait_for.ensures.members ∙ ap (λ (r : Reaped). reaped (members_of shared.pids) r) found in
     let left : Shared = record shared { pids = c.wait_for.new.self } in
@@ -41,9 +42,9 @@ returns g c =
     let tree : shared_of left world ≡ shared_of left after = λ i. record (shared_of left world) { tree = tree_of shared.fs.tree (sym only.forest i); pipes = pipes_at shared.fs.files (sym only.pipes i) } in
     let all = ap (λ (ms : List Member). record (shared_of shared world) { members = ms }) (sym members) in
     let kept = keeps-reaped shared own world c.requires.sound c.wait_for.new.self after own.caller.vpid c.args.which c.args.vpid c.args.end c.next-next.ensures.sound.rising c.requires.found only c.in_ok-wait_for.ensures.stands members c.in_ok-wait_for.ensures.next in
-    let first : c.give.new.space ≡ with_bytes m.space (register m A1) (status_bytes c.args.end) = search rules in
-    let both_written = with_bytes (with_bytes m.space (register m A1) (status_bytes c.args.end)) (register m A3) usage_bytes in
-    let second : c.give-2.new.space ≡ both_written = search rules in
+    let first : c.fill_unless_null.new.space ≡ with_filled m.space (register m A1) (status_bytes c.args.end) = search rules in
+    let both_written = with_filled (with_filled m.space (register m A1) (status_bytes c.args.end)) (register m A3) usage_bytes in
+    let second : c.fill_unless_null-2.new.space ≡ both_written = search rules in
     let machine : answered (record m { space = both_written }) c.args.vpid ≡ c.done.new.machine = search rules in
     record {
       served = reaps-done (shared_of shared world) own m (register m A1) (register m A3) c.args.vpid c.args.end both

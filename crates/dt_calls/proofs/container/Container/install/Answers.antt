@@ -1,9 +1,9 @@
 use Rattle.std.proofs.Common.{arith, ◌≡◌, ◌+◌, None, refl, sym, ap, subst, ◌∙◌}
-use Rattle.std.specs.Prelude.{Option, Result, Ok, Err, IsSome, IsErrAnd}
+use Rattle.std.specs.Prelude.{Option, IsSome}
 use Rattle.std.specs.Ordering.{nat_cmp}
 use Rattle.std.specs.FinMap.{FinMap, empty, get, insert}
-use Rattle.dt_host.specs.declared.error.HostErr.{HostErr}
 use Rattle.dt_host.specs.declared.error.HostErr.TheVariants.{Failed, NoMemory}
+use Rattle.dt_host.proofs.Asking.{passed_on}
 use Rattle.dt_procs.specs.declared.member.TheConstants.{FIRST_PID}
 use Rattle.dt_rv64.specs.declared.machine.Machine.{Machine}
 use Rattle.dt_calls.specs.Container.{first_shared}
@@ -11,11 +11,6 @@ use Rattle.dt_calls.specs.InCode.{home_of}
 use Rattle.dt_calls.proofs.Homes.{home-first}
 use Rattle.dt_calls.proofs.Settled.{paired-insert, paired-empty, place-here}
 use Rattle.dt_calls.proofs.container.Container.install.Goals as goal
-
--- want of memory is no failure of the host
-no_failure : {A : Type 0} (r : Result A HostErr) (e : HostErr) → IsErrAnd r (λ found. found ≡ e) → e ≡ NoMemory → r ≡ Err Failed → ⊥
-no_failure (Ok x) e is lacks failed = cc
-no_failure (Err found) e is lacks failed = cc
 
 pub counted-requires-clause-paired : goal.counted-requires-clause-paired
 counted-requires-clause-paired g c = λ q some.
@@ -45,7 +40,7 @@ pub returns-in_err-put-clause-cause : goal.returns-in_err-put-clause-cause
 returns-in_err-put-clause-cause g c =
     record {
       later = omega (arith, c.new.ensures.asks.cause.later, c.install.ensures.cause.later, c.new-2.ensures.cause.later);
-      rose = λ failed. absurd (no_failure c.from_residual-in_err-put.result _ c.from_residual-in_err-put.ensures.1 refl failed);
+      rose = λ failed. let memory : NoMemory ≡ Failed = passed_on _ _ _ c.from_residual-in_err-put.ensures.1 failed in cc;
     }
 
 pub returns-clause-cause : goal.returns-clause-cause

@@ -6,7 +6,7 @@ use Rattle.dt_calls.specs.Container.{with_process}
 use Rattle.dt_calls.specs.InCode.{ContainerView, entered, shared_of, effect_as, container_of, turned_as}
 use Rattle.dt_calls.specs.declared.container.Served.TheVariants.{Blocked, Moved, Unsupported}
 use Rattle.dt_calls.specs.Settle.{settled_by, all_ended, ends, ends_shown}
-use Rattle.dt_calls.specs.Sound.{IsPaired, with_own}
+use Rattle.dt_calls.specs.Sound.{IsPaired, with_part}
 use Rattle.dt_calls.proofs.Settled.{kept-view, goes_on-lives, settle-kept, paired-kept, sound-kept, settle-ended, parts-kept, part-here, child-kept}
 use Rattle.dt_calls.proofs.container.Container.settle.Goals as goal
 
@@ -104,7 +104,7 @@ returns-in_ok-enter-in-Unsupported-clause-sound g c =
 pub returns-in_ok-finish-in-Ends-clause-ok : goal.returns-in_ok-finish-in-Ends-clause-ok
 returns-in_ok-finish-in-Ends-clause-ok g c = λ m home.
     let w = g.H.Host.view c.args.host.now in
-    let put = c.put.ensures ∙ ap (λ (v : ContainerView). with_own v.shared c.args.own) c.self.view_is in
+    let put = c.put.ensures ∙ ap (λ (v : ContainerView). with_part v.shared c.args.own) c.self.view_is in
     let places = ap (λ (v : ContainerView). v.places) c.self.view_is in
     let p = c.args.own.caller.vpid in
     settle-ended c.args.self.now w c.args.next c.args.own m c.args.effect c.requires.number c.finish.new.self (g.H.Host.view c.finish.new.host) c.in-Ends.end c.in-Ends.is

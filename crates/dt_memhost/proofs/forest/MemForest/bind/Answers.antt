@@ -2,6 +2,7 @@ use Rattle.std.proofs.Common.{◌≡◌, ◌∷◌, [], ◌++◌, Option, None, 
 use Rattle.std.proofs.lemmas.Result.{on_ok_weaker, on_err_weaker}
 use Rattle.std.specs.Prelude.{IsSome, IfSome, OnOk, OnErr, Result, Ok, Err, option_map, option_and_then}
 use Rattle.std.specs.FinMap.{get, insert}
+use Rattle.dt_host.proofs.Outcomes.{on_both}
 use Rattle.dt_host.specs.World.{dir, dir_names, IsDir, entry}
 use Rattle.dt_memhost.specs.inner.Node.{node_in, order_in}
 use Rattle.dt_memhost.specs.inner.Forest.{Ordered, HasSizes, bound}
@@ -14,11 +15,7 @@ of_some : {X : Type 0} (found : Option X) (P : Type 0) → IsSome found → IfSo
 of_some None P some h = cc
 of_some (Some x) P some h = h
 
--- of two facts on one outcome
-on_ok_both : {A E : Type 0} {P Q R : Type 0} (r : Result A E) → (P → Q → R) → OnOk r P → OnOk r Q → OnOk r R
-on_ok_both (Ok a) f p q = f p q
-on_ok_both (Err e) f p q = tt
-
+-- of two facts on one error
 on_err_both : {A E : Type 0} {P Q R : Type 0} (r : Result A E) → (P → Q → R) → OnErr r P → OnErr r Q → OnErr r R
 on_err_both (Ok a) f p q = tt
 on_err_both (Err e) f p q = f p q
@@ -44,7 +41,7 @@ added c =
     let put = subst (λ name. IfSome (option_and_then dir_names (node_in old d)) (λ names. node_in c.bind.new.nodes d ≡ Some (dir (insert names name c.args.number)))) c.in_ok-name.ensures.items in
     let last = λ (h : IfSome (option_and_then dir_names (node_in old d)) (λ _. order_in c.bind.new.nodes d ≡ option_map (λ order. order ++ (c.in_ok-name.name.items, c.args.number) ∷ []) (order_in old d))).
     subst (λ name. order_in c.bind.new.nodes d ≡ option_map (λ order. order ++ (name, c.args.number) ∷ []) (order_in old d)) c.in_ok-name.ensures.items (of_some _ _ there h) in
-    on_ok_both c.bind.result (λ h k. entry_put old c.bind.new.nodes root d c.bind.ensures.others c.args.name.now c.args.number (is_dir c) (put h) (last k) c.bind.ensures.held) c.bind.ensures.ok c.bind.ensures.last
+    on_both c.bind.result (λ h k. entry_put old c.bind.new.nodes root d c.bind.ensures.others c.args.name.now c.args.number (is_dir c) (put h) (last k) c.bind.ensures.held) c.bind.ensures.ok c.bind.ensures.last
 
 -- nothing changed
 stays : (c : goal.After-bind) → OnErr c.bind.result (ordered_of c.bind.new.nodes c.self.inside.root ≡ ordered_of c.self.inside.nodes c.self.inside.root)

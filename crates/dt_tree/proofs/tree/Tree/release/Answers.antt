@@ -10,7 +10,7 @@ use Rattle.dt_tree.proofs.Mirroring.{live-inode}
 use Rattle.dt_tree.proofs.Changing.{IsTreeBut-released, shape-with_attributes}
 use Rattle.dt_tree.proofs.Calling.{released-is, IsTree-released}
 use Rattle.dt_tree.proofs.Linked.{mirrors-changed, tree-changed, holds-inode, has_inode-held}
-use Rattle.dt_tree.proofs.Outcomes.{on_ok, on_both}
+use Rattle.dt_host.proofs.Outcomes.{on_ok, on_both}
 use Rattle.dt_tree.proofs.tree.Tree.release.Goals as goal
 
 -- the tree with one hold fewer

@@ -8,7 +8,7 @@ use Rattle.dt_tree.specs.Calls.{KeepsHeld}
 use Rattle.dt_tree.specs.Table.{Table, shape_of, tree_of}
 use Rattle.dt_tree.proofs.Mirroring.{has_inode-dir}
 use Rattle.dt_tree.proofs.Moving.{if_found, is_from, is_first, found_first, once_first, is_second, free_second, live_second, is_third, shape_first, shape_second, shape_third, shape_fourth, sweeps, live_replaced, tree_last, IsTree-renamed, KeepsHeld-renamed}
-use Rattle.dt_tree.proofs.Outcomes.{on_ok, on_both}
+use Rattle.dt_host.proofs.Outcomes.{on_ok, on_both}
 use Rattle.dt_tree.proofs.tree.Tree.shift.Goals as goal
 
 -- a host that only told something is as before

@@ -1,7 +1,7 @@
 use Rattle.std.proofs.Common.{subst, ◌∙◌}
 use Rattle.std.specs.Prelude.{IsSome}
 use Rattle.dt_tree.proofs.Mirroring.{target_at-inode, has_inode-link}
-use Rattle.dt_tree.proofs.Outcomes.{same_ok}
+use Rattle.dt_host.proofs.Outcomes.{same_ok}
 use Rattle.dt_tree.proofs.tree.Tree.target.Goals as goal
 
 pub inode-requires : goal.inode-requires

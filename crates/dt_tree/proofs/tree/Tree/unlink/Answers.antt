@@ -8,7 +8,7 @@ use Rattle.dt_tree.specs.Table.{shape_of, tree_of}
 use Rattle.dt_tree.proofs.Mirroring.{has_inode-dir}
 use Rattle.dt_tree.proofs.Changing.{shape-with_attributes}
 use Rattle.dt_tree.proofs.Calling.{named_live, unlinked-is, IsTreeBut-unlinked, IsTree-unlinked, KeepsHeld-unlinked}
-use Rattle.dt_tree.proofs.Outcomes.{on_ok, on_both}
+use Rattle.dt_host.proofs.Outcomes.{on_ok, on_both}
 use Rattle.dt_tree.proofs.tree.Tree.unlink.Goals as goal
 
 pub stamp-requires : goal.stamp-requires
