@@ -72,7 +72,7 @@ class PrefixTest(unittest.TestCase):
                 self.assertEqual(end.size, length)
         self.assertIsNone(read(SMALL)[-1])
 
-    def test_the_place_of_a_cut_is_told(self) -> None:
+    def test_where_a_cut_is_is_told(self) -> None:
         places = [
             (b"", "before the first line"), (b"dettra", "in the first line"), (HEAD[:-1], "in the first line"),
             (HEAD, "behind the first line"), (HEAD + b"o", "in event 1"), (HEAD + b"out 1 3\n", "in event 1"),
@@ -87,7 +87,7 @@ class PrefixTest(unittest.TestCase):
                 rest = b"" if b"\nout 1 3\nabc" == text[-12:] else text[text.rfind(b"\n") + 1:]
                 self.assertEqual(read(text)[-1], Cut(len(text), where, rest))
 
-    def test_a_wrong_byte_behind_each_prefix_is_refused_at_its_place(self) -> None:
+    def test_a_wrong_byte_behind_each_prefix_is_refused_at_its_offset(self) -> None:
         inside = bytes_positions(SMALL)
         self.assertEqual(inside.count(True), 10)
         for length in range(len(SMALL) + 1):
@@ -124,7 +124,7 @@ class PrefixTest(unittest.TestCase):
                     self.assertEqual(outcome(text), expected)
 
 
-# Texts that are no reports: the place of the first wrong byte, what is expected there, and what is found.
+# Texts that are no reports: the offset of the first wrong byte, what is expected there, and what is found.
 NOT_REPORTS = [
     (b"{}", 1, 1, '"dettrace 1"', '"{"'),
     (b"dettrace: image refused: 1 NoIndex\n", 9, 1, '" 1"', '":"'),
@@ -169,7 +169,7 @@ NOT_REPORTS = [
     (TREE + BIN + b"exit 1 code 0\n", 51, 5, '"file" or "dir" or "link"', '"e"'),
     (TREE + BIN + b"dir 4 0755 0 /c\nlink 5 0 /d c\n", 67, 6, "nothing behind 2 lines of the tree", '"l"')]
 
-# The same of a line of a tree that follows the line of /bin: the place in that line alone.
+# The same of a line of a tree that follows the line of /bin: the offset in that line alone.
 NOT_LINES = [
     (b" dir 4 0755 0 /c\n", 1, '"file" or "dir" or "link"', "a space"),
     (b"fifo 4 0755 0 /c\n", 3, '"le"', '"f"'),
@@ -228,11 +228,11 @@ class RefusalTest(Case):
 
     def test_each_line_that_no_tree_has_is_refused(self) -> None:
         before = TREE + BIN
-        for line, place, expected, found in NOT_LINES:
+        for line, offset, expected, found in NOT_LINES:
             with self.subTest(line=line):
                 with self.assertRaises(NotReport) as caught:
                     read(before + line)
-                self.assertEqual(str(caught.exception), f"byte {len(before) + place}, line 5: not a report: "
+                self.assertEqual(str(caught.exception), f"byte {len(before) + offset}, line 5: not a report: "
                                                         f"expected {expected}, found {found}")
 
     def test_paths_come_in_the_byte_order_of_what_they_escape(self) -> None:
@@ -268,7 +268,7 @@ class RefusalTest(Case):
         self.assertIsNone(read(text)[-1])
         self.assertEqual(read(HEAD + b"out 2 " + highest + b"\nab")[-1], Cut(len(HEAD) + 29, "in event 1", b""))
 
-    def test_a_long_line_that_is_wrong_is_refused_at_its_place(self) -> None:
+    def test_a_long_line_that_is_wrong_is_refused_at_its_offset(self) -> None:
         text = TREE + b"link 4 0 /" + b"a" * 300000 + b" b"
         with self.assertRaises(NotReport) as caught:
             read(text + b" ")

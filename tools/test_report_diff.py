@@ -119,7 +119,7 @@ class WordsTest(Case):
                 line = f"equal, and neither run came to its end: the verdict is {told}\n"
                 self.assertEqual(run("diff", self.write("one", text), "-", given=text), (0, line.encode(), ""))
 
-    def test_reports_that_are_cut_at_one_place_are_equal_and_cut(self) -> None:
+    def test_reports_that_are_cut_at_one_offset_are_equal_and_cut(self) -> None:
         last = len(SMALL) - 1
         for length, where in [(0, "0 bytes, before the first line"), (1, "1 byte, in the first line"),
                               (22, "22 bytes, in event 1"), (last, f"{last} bytes, in tree line 5 of 5")]:
@@ -314,9 +314,9 @@ class HandMadeTest(Case):
         a = next(text for text in examples() if b"AT_RANDOM" in text)
         b = a.replace(b"0xf7 0x44", b"0xf7 0x45")
         lines = run("diff", self.write("one", a), self.write("two", b)).output.decode().split("\n")
-        place = a.index(b"0x44") + 4 - a.index(b"arguments 3")
+        offset = a.index(b"0x44") + 4 - a.index(b"arguments 3")
         self.assertEqual(lines[0], "event 1 differs: 631 bytes were written to standard output in both; "
-                                   f'byte {place} is the first that differs, "4" in A and "5" in B')
+                                   f'byte {offset} is the first that differs, "4" in A and "5" in B')
         self.assertEqual([line[:12] for line in lines if line[:1] in ("-", "+")][2:], ["-AT_RANDOM 0", "+AT_RANDOM 0"])
 
     def processes(self) -> bytes:
@@ -358,14 +358,14 @@ class ProgramTest(Case):
         one, two = (self.dettrace(seed, "examples/start", "--seed", seed, "--", "/start") for seed in ("1", "2"))
         self.assertEqual((one[0], two[0]), (0, 0))
         outputs = [run("output", name).output for _, name in (one, two)]
-        place = next(at for at, (first, second) in enumerate(zip(*outputs)) if first != second)
-        self.assertEqual(outputs[0][:place].rsplit(b"\n", 1)[1][:10], b"AT_RANDOM ")
+        offset = next(at for at, (first, second) in enumerate(zip(*outputs)) if first != second)
+        self.assertEqual(outputs[0][:offset].rsplit(b"\n", 1)[1][:10], b"AT_RANDOM ")
         result = run("diff", one[1], two[1])
         self.assertEqual((result.status, result.errors), (1, ""))
         sizes = [len(output) for output in outputs]
         written = f"event 1 differs: {sizes[0]} bytes were written to standard output in "
         written += "both; " if sizes[0] == sizes[1] else f"A, and {sizes[1]} in B; "
-        told = f"{written}byte {place + 1} is the first that differs"
+        told = f"{written}byte {offset + 1} is the first that differs"
         self.assertEqual(result.output.decode()[:len(told)], told)
 
 

@@ -99,7 +99,7 @@ def told_verdict(item: Verdict) -> str:
 
 
 def told_event(item: Optional[Item], letter: str) -> str:
-    """What stands at the place of an event; None where the report is cut in its line."""
+    """What stands where an event is due; None where the report is cut in its line."""
     if isinstance(item, Output):
         return f"{told_output(item)} in {letter}"
     if isinstance(item, Exit):

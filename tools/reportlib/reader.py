@@ -340,7 +340,7 @@ class Reader:
         return Cut(self.offset, self._where(), bytes(self.pending))
 
     def _whole_events(self, block: bytes, at: int) -> Tuple[List[Item], int]:
-        """The events that stand whole in the block, up to the first that does not, and the place behind them."""
+        """The events that stand whole in the block, up to the first that does not, and the offset behind them."""
         items: List[Item] = []
         match, limit = FAST_EVENT.match, len(block)
         found = match(block, at)
@@ -393,7 +393,7 @@ class Reader:
         return len(block)
 
     def _item(self, block: bytes, text: bytes, start: int) -> Optional[Item]:
-        """What a line is that begins at this place of the block, or before it; None if it is right but not whole."""
+        """What a line is that begins at this offset of the block, or before it; None if it is right but not whole."""
         try:
             return self._read(text)
         except Short:
@@ -450,7 +450,7 @@ class Reader:
                          f"expected {expected}, found {named(found)}")
 
     def _where(self) -> str:
-        """The place of the end, in words."""
+        """Where the end is, in words."""
         if self.phase is Phase.HEADER:
             return "in the first line" if self.pending else "before the first line"
         if self.phase is Phase.OUTPUT:

@@ -51,7 +51,8 @@ pub fn run_twice<
     requires same { T.told second.old.store ≡ S.told first.old.store }
     requires asked { AskTheSame (map string_bytes words.now) (map string_bytes other_words.now) }
 
-    // Where both statuses are decided they are equal. Words that are refused are refused again, unless memory is wanting.
+    // Where both statuses are decided they are equal. Words that are refused are refused again, unless memory is
+    // wanting.
     ensures status { IsTrue (is_decided result.0) → IsTrue (is_decided result.1) → result.0 ≡ result.1 }
     ensures refused { (result.0 ≡ WORDS_REFUSED → (result.1 ≡ WORDS_REFUSED) ⊎ (result.1 ≡ OUT_OF_MEMORY))
         × (result.1 ≡ WORDS_REFUSED → (result.0 ≡ WORDS_REFUSED) ⊎ (result.0 ≡ OUT_OF_MEMORY)) }

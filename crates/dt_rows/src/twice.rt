@@ -12,7 +12,8 @@ use std::test::Fail;
 
 type InMemory = Outside<MemStore, MemHost, MemSink, MemSink>;
 
-// A host that holds nothing, sinks, and a store that holds an image of one program, each with the choices of this stream.
+// A host that holds nothing, sinks, and a store that holds an image of one program, each with the choices of this
+// stream.
 fn outside(alloc: Global, stream: u64, index: &[u8], program: &[u8]) -> Result<InMemory, Fail>
     ensures start { IfOk result (λ met. IsEmptyStart met.host.view) }
     ensures files { IfOk result (λ met. met.store.files

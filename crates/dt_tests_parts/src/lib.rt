@@ -4,4 +4,6 @@
 #[cfg(test)]
 mod copies;
 #[cfg(test)]
+mod limits;
+#[cfg(test)]
 mod numbers;

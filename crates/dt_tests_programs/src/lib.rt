@@ -8,6 +8,8 @@ mod guests;
 #[cfg(test)]
 mod limits;
 #[cfg(test)]
+mod machines;
+#[cfg(test)]
 mod pages;
 #[cfg(test)]
 mod refusals;
