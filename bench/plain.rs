@@ -30,10 +30,10 @@ impl Space {
         self.pages.sort_by_key(|page| page.number);
     }
 
-    // The place of the page that has the address, where the page has the right. A search that ends where it finds the
+    // The index of the page that has the address, where the page has the right. A search that ends where it finds the
     // page is faster here than the standard library's.
     #[inline(always)]
-    fn place(&self, at: u64, right: u8) -> Option<usize> {
+    fn page_index(&self, at: u64, right: u8) -> Option<usize> {
         let number = at / PAGE_SIZE;
         let (mut low, mut high) = (0, self.pages.len());
         while low < high {
@@ -55,13 +55,13 @@ impl Space {
     fn load<const N: usize>(&self, at: u64, right: u8) -> Option<[u8; N]> {
         let offset = (at % PAGE_SIZE) as usize;
         if offset + N <= PAGE_SIZE as usize {
-            let place = self.place(at, right)?;
-            return self.pages[place].bytes[offset..offset + N].try_into().ok();
+            let page = self.page_index(at, right)?;
+            return self.pages[page].bytes[offset..offset + N].try_into().ok();
         }
         let mut bytes = [0; N];
         for (index, byte) in bytes.iter_mut().enumerate() {
             let at = at.wrapping_add(index as u64);
-            *byte = self.pages[self.place(at, right)?].bytes[(at % PAGE_SIZE) as usize];
+            *byte = self.pages[self.page_index(at, right)?].bytes[(at % PAGE_SIZE) as usize];
         }
         Some(bytes)
     }
@@ -69,17 +69,17 @@ impl Space {
     fn store<const N: usize>(&mut self, at: u64, bytes: [u8; N]) -> Option<()> {
         let offset = (at % PAGE_SIZE) as usize;
         if offset + N <= PAGE_SIZE as usize {
-            let place = self.place(at, WRITE)?;
-            self.pages[place].bytes[offset..offset + N].copy_from_slice(&bytes);
+            let page = self.page_index(at, WRITE)?;
+            self.pages[page].bytes[offset..offset + N].copy_from_slice(&bytes);
             return Some(());
         }
         for index in 0..N as u64 {
-            self.place(at.wrapping_add(index), WRITE)?;
+            self.page_index(at.wrapping_add(index), WRITE)?;
         }
         for (index, byte) in bytes.into_iter().enumerate() {
             let at = at.wrapping_add(index as u64);
-            let place = self.place(at, WRITE)?;
-            self.pages[place].bytes[(at % PAGE_SIZE) as usize] = byte;
+            let page = self.page_index(at, WRITE)?;
+            self.pages[page].bytes[(at % PAGE_SIZE) as usize] = byte;
         }
         Some(())
     }
@@ -315,8 +315,8 @@ const WORDS: [u32; 11] = [
 fn machine(pages: u64) -> Machine {
     let mut space = Space { pages: Vec::new() };
     space.map(CODE_PAGE, 1, READ | WRITE);
-    for (place, word) in WORDS.into_iter().enumerate() {
-        space.store(CODE_PAGE * PAGE_SIZE + 4 * place as u64, word.to_le_bytes()).expect("the page is there");
+    for (index, word) in WORDS.into_iter().enumerate() {
+        space.store(CODE_PAGE * PAGE_SIZE + 4 * index as u64, word.to_le_bytes()).expect("the page is there");
     }
     space.pages[0].rights = READ | EXECUTE;
     space.map(DATA_PAGE, pages, READ | WRITE);

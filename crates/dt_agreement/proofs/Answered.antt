@@ -45,10 +45,10 @@ unhosted-wanted (Some request) (Some files) = ap Some (unhosted-run request (ima
 
 pub same-wanted : (told other_told : Option Files) (words other : List (List ℕ)) → other_told ≡ told → AskTheSame words other → wanted other_told other ≡ wanted told words
 unfolding wanted
-same-wanted told other_told words other same asked =
+same-wanted told other_told words other same alike =
     ap (λ t. wanted_by (request_of other) t) same
     ∙ unhosted-wanted (request_of other) told
-    ∙ ap (λ request. wanted_by request told) (sym asked)
+    ∙ ap (λ request. wanted_by request told) (sym alike)
     ∙ sym (unhosted-wanted (request_of words) told)
 
 pub the : {X : Type 0} (found : Option X) → IsSome found → X

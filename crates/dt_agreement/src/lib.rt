@@ -49,7 +49,7 @@ pub fn run_twice<
     requires second { IsEmptyStart (I.view second.old.host) }
     requires known { IsSome (S.told first.old.store) }
     requires same { T.told second.old.store ≡ S.told first.old.store }
-    requires asked { AskTheSame (map string_bytes words.now) (map string_bytes other_words.now) }
+    requires request { AskTheSame (map string_bytes words.now) (map string_bytes other_words.now) }
 
     // Where both statuses are decided they are equal. Words that are refused are refused again, unless memory is
     // wanting.

@@ -6,7 +6,7 @@ use Rattle.std.proofs.lemmas.Bool.Decides.{nat_tests}
 use Rattle.dt_base.specs.declared.limits.TheConstants.{FILE_LIMIT}
 use Rattle.dt_base.specs.Fields.{little_endian, low_bytes, field_at}
 use Rattle.dt_asm.specs.Item.{GuestView}
-use Rattle.dt_asm.specs.Header.{file_header, program_header}
+use Rattle.dt_asm.specs.Header.{file_header, program_header_bytes}
 use Rattle.dt_asm.specs.File.{file_size, segment_header, IsFileOf}
 use Rattle.dt_asm.specs.Accepted.{IsRoom, IsAccepted}
 
@@ -22,9 +22,9 @@ read width at file prefix back e h =
 number_of : (n : ℕ) → n < 2 ^ 64 → little_endian (low_bytes 8 n) ≡ n
 number_of n h = omega arith
 
-module _ (flags filesz memsz : ℕ) (file back : List ℕ) (e : file ≡ (file_header ++ program_header flags filesz memsz) ++ back) (size : length file ≡ filesz) (h : 120 ≤ filesz) (few : filesz < 2 ^ 64) (room : IsRoom filesz memsz) where
-  field : (width at : ℕ) → at + width ≤ 120 → field_at width file at ≡ Some (little_endian (take width (drop at ((file_header ++ program_header flags filesz memsz) ++ back))))
-  field width at lt = read width at file (file_header ++ program_header flags filesz memsz) back e (omega arith)
+module _ (flags filesz memsz : ℕ) (file back : List ℕ) (e : file ≡ (file_header ++ program_header_bytes flags filesz memsz) ++ back) (size : length file ≡ filesz) (h : 120 ≤ filesz) (few : filesz < 2 ^ 64) (room : IsRoom filesz memsz) where
+  field : (width at : ℕ) → at + width ≤ 120 → field_at width file at ≡ Some (little_endian (take width (drop at ((file_header ++ program_header_bytes flags filesz memsz) ++ back))))
+  field width at lt = read width at file (file_header ++ program_header_bytes flags filesz memsz) back e (omega arith)
 
   memory_is : field_at 8 file 104 ≡ Some memsz
   memory_is = let below : memsz < 2 ^ 64 = let ends = room.ends in omega arith in field 8 104 (omega arith) ∙ ap Some (number_of memsz below)

@@ -14,7 +14,7 @@ use Rattle.dt_asm.specs.declared.error.AsmErr.TheVariants.{NoLabel, TwoLabels, F
 use Rattle.dt_asm.specs.inner.Sized.{IsSized, IsGrown}
 use Rattle.dt_asm.specs.Refusal.{is_lost, is_set_twice, any_out_of_reach, is_bad}
 use Rattle.dt_asm.specs.File.{Refuses}
-use Rattle.dt_asm.specs.Item.{total, Piece, pieces_from, pieces_of}
+use Rattle.dt_asm.specs.Item.{total_size, Piece, pieces_from, pieces_of}
 use Rattle.dt_asm.specs.Code.{IsWordOf, IsSpelled, Spells}
 use Rattle.dt_asm.specs.inner.Adding.{IsAdded, RefusesField}
 
@@ -48,7 +48,7 @@ is_word_of i w bytes e h decoded bare =
       bare = λ f. let same : Some w ≡ Some 0x0000000F = bare f in let w_is : w ≡ 0x0000000F = cc in number ∙ w_is;
     }
 
-total-append : (items more : List Item) → total (items ++ more) ≡ total items + total more
+total-append : (items more : List Item) → total_size (items ++ more) ≡ total_size items + total_size more
 total-append [] more = grind arith
 total-append (item ∷ items) more = let rest = total-append items more in omega arith
 
@@ -56,7 +56,7 @@ total-append (item ∷ items) more = let rest = total-append items more in omega
 pub sized_more : (items more : List Item) (all : List Item) (size grown : ℕ) → all ≡ items ++ more → IsSized items size → IsGrown size more grown → IsSized all grown
 sized_more items more all size grown e sized grew =
     record {
-      size_is = let sum = total-append items more in let same = ap total e in omega arith;
+      size_is = let sum = total-append items more in let same = ap total_size e in omega arith;
       few = grew.few;
     }
 

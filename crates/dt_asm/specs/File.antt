@@ -3,20 +3,20 @@ use Rattle.std.specs.Prelude.{◌≡◌, ℕ, ◌+◌, List, ◌++◌, length, t
 use Rattle.dt_asm.specs.declared.error.AsmErr.{AsmErr}
 use Rattle.dt_asm.specs.declared.error.AsmErr.TheVariants.{NoMemory}
 use Rattle.dt_asm.specs.declared.item.Item.{Item}
-use Rattle.dt_asm.specs.Item.{GuestView, total, pieces_of}
+use Rattle.dt_asm.specs.Item.{GuestView, total_size, pieces_of}
 use Rattle.dt_asm.specs.declared.headers.TheConstants.{HEADERS_SIZE}
-use Rattle.dt_asm.specs.Header.{file_header, program_header}
+use Rattle.dt_asm.specs.Header.{file_header, program_header_bytes}
 use Rattle.dt_asm.specs.Code.{Spells}
 use Rattle.dt_asm.specs.Refusal.{refusal_of}
 
 -- how many bytes a guest's file has
 abbrev pub file_size : List Item → ℕ
-file_size items = HEADERS_SIZE + total items
+file_size items = HEADERS_SIZE + total_size items
 
 -- the program header: the whole file is loaded, to be read and executed, and written too where the guest gave its memory a size
 abbrev pub segment_header : Option ℕ → ℕ → List ℕ
-segment_header None size = program_header 5 size size
-segment_header (Some memory) size = program_header 7 size (max size memory)
+segment_header None size = program_header_bytes 5 size size
+segment_header (Some memory) size = program_header_bytes 7 size (max size memory)
 
 -- the headers, and behind them the code
 pub record IsFileOf (guest : GuestView) (file : List ℕ) : Type 0 where

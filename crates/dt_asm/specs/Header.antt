@@ -18,10 +18,11 @@ offsets = low_bytes 8 0x10078 ++ low_bytes 8 64 ++ low_bytes 8 0
 abbrev pub sizes : List ℕ
 sizes = low_bytes 4 0 ++ low_bytes 2 64 ++ low_bytes 2 56 ++ low_bytes 2 1 ++ low_bytes 2 0 ++ low_bytes 2 0 ++ low_bytes 2 0
 
+-- the file header: its four parts in order
 abbrev pub file_header : List ℕ
 file_header = ident ++ kind ++ offsets ++ sizes
 
 -- p_type (PT_LOAD), p_flags, p_offset, p_vaddr, p_paddr, p_filesz, p_memsz and p_align
-abbrev pub program_header : ℕ → ℕ → ℕ → List ℕ
-program_header flags filesz memsz =
+abbrev pub program_header_bytes : ℕ → ℕ → ℕ → List ℕ
+program_header_bytes flags filesz memsz =
     low_bytes 4 1 ++ (low_bytes 4 flags ++ flat_map (low_bytes 8) (0 ∷ 0x10000 ∷ 0x10000 ∷ filesz ∷ memsz ∷ 4096 ∷ []))

@@ -15,17 +15,17 @@ abbrev pub with_items : GuestView → List Item → GuestView
 with_items guest more = record { items = guest.items ++ more; memory = guest.memory }
 
 -- how many bytes an item takes
-abbrev pub size_of : Item → ℕ
-size_of (Code i) = 4
-size_of (Branch funct3 rs1 rs2 label) = 4
-size_of (Jump label) = 4
-size_of (Bytes bytes) = length bytes
-size_of (Label label) = 0
+abbrev pub item_size : Item → ℕ
+item_size (Code i) = 4
+item_size (Branch funct3 rs1 rs2 label) = 4
+item_size (Jump label) = 4
+item_size (Bytes bytes) = length bytes
+item_size (Label label) = 0
 
 -- how many bytes items take
-abbrev pub total : List Item → ℕ
-total [] = 0
-total (item ∷ items) = size_of item + total items
+abbrev pub total_size : List Item → ℕ
+total_size [] = 0
+total_size (item ∷ items) = item_size item + total_size items
 
 -- the item sets a label
 abbrev pub sets : ℕ → Item → Bool
@@ -35,15 +35,15 @@ sets name _ = false
 -- the offset of the first of some items that sets a label, the first item standing at an offset
 abbrev pub offset_from : ℕ → List Item → ℕ → Option ℕ
 offset_from at [] name = None
-offset_from at (item ∷ items) name = if sets name item then Some at else offset_from (at + size_of item) items name
+offset_from at (item ∷ items) name = if sets name item then Some at else offset_from (at + item_size item) items name
 
 -- a label's offset: the sum of the sizes before it
-abbrev pub offset_of : List Item → ℕ → Option ℕ
-offset_of items name = offset_from 0 items name
+abbrev pub label_offset : List Item → ℕ → Option ℕ
+label_offset items name = offset_from 0 items name
 
 -- from an offset to a label's
 abbrev pub distance : List Item → ℕ → ℕ → ℤ
-distance items at name = pos (unwrap_or (offset_of items name) 0) -ℤ pos at
+distance items at name = pos (unwrap_or (label_offset items name) 0) -ℤ pos at
 
 -- the branch with a funct3
 abbrev pub branch_by : ℕ → ℕ → ℕ → ℤ → Instr
@@ -72,7 +72,7 @@ piece_of items at (Label label) = plain []
 -- items from an offset on, their labels resolved among all items
 abbrev pub pieces_from : List Item → ℕ → List Item → List Piece
 pieces_from items at [] = []
-pieces_from items at (item ∷ rest) = piece_of items at item ∷ pieces_from items (at + size_of item) rest
+pieces_from items at (item ∷ rest) = piece_of items at item ∷ pieces_from items (at + item_size item) rest
 
 -- all items, their labels resolved
 abbrev pub pieces_of : List Item → List Piece

@@ -8,7 +8,7 @@ use Rattle.dt_asm.specs.declared.error.AsmErr.TheVariants.{NoLabel, TwoLabels, F
 use Rattle.dt_asm.specs.declared.item.Item.{Item}
 use Rattle.dt_asm.specs.declared.item.Item.TheVariants.{Branch, Jump, Label}
 use Rattle.dt_asm.specs.Fits.{fits, is_b_immediate, is_j_immediate}
-use Rattle.dt_asm.specs.Item.{Piece, word, plain, size_of, total, offset_of, distance, pieces_of}
+use Rattle.dt_asm.specs.Item.{Piece, word, plain, item_size, total_size, label_offset, distance, pieces_of}
 
 -- its number, in the order in which they are looked for
 abbrev pub error_number : AsmErr → ℕ
@@ -21,13 +21,13 @@ error_number TooLong = 6
 
 -- the item uses a label that no item sets
 abbrev pub is_lost : List Item → Item → Bool
-is_lost items (Branch funct3 rs1 rs2 label) = is_none (offset_of items label)
-is_lost items (Jump label) = is_none (offset_of items label)
+is_lost items (Branch funct3 rs1 rs2 label) = is_none (label_offset items label)
+is_lost items (Jump label) = is_none (label_offset items label)
 is_lost items _ = false
 
 -- the item sets a label that one of these sets too
 abbrev pub is_set_in : List Item → Item → Bool
-is_set_in items (Label label) = is_some (offset_of items label)
+is_set_in items (Label label) = is_some (label_offset items label)
 is_set_in items _ = false
 
 -- two items set one label
@@ -44,7 +44,7 @@ is_out_of_reach items at _ = false
 -- one of the items from an offset on has its label outside of the range of its form
 abbrev pub any_out_of_reach : List Item → ℕ → List Item → Bool
 any_out_of_reach items at [] = false
-any_out_of_reach items at (item ∷ rest) = is_out_of_reach items at item || any_out_of_reach items (at + size_of item) rest
+any_out_of_reach items at (item ∷ rest) = is_out_of_reach items at item || any_out_of_reach items (at + item_size item) rest
 
 -- no word holds it
 abbrev pub is_bad : Piece → Bool
@@ -58,5 +58,5 @@ refusal_of items =
     else if is_set_twice items then Some TwoLabels
     else if any_out_of_reach items 0 items then Some Far
     else if list_any is_bad (pieces_of items) then Some BadField
-    else if nat_lt FILE_LIMIT (HEADERS_SIZE + total items) then Some TooLong
+    else if nat_lt FILE_LIMIT (HEADERS_SIZE + total_size items) then Some TooLong
     else None

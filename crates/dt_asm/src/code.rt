@@ -1,7 +1,7 @@
 // The code of a guest: its items in order, their labels resolved.
 ghost use Rattle.std.specs.Prelude.{◌≡◌, ◌<◌, ◌^◌, ℕ, false, true, IfOk, IfErr, OnOk, length};
 ghost use Rattle.std.specs.List.{list_any};
-ghost use Rattle.dt_asm.specs.Item.{total, pieces_of, piece_of, branch_by, word, size_of};
+ghost use Rattle.dt_asm.specs.Item.{total_size, pieces_of, piece_of, branch_by, word, item_size};
 ghost use Rattle.dt_asm.specs.Refusal.{is_bad};
 ghost use Rattle.dt_asm.specs.Code.{Spells};
 ghost use Rattle.dt_asm.specs.inner.Adding.{IsAdded, RefusesField};
@@ -15,9 +15,9 @@ use std::alloc::Global;
 
 /// The bytes of the items in order, with their labels resolved; `BadField` where no word holds one of the instructions.
 pub fn code_of(alloc: Global, items: &[Item]) -> Result<Vec<u8>, AsmErr>
-    requires { total items.now < 2 ^ 63 }
+    requires { total_size items.now < 2 ^ 63 }
     ensures spelled { IfOk result (λ code. Spells (pieces_of items.now) code.items) }
-    ensures size { IfOk result (λ code. length code.items ≡ total items.now) }
+    ensures size { IfOk result (λ code. length code.items ≡ total_size items.now) }
     ensures good { OnOk result (list_any is_bad (pieces_of items.now) ≡ false) }
     ensures refused { IfErr result (RefusesField (list_any is_bad (pieces_of items.now))) }
 {
@@ -32,7 +32,7 @@ pub fn code_of(alloc: Global, items: &[Item]) -> Result<Vec<u8>, AsmErr>
 
 // Adds the bytes of an item at an offset.
 fn add_item(code: &mut Vec<u8>, items: &[Item], at: u64, item: &Item) -> Result<(), AsmErr>
-    requires small { total items.now < 2 ^ 63 }
+    requires small { total_size items.now < 2 ^ 63 }
     requires inside { at < 2 ^ 63 }
     ensures added { OnOk result (IsAdded (piece_of items.now at item.now) code.old.items code.new.items) }
     ensures good { OnOk result (is_bad (piece_of items.now at item.now) ≡ false) }

@@ -2,7 +2,7 @@
 ghost use Rattle.std.specs.Prelude.{◌≡◌, ◌<◌, ◌+◌, ◌^◌, ◌∷◌, ◌++◌, [], map, IfOk, IfErr, IsOk, OnOk, OnErr, None, Some};
 ghost use Rattle.std.specs.Prelude.{pos};
 ghost use Rattle.dt_asm.specs.declared.item.Item.TheVariants.{Code, Branch, Jump, Bytes, Label};
-ghost use Rattle.dt_asm.specs.Item.{total, with_items};
+ghost use Rattle.dt_asm.specs.Item.{total_size, with_items};
 ghost use Rattle.dt_asm.specs.Refusal.{refusal_of};
 ghost use Rattle.dt_asm.specs.File.{IsFileOf, Refuses};
 ghost use Rattle.dt_asm.specs.Accepted.{IsAccepted};

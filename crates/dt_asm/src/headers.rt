@@ -1,7 +1,7 @@
 // The headers of a guest's file.
 ghost use Rattle.std.specs.Prelude.{◌≡◌, ◌++◌, ◌<◌, ◌^◌, IfOk, IfSome, OnOk, flat_map};
 ghost use Rattle.dt_base.specs.Fields.{low_bytes};
-ghost use Rattle.dt_asm.specs.Header.{file_header, program_header};
+ghost use Rattle.dt_asm.specs.Header.{file_header, program_header_bytes};
 ghost use Rattle.dt_asm.specs.File.{segment_header};
 
 use dt_base::NoMemory;
@@ -59,7 +59,7 @@ fn add_program_header(
     filesz: u64,
     memsz: u64,
 ) -> Result<(), NoMemory>
-    ensures { OnOk result (bytes.new.items ≡ bytes.old.items ++ program_header flags filesz memsz) }
+    ensures { OnOk result (bytes.new.items ≡ bytes.old.items ++ program_header_bytes flags filesz memsz) }
 {
     add_word(bytes, PT_LOAD)?;
     add_word(bytes, flags)?;

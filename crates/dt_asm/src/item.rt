@@ -1,6 +1,6 @@
 // What a guest is built of.
 ghost use Rattle.std.specs.Prelude.{◌≡◌};
-ghost use Rattle.dt_asm.specs.Item.{size_of};
+ghost use Rattle.dt_asm.specs.Item.{item_size};
 
 use dt_base::Blob;
 use dt_rv64::Instr;
@@ -28,7 +28,7 @@ pub enum Item {
 impl Item {
     /// How many bytes it takes: 4 for an instruction, none for a label.
     pub fn size(&self) -> u64
-        ensures { result ≡ size_of self.now }
+        ensures { result ≡ item_size self.now }
     {
         match self {
             Item::Code(_) | Item::Branch { .. } | Item::Jump(_) => 4,

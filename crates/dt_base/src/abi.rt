@@ -2,8 +2,6 @@
 ghost use Rattle.std.specs.Prelude.{◌≡◌};
 ghost use Rattle.dt_base.specs.Abi.{low_word, signed_word, byte_count, exit_code, has};
 
-use crate::TRANSFER_LIMIT;
-
 /// The register of the return address (RISC-V ELF psABI, "Integer Register Convention").
 pub const RA: u8 = 1;
 
@@ -31,199 +29,199 @@ pub const A5: u8 = 15;
 /// The register of a call's number, a7.
 pub const A7: u8 = 17;
 
-/// getcwd(2), by its number (asm-generic/unistd.h, as all numbers of calls here).
+/// getcwd(2), the path of the working directory, by its number (asm-generic/unistd.h, as all numbers of calls here).
 pub const GETCWD: u64 = 17;
 
-/// dup(2)
+/// dup(2): another descriptor of the same open file description, the lowest that is free.
 pub const DUP: u64 = 23;
 
-/// dup3(2)
+/// dup3(2): the same at a descriptor that is asked for.
 pub const DUP3: u64 = 24;
 
-/// fcntl(2)
+/// fcntl(2): duplicates a descriptor, tells flags or sets them.
 pub const FCNTL: u64 = 25;
 
-/// ioctl(2)
+/// ioctl(2): what a device can do.
 pub const IOCTL: u64 = 29;
 
-/// mkdirat(2)
+/// mkdirat(2): makes a directory.
 pub const MKDIRAT: u64 = 34;
 
-/// unlinkat(2)
+/// unlinkat(2): removes a name, or an empty directory.
 pub const UNLINKAT: u64 = 35;
 
-/// symlinkat(2)
+/// symlinkat(2): makes a symbolic link.
 pub const SYMLINKAT: u64 = 36;
 
-/// linkat(2)
+/// linkat(2): gives a file one more name.
 pub const LINKAT: u64 = 37;
 
-/// ftruncate(2)
+/// ftruncate(2): cuts an open file, or makes it longer.
 pub const FTRUNCATE: u64 = 46;
 
-/// faccessat(2)
+/// faccessat(2): whether a file may be read, written or executed.
 pub const FACCESSAT: u64 = 48;
 
-/// chdir(2)
+/// chdir(2): enters a directory.
 pub const CHDIR: u64 = 49;
 
-/// fchmodat(2)
+/// fchmodat(2): changes the permission bits of a file.
 pub const FCHMODAT: u64 = 53;
 
-/// openat(2)
+/// openat(2): opens a file, and may make it.
 pub const OPENAT: u64 = 56;
 
-/// close(2)
+/// close(2): lets a descriptor go.
 pub const CLOSE: u64 = 57;
 
-/// pipe2(2)
+/// pipe2(2): makes a pipe, with two descriptors.
 pub const PIPE2: u64 = 59;
 
-/// getdents64(2)
+/// getdents64(2): the next entries of a directory.
 pub const GETDENTS64: u64 = 61;
 
-/// lseek(2)
+/// lseek(2): sets where the next read or write goes on.
 pub const LSEEK: u64 = 62;
 
-/// read(2)
+/// read(2): reads into a buffer.
 pub const READ: u64 = 63;
 
-/// write(2)
+/// write(2): writes from a buffer.
 pub const WRITE: u64 = 64;
 
-/// readv(2)
+/// readv(2): reads into several buffers.
 pub const READV: u64 = 65;
 
-/// writev(2)
+/// writev(2): writes from several buffers.
 pub const WRITEV: u64 = 66;
 
-/// pread64(2)
+/// pread64(2): reads at an offset that is given.
 pub const PREAD64: u64 = 67;
 
-/// pwrite64(2)
+/// pwrite64(2): writes at an offset that is given.
 pub const PWRITE64: u64 = 68;
 
-/// readlinkat(2)
+/// readlinkat(2): the target of a symbolic link.
 pub const READLINKAT: u64 = 78;
 
-/// newfstatat(2)
+/// newfstatat(2): the status of a file, by its path.
 pub const NEWFSTATAT: u64 = 79;
 
-/// fstat(2)
+/// fstat(2): the status of an open file.
 pub const FSTAT: u64 = 80;
 
-/// exit(2)
+/// exit(2): ends the thread, here the process.
 pub const EXIT: u64 = 93;
 
-/// exit_group(2)
+/// exit_group(2): ends the process.
 pub const EXIT_GROUP: u64 = 94;
 
-/// set_tid_address(2)
+/// set_tid_address(2): where to clear a word at the end of the thread.
 pub const SET_TID_ADDRESS: u64 = 96;
 
-/// set_robust_list(2)
+/// set_robust_list(2): the list of locks to let go at the end of the thread.
 pub const SET_ROBUST_LIST: u64 = 99;
 
-/// nanosleep(2)
+/// nanosleep(2): sleeps for a time.
 pub const NANOSLEEP: u64 = 101;
 
-/// clock_gettime(2)
+/// clock_gettime(2): reads a clock.
 pub const CLOCK_GETTIME: u64 = 113;
 
-/// clock_nanosleep(2)
+/// clock_nanosleep(2): sleeps for a time, or until a time, of a clock.
 pub const CLOCK_NANOSLEEP: u64 = 115;
 
-/// sched_yield(2)
+/// sched_yield(2): lets other processes run first.
 pub const SCHED_YIELD: u64 = 124;
 
-/// kill(2)
+/// kill(2): sends a signal to a process.
 pub const KILL: u64 = 129;
 
-/// tkill(2)
+/// tkill(2): sends a signal to a thread.
 pub const TKILL: u64 = 130;
 
-/// tgkill(2)
+/// tgkill(2): sends a signal to a thread of a process.
 pub const TGKILL: u64 = 131;
 
-/// rt_sigaction(2)
+/// rt_sigaction(2): what a signal does.
 pub const RT_SIGACTION: u64 = 134;
 
-/// rt_sigprocmask(2)
+/// rt_sigprocmask(2): which signals are masked.
 pub const RT_SIGPROCMASK: u64 = 135;
 
-/// rt_sigreturn(2)
+/// rt_sigreturn(2): goes back from the handler of a signal.
 pub const RT_SIGRETURN: u64 = 139;
 
-/// uname(2)
+/// uname(2): the names of the system and of the machine.
 pub const UNAME: u64 = 160;
 
-/// umask(2)
+/// umask(2): which permission bits new files are not given.
 pub const UMASK: u64 = 166;
 
-/// gettimeofday(2)
+/// gettimeofday(2): wall time.
 pub const GETTIMEOFDAY: u64 = 169;
 
-/// getpid(2)
+/// getpid(2): the number of the process.
 pub const GETPID: u64 = 172;
 
-/// getppid(2)
+/// getppid(2): the number of its parent.
 pub const GETPPID: u64 = 173;
 
-/// getuid(2)
+/// getuid(2): the user of the process.
 pub const GETUID: u64 = 174;
 
-/// geteuid(2)
+/// geteuid(2): the user whose rights it has.
 pub const GETEUID: u64 = 175;
 
-/// getgid(2)
+/// getgid(2): the group of the process.
 pub const GETGID: u64 = 176;
 
-/// getegid(2)
+/// getegid(2): the group whose rights it has.
 pub const GETEGID: u64 = 177;
 
-/// gettid(2)
+/// gettid(2): the number of the thread.
 pub const GETTID: u64 = 178;
 
-/// brk(2)
+/// brk(2): moves the end of the heap.
 pub const BRK: u64 = 214;
 
-/// munmap(2)
+/// munmap(2): lets pages go.
 pub const MUNMAP: u64 = 215;
 
-/// mremap(2)
+/// mremap(2): moves a mapping, or makes it longer or shorter.
 pub const MREMAP: u64 = 216;
 
-/// clone(2)
+/// clone(2): makes a process.
 pub const CLONE: u64 = 220;
 
-/// execve(2)
+/// execve(2): starts another program in the process.
 pub const EXECVE: u64 = 221;
 
-/// mmap(2)
+/// mmap(2): maps pages.
 pub const MMAP: u64 = 222;
 
-/// mprotect(2)
+/// mprotect(2): sets the rights of pages.
 pub const MPROTECT: u64 = 226;
 
-/// madvise(2)
+/// madvise(2): says how pages will be used.
 pub const MADVISE: u64 = 233;
 
-/// wait4(2)
+/// wait4(2): waits for a child that ends.
 pub const WAIT4: u64 = 260;
 
-/// prlimit64(2)
+/// prlimit64(2): tells limits of resources, and sets them.
 pub const PRLIMIT64: u64 = 261;
 
-/// renameat2(2)
+/// renameat2(2): gives a file another name.
 pub const RENAMEAT2: u64 = 276;
 
-/// getrandom(2)
+/// getrandom(2): random bytes.
 pub const GETRANDOM: u64 = 278;
 
-/// statx(2)
+/// statx(2): the status of a file, in a form that may grow.
 pub const STATX: u64 = 291;
 
-/// rseq(2)
+/// rseq(2): sections that are restarted where they are interrupted.
 pub const RSEQ: u64 = 293;
 
 /// All rights that a page may be asked for: PROT_READ, PROT_WRITE and PROT_EXEC (mmap(2)).
@@ -232,7 +230,7 @@ pub const PROT_ALL: u32 = 7;
 /// A mapping of this process alone (mmap(2), asm-generic/mman-common.h and mman.h, as all flags of mappings here).
 pub const MAP_PRIVATE: u64 = 0x2;
 
-/// The mapping stands at the address that is asked for, in the place of what is there.
+/// The mapping stands at the address that is asked for, instead of what is there.
 pub const MAP_FIXED: u64 = 0x10;
 
 /// The mapping is of zeros, and of no file.
@@ -315,11 +313,19 @@ pub const SEEK_CUR: u32 = 1;
 /// It counts from the end of the file.
 pub const SEEK_END: u32 = 2;
 
+/// How many bytes one call moves at most (read(2); MAX_RW_COUNT of linux/fs.h).
+pub const TRANSFER_LIMIT: u64 = 0x7fff_f000;
+
 /// How many buffers a call may name (readv(2), IOV_MAX).
 pub const IOV_MAX: u32 = 1024;
 
 /// The dirfd that stands for the working directory (openat(2)).
 pub const AT_FDCWD: i32 = -100;
+
+/// The same dirfd as an argument of a call, of which 32 bits are read.
+pub const CWD_DIRFD: u64 = 0xffff_ff9c;
+
+const _: () = prove!(CWD_DIRFD as i64 - 0x1_0000_0000 == AT_FDCWD as i64);
 
 /// A link that is the last name is not followed (fcntl.h, as all flags that begin with AT).
 pub const AT_SYMLINK_NOFOLLOW: u32 = 0x100;
@@ -353,6 +359,12 @@ pub const CLONE_CHILD_CLEARTID: u64 = 0x20_0000;
 
 /// The child's pid goes to an address in the child (clone(2)).
 pub const CLONE_CHILD_SETTID: u64 = 0x100_0000;
+
+/// The greatest pid: as a signed number of 32 bits it is the last that is not below 0.
+pub const GREATEST_PID: u32 = 0x7fff_ffff;
+
+/// The pid -1, as 32 bits: any child is waited for (wait4(2)).
+pub const ANY_CHILD: u32 = 0xffff_ffff;
 
 /// wait4 answers 0 where no child has ended (wait4(2)).
 pub const WNOHANG: u32 = 1;

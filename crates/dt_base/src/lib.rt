@@ -26,7 +26,7 @@ pub use image::{Entry, Image, What};
 pub use limits::{
     ADDRESS_LIMIT, ARGUMENT_LIMIT, ENTRY_LIMIT, FILE_LIMIT, INDEX_LIMIT, LINK_MODE, MMAP_START,
     MODE_LIMIT, NAME_LIMIT, OFFSET_LIMIT, PAGE_LIMIT, PAGE_SIZE, PATH_LIMIT, PIPE_BUF, PIPE_LIMIT,
-    SEGMENT_LIMIT, TRANSFER_LIMIT,
+    SEGMENT_LIMIT,
 };
 pub use memory::NoMemory;
 pub use path::{begins_with_slash, has_no_nul, is_name, is_path, is_top};

@@ -44,9 +44,6 @@ pub const NAME_LIMIT: u64 = 255;
 /// Arguments and environment together: the sum of each word's length and 9.
 pub const ARGUMENT_LIMIT: u64 = 131_072;
 
-/// Bytes that one call moves at most (Linux's MAX_RW_COUNT).
-pub const TRANSFER_LIMIT: u64 = 0x7fff_f000;
-
 /// The greatest mode: the set-user-id, set-group-id and sticky bits, and nine permission bits (inode(7)).
 pub const MODE_LIMIT: u32 = 0o7777;
 

@@ -1,7 +1,6 @@
 -- A stop that was served, and the delivery after it.
 use Rattle.std.proofs.Common.{◌≡◌, ℕ, Option, None, sym, ap, subst, ◌∙◌}
 use Rattle.std.specs.Prelude.{Ok}
-use Rattle.std.specs.FinMap.{insert}
 use Rattle.dt_host.specs.World.{World}
 use Rattle.dt_rv64.specs.declared.machine.Machine.{Machine}
 use Rattle.dt_calls.specs.declared.call.effect.Effect.{Effect as EffectInCode}
@@ -12,7 +11,7 @@ use Rattle.dt_calls.specs.Container.{Signals, signals_in}
 use Rattle.dt_calls.specs.Delivery.{after_delivery, delivery_to, standing}
 use Rattle.dt_calls.specs.Effect.{Effect}
 use Rattle.dt_calls.specs.InCode.{DeliversAt, shared_of}
-use Rattle.dt_calls.specs.Sound.{Hand, hand, Keeps, Serves, StillSignalled}
+use Rattle.dt_calls.specs.Sound.{Hand, hand, LeavesSound, Serves, StillSignalled}
 use Rattle.dt_calls.proofs.Held.{keeps-done, keeps-then}
 use Rattle.dt_calls.proofs.Signalled.{still-insert}
 
@@ -27,8 +26,8 @@ unfolding after_delivery
 serves-delivered defined forced old c own w m e signals new n outcome before now serves d done is =
     let after = delivery_to forced (standing (signals_in c.signals own.caller.vpid) own m e.outcome) in
     let still : StillSignalled c.signals signals = subst (StillSignalled c.signals) (sym d.signals) (still-insert c.signals own.caller.vpid after.signals) in
-    let then : Keeps (hand c own w) (hand (record c { signals = signals }) new w) None =
-    subst (λ (p : Process). Keeps (hand c own w) (hand (record c { signals = signals }) p w) None) (sym is) (keeps-done c own w serves.kept.sound done signals still) in
+    let then : LeavesSound (hand c own w) (hand (record c { signals = signals }) new w) None =
+    subst (λ (p : Process). LeavesSound (hand c own w) (hand (record c { signals = signals }) p w) None) (sym is) (keeps-done c own w serves.kept.sound done signals still) in
     record {
       served = ap (after_delivery forced) serves.served ∙ (λ i. record {
         shared = record (shared_of c w) { signals = sym d.signals i };

@@ -1,12 +1,10 @@
 -- What a call that is done leaves, by its parts.
-use Rattle.std.proofs.Common.{◌≡◌, ◌&&◌, ◌||◌, ◌==◌, ℕ, not, cond, Bool, true, false, List, [], Option, refl, sym, ap, ◌∙◌}
-use Rattle.std.specs.Prelude.{is_ok}
-use Rattle.std.proofs.lemmas.Bool.{and_parts}
+use Rattle.std.proofs.Common.{◌≡◌, ◌&&◌, ℕ, not, cond, Bool, true, false, List, [], Option, refl, sym, ap, ◌∙◌}
 use Rattle.dt_base.specs.declared.abi.TheConstants.{A0}
 use Rattle.dt_base.specs.declared.errno.Errno.TheVariants.{Fault as BadAddress}
 use Rattle.dt_base.specs.declared.event.End.{End}
 use Rattle.dt_base.specs.declared.event.Event.{Event}
-use Rattle.dt_procs.specs.Members.{is_full, without}
+use Rattle.dt_procs.specs.Members.{is_full, without_member}
 use Rattle.dt_rv64.specs.declared.machine.Machine.{Machine}
 use Rattle.dt_rv64.specs.Effects.{register}
 use Rattle.dt_space.specs.Argument.{may_fill, with_filled}
@@ -41,6 +39,6 @@ unfolding clone_call
 clone_call-made c next own m supported room = pick (is_supported (register m A0)) (is_full c.members) _ _ (cloned c next own m) supported room
 
 -- a zombie is reaped where its status and the use of resources can be written
-pub reaps-done : (c : Shared) (own : Process) (m : Machine) (status usage vpid : ℕ) (end : End) → (may_fill m.space status 4 && may_fill m.space usage RUSAGE_SIZE) ≡ true → reaps c own m status usage vpid end ≡ done (record c { members = without c.members vpid }) own (record m { space = with_filled (with_filled m.space status (status_bytes end)) usage usage_bytes }) vpid
+pub reaps-done : (c : Shared) (own : Process) (m : Machine) (status usage vpid : ℕ) (end : End) → (may_fill m.space status 4 && may_fill m.space usage RUSAGE_SIZE) ≡ true → reaps c own m status usage vpid end ≡ done (record c { members = without_member c.members vpid }) own (record m { space = with_filled (with_filled m.space status (status_bytes end)) usage usage_bytes }) vpid
 reaps-done c own m status usage vpid end is =
-    ap (λ b. cond b (done (record c { members = without c.members vpid }) own (record m { space = with_filled (with_filled m.space status (status_bytes end)) usage usage_bytes }) vpid) (refused c own m BadAddress)) is
+    ap (λ b. cond b (done (record c { members = without_member c.members vpid }) own (record m { space = with_filled (with_filled m.space status (status_bytes end)) usage usage_bytes }) vpid) (refused c own m BadAddress)) is

@@ -8,7 +8,7 @@ use Rattle.std.specs.FinMap.{get, remove, nat_cmp-IsAntisymmetric}
 use Rattle.dt_base.specs.declared.event.End.{End}
 use Rattle.dt_base.specs.declared.event.End.TheVariants.{Signal}
 use Rattle.dt_fds.specs.declared.files.Files.{Files}
-use Rattle.dt_fds.specs.Backs.{AllIn, IsBacked, IsPiped, KeepsOthers as KeepsHolds, at, holding, descriptions_of}
+use Rattle.dt_fds.specs.Backs.{AllIn, IsBacked, IsPiped, KeepsOthers as KeepsHolds, at, holding_at, descriptions_of}
 use Rattle.dt_host.specs.Total.{weight}
 use Rattle.dt_host.specs.World.{World, IsDir}
 use Rattle.dt_host.proofs.Maps.{get-remove_same, get-remove_other}
@@ -68,7 +68,7 @@ lives-ended p end q [] apart = refl
 lives-ended p end q (m ∷ ms) apart = (λ i. live-ended p end q m apart i || lives-ended p end q ms apart i)
 
 module _ (c left new : SharedInCode) (w u v : World) (p : ℕ) (own : Process) (end : End) (sound : IsSound c w) (here : get c.processes p ≡ Some own)
-    (backed : IsBacked (at left.fs.files left.fs.tree u)) (others : KeepsHolds p (holding (at c.fs.files c.fs.tree w)) (holding (at left.fs.files left.fs.tree u))) where
+    (backed : IsBacked (at left.fs.files left.fs.tree u)) (others : KeepsHolds p (holding_at (at c.fs.files c.fs.tree w)) (holding_at (at left.fs.files left.fs.tree u))) where
   abbrev pub between : FileTree
   between = tree_of left.fs.tree u.forest
 

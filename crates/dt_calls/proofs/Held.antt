@@ -9,7 +9,7 @@ use Rattle.std.proofs.lemmas.Bool.Decides.{nat_tests}
 use Rattle.std.proofs.lemmas.List.Folds.{list_any-append, list_any_none}
 use Rattle.dt_base.specs.declared.caller.Caller.{Caller}
 use Rattle.dt_base.specs.declared.event.End.{End}
-use Rattle.dt_fds.specs.Backs.{AllIn, KeepsNodes, KeepsOthers as KeepsHolds, OnlyFiles, at, holding, IsBacked, IsPiped, descriptions_of}
+use Rattle.dt_fds.specs.Backs.{AllIn, KeepsNodes, KeepsOthers as KeepsHolds, OnlyFiles, at, holding_at, IsBacked, IsPiped, descriptions_of}
 use Rattle.dt_fds.specs.declared.files.Files.{Files}
 use Rattle.dt_host.specs.Total.{weight}
 use Rattle.dt_host.specs.World.{World, Forest, IsDir, OnlyPids}
@@ -18,7 +18,7 @@ use Rattle.dt_host.proofs.Spots.{IsLive-IsDir}
 use Rattle.dt_host.proofs.Totals.{total-insert, total-remove}
 use Rattle.dt_procs.specs.declared.member.Member.{Member}
 use Rattle.dt_procs.specs.declared.member.Reaped.TheVariants.{Got}
-use Rattle.dt_procs.specs.Members.{lives, is_live, has_pid, newborn, with_child, without, look_for}
+use Rattle.dt_procs.specs.Members.{lives, is_live, has_pid, newborn, with_child, without_member, look_for}
 use Rattle.dt_procs.proofs.Lowest.{lowest}
 use Rattle.dt_procs.proofs.Pairs.{AllPairs-head, AllPairs-tail}
 use Rattle.dt_procs.proofs.Standing.{Rises}
@@ -42,7 +42,7 @@ use Rattle.dt_calls.specs.declared.call.effect.Effect.{Effect as EffectInCode}
 use Rattle.dt_calls.specs.Effect.{Effect}
 use Rattle.dt_calls.specs.InCode.{shared_of, effect_as}
 use Rattle.dt_signals.specs.declared.signals.Sig.{Sig}
-use Rattle.dt_calls.specs.Sound.{Hand, hand, directories_of, with_part, IsSoundHand, Keeps, Serves, StillSignalled}
+use Rattle.dt_calls.specs.Sound.{Hand, hand, directories_of, with_part, IsSoundHand, LeavesSound, Serves, StillSignalled}
 use Rattle.dt_calls.proofs.Ended.{by_own}
 use Rattle.dt_calls.proofs.Signalled.{signal-here, sound-signals, still-insert}
 
@@ -107,7 +107,7 @@ module _ (c : Shared) (own : Process) (w : World) (sound : IsSoundHand (hand c o
   }
 
   -- nothing changes
-  pub keeps-same : Keeps (hand c own w) (hand c own w) None
+  pub keeps-same : LeavesSound (hand c own w) (hand c own w) None
   keeps-same = record { sound = sound; vpid = refl; parts = λ q there. there; next = refl; child = tt }
 
   module _ (fs : Fs) (new : Process) (v : World) (space pages : List PageView) (left : Sound (stage fs v new.caller pages)) (others : KeepsOthers (scene (stage c.fs w own.caller space)) (scene (stage fs v new.caller pages))) (rest : OnlyFiles w v) where
@@ -153,12 +153,12 @@ module _ (c : Shared) (own : Process) (w : World) (sound : IsSoundHand (hand c o
           others.tables q (omega arith) ∙ sound.fresh q past;
     }
 
-    pub keeps-called : Keeps (hand c own w) (hand moved new v) None
+    pub keeps-called : LeavesSound (hand c own w) (hand moved new v) None
     keeps-called = record { sound = sound-called; vpid = others.vpid; parts = λ q there. there; next = refl; child = tt }
 
 module _ (c : Shared) (own : Process) (w : World) (sound : IsSoundHand (hand c own w)) where
   -- the break alone changes
-  pub keeps-break : (new : Process) → new.caller ≡ own.caller → Keeps (hand c own w) (hand c new w) None
+  pub keeps-break : (new : Process) → new.caller ≡ own.caller → LeavesSound (hand c own w) (hand c new w) None
   keeps-break new same =
       keeps-called c own w sound c.fs new w [] []
       (subst (λ (caller : Caller). Sound (stage c.fs w caller [])) (sym same) (sound-scene c own w sound []))
@@ -166,7 +166,7 @@ module _ (c : Shared) (own : Process) (w : World) (sound : IsSoundHand (hand c o
       refl
 
   -- the time alone changes
-  pub keeps-clock : (clock : ℕ) → Keeps (hand c own w) (hand (record c { fs = record c.fs { clock = clock } }) own w) None
+  pub keeps-clock : (clock : ℕ) → LeavesSound (hand c own w) (hand (record c { fs = record c.fs { clock = clock } }) own w) None
   keeps-clock clock =
       let fs : Fs = record c.fs { clock = clock } in
       let before = sound-scene c own w sound [] in
@@ -176,16 +176,16 @@ module _ (c : Shared) (own : Process) (w : World) (sound : IsSoundHand (hand c o
       refl
 
   -- the signal states alone change
-  pub keeps-signals : (signals : Signals) → StillSignalled c.signals signals → Keeps (hand c own w) (hand (record c { signals = signals }) own w) None
+  pub keeps-signals : (signals : Signals) → StillSignalled c.signals signals → LeavesSound (hand c own w) (hand (record c { signals = signals }) own w) None
   keeps-signals signals still = record { sound = sound-signals (with_part c own) signals w sound still; vpid = refl; parts = λ q there. there; next = refl; child = tt }
 
-  pub keeps-raised : (signals : Signals) (new : Shared) → new ≡ record c { signals = signals } → StillSignalled c.signals new.signals → Keeps (hand c own w) (hand new own w) None
+  pub keeps-raised : (signals : Signals) (new : Shared) → new ≡ record c { signals = signals } → StillSignalled c.signals new.signals → LeavesSound (hand c own w) (hand new own w) None
   keeps-raised signals new is still =
-      subst (λ (s : Shared). Keeps (hand c own w) (hand s own w) None) (sym is)
+      subst (λ (s : Shared). LeavesSound (hand c own w) (hand s own w) None) (sym is)
       (keeps-signals signals (subst (StillSignalled c.signals) (ap (λ (s : Shared). s.signals) is) still))
 
   -- the signal states change, and how many bytes the process's call has moved
-  pub keeps-done : (done : ℕ) (signals : Signals) → StillSignalled c.signals signals → Keeps (hand c own w) (hand (record c { signals = signals }) (record own { caller = record own.caller { done = done } }) w) None
+  pub keeps-done : (done : ℕ) (signals : Signals) → StillSignalled c.signals signals → LeavesSound (hand c own w) (hand (record c { signals = signals }) (record own { caller = record own.caller { done = done } }) w) None
   keeps-done done signals still =
       let now : Process = record own { caller = record own.caller { done = done } } in
       let before = sound-scene c own w sound [] in
@@ -197,7 +197,7 @@ module _ (c : Shared) (own : Process) (w : World) (sound : IsSoundHand (hand c o
       record { sound = sound-signals (with_part c now) signals w kept.sound still; vpid = refl; parts = λ q there. there; next = refl; child = tt }
 
   -- open files are closed, and the process's break changes
-  pub keeps-closed : (files : Files) (tree : Table) (new : Process) (v : World) → new.caller ≡ own.caller → IsBacked (at files tree v) → KeepsHolds own.caller.vpid (holding (at c.fs.files c.fs.tree w)) (holding (at files tree v)) → OnlyFiles w v → Keeps (hand c own w) (hand (record c { fs = record c.fs { tree = tree; files = files } }) new v) None
+  pub keeps-closed : (files : Files) (tree : Table) (new : Process) (v : World) → new.caller ≡ own.caller → IsBacked (at files tree v) → KeepsHolds own.caller.vpid (holding_at (at c.fs.files c.fs.tree w)) (holding_at (at files tree v)) → OnlyFiles w v → LeavesSound (hand c own w) (hand (record c { fs = record c.fs { tree = tree; files = files } }) new v) None
   keeps-closed files tree new v same backed others rest =
       let fs : Fs = record c.fs { tree = tree; files = files } in
       keeps-called c own w sound fs new v [] []
@@ -210,7 +210,7 @@ module _ (c : Shared) (own : Process) (w : World) (sound : IsSoundHand (hand c o
   backed-sound = backed_sound c.fs w own.caller [] (sound-scene c own w sound [])
 
 -- what is kept by one step and then by another
-pub keeps-then : (old mid new : Hand) (made : Option Machine) → Keeps old mid made → Keeps mid new None → Keeps old new made
+pub keeps-then : (old mid new : Hand) (made : Option Machine) → LeavesSound old mid made → LeavesSound mid new None → LeavesSound old new made
 keeps-then old mid new made first then = record {
   sound = then.sound;
   vpid = then.vpid ∙ first.vpid;
@@ -308,7 +308,7 @@ module _ (c : Shared) (own : Process) (w : World) (sound : IsSoundHand (hand c o
     }
 
   -- a child is a process more
-  pub keeps-child : (new : Shared) (child : Process) (v : World) (m : Machine) → IsSoundHand (hand new own v) → new.pids.next ≡ c.pids.next + 1 → new.processes ≡ insert c.processes c.pids.next child → Keeps (hand c own w) (hand new own v) (Some m)
+  pub keeps-child : (new : Shared) (child : Process) (v : World) (m : Machine) → IsSoundHand (hand new own v) → new.pids.next ≡ c.pids.next + 1 → new.processes ≡ insert c.processes c.pids.next child → LeavesSound (hand c own w) (hand new own v) (Some m)
   keeps-child new child v m now next processes = record {
     sound = now;
     vpid = refl;
@@ -340,20 +340,20 @@ or-then : (b x y : Bool) → (x ≡ true → y ≡ true) → (b || x) ≡ true �
 or-then true x y then is = refl
 or-then false x y then is = then is
 
-lives-without : (members : List Member) (vpid p : ℕ) → p ≢ vpid → lives members p ≡ true → lives (without members vpid) p ≡ true
+lives-without : (members : List Member) (vpid p : ℕ) → p ≢ vpid → lives members p ≡ true → lives (without_member members vpid) p ≡ true
 lives-without [] vpid p apart is = is
 lives-without (x ∷ members) vpid p apart is =
-    let rest : lives members p ≡ true → lives (without members vpid) p ≡ true = lives-without members vpid p apart in
-    elim (has_pid vpid x) as (λ b. has_pid vpid x ≡ b → lives (cond (not b) (x ∷ without members vpid) (without members vpid)) p ≡ true) [
+    let rest : lives members p ≡ true → lives (without_member members vpid) p ≡ true = lives-without members vpid p apart in
+    elim (has_pid vpid x) as (λ b. has_pid vpid x ≡ b → lives (cond (not b) (x ∷ without_member members vpid) (without_member members vpid)) p ≡ true) [
       | true ↦ λ here. rest (grind (arith, nat_tests))
-      | false ↦ λ here. or-then (is_live p x) (lives members p) (lives (without members vpid) p) rest is
+      | false ↦ λ here. or-then (is_live p x) (lives members p) (lives (without_member members vpid) p) rest is
     ] refl
 
 module _ (c : Shared) (own : Process) (w : World) (sound : IsSoundHand (hand c own w)) where
   abbrev living : Processes
   living = insert c.processes own.caller.vpid own
 
-  module _ (pids : procs.Table) (v : World) (parent : ℕ) (which : Option ℕ) (vpid : ℕ) (end : End) (rising : procs.IsRising (members_of c.pids)) (found : look_for (members_of c.pids) parent which ≡ Got vpid end) (only : OnlyPids w v) (stands : procs.Stands pids v.pids) (members : members_of pids ≡ without (members_of c.pids) vpid) (next : pids.next ≡ c.pids.next) where
+  module _ (pids : procs.Table) (v : World) (parent : ℕ) (which : Option ℕ) (vpid : ℕ) (end : End) (rising : procs.IsRising (members_of c.pids)) (found : look_for (members_of c.pids) parent which ≡ Got vpid end) (only : OnlyPids w v) (stands : procs.Stands pids v.pids) (members : members_of pids ≡ without_member (members_of c.pids) vpid) (next : pids.next ≡ c.pids.next) where
     zombie-dead : lives (members_of c.pids) vpid ≡ false
     zombie-dead =
         let z = lowest (members_of c.pids) parent which vpid end rising found in
@@ -379,7 +379,7 @@ module _ (c : Shared) (own : Process) (w : World) (sound : IsSoundHand (hand c o
       fresh = λ p past. sound.fresh p (omega arith);
     }
 
-    pub keeps-reaped : Keeps (hand c own w) (hand (record c { pids = pids }) own v) None
+    pub keeps-reaped : LeavesSound (hand c own w) (hand (record c { pids = pids }) own v) None
     keeps-reaped = record { sound = sound-reaped; vpid = refl; parts = λ q there. there; next = next; child = tt }
 
 module _ (defined : Effect) (c : Shared) (own : Process) (w : World) (machine : Machine) (e : EffectInCode) (count : ℕ) (sound : IsSoundHand (hand c own w)) (none : e.child ≡ None) where
@@ -387,7 +387,7 @@ module _ (defined : Effect) (c : Shared) (own : Process) (w : World) (machine : 
   pub serves-same : defined ≡ effect_as (shared_of c w) own machine e → Serves defined (hand c own w) (hand c own w) machine (Ok e) count count
   serves-same served = record {
     served = served;
-    kept = subst (Keeps (hand c own w) (hand c own w)) (sym none) (keeps-same c own w sound);
+    kept = subst (LeavesSound (hand c own w) (hand c own w)) (sym none) (keeps-same c own w sound);
     cause = record { later = omega arith; rose = λ failed. cc };
   }
 
@@ -395,7 +395,7 @@ module _ (defined : Effect) (c : Shared) (own : Process) (w : World) (machine : 
   pub serves-break : (new : Process) → new.caller ≡ own.caller → defined ≡ effect_as (shared_of c w) new machine e → Serves defined (hand c own w) (hand c new w) machine (Ok e) count count
   serves-break new same served = record {
     served = served;
-    kept = subst (Keeps (hand c own w) (hand c new w)) (sym none) (keeps-break c own w sound new same);
+    kept = subst (LeavesSound (hand c own w) (hand c new w)) (sym none) (keeps-break c own w sound new same);
     cause = record { later = omega arith; rose = λ failed. cc };
   }
 
@@ -403,7 +403,7 @@ module _ (defined : Effect) (c : Shared) (own : Process) (w : World) (machine : 
   serves-states : (signals : Signals) → StillSignalled c.signals signals → defined ≡ effect_as (shared_of (record c { signals = signals }) w) own machine e → Serves defined (hand c own w) (hand (record c { signals = signals }) own w) machine (Ok e) count count
   serves-states signals still served = record {
     served = served;
-    kept = subst (Keeps (hand c own w) (hand (record c { signals = signals }) own w)) (sym none) (keeps-signals c own w sound signals still);
+    kept = subst (LeavesSound (hand c own w) (hand (record c { signals = signals }) own w)) (sym none) (keeps-signals c own w sound signals still);
     cause = record { later = omega arith; rose = λ failed. cc };
   }
 
@@ -416,7 +416,7 @@ module _ (defined : Effect) (c : Shared) (own : Process) (w : World) (machine : 
   serves-clock : (clock : ℕ) → defined ≡ effect_as (shared_of (record c { fs = record c.fs { clock = clock } }) w) own machine e → Serves defined (hand c own w) (hand (record c { fs = record c.fs { clock = clock } }) own w) machine (Ok e) count count
   serves-clock clock served = record {
     served = served;
-    kept = subst (Keeps (hand c own w) (hand (record c { fs = record c.fs { clock = clock } }) own w)) (sym none) (keeps-clock c own w sound clock);
+    kept = subst (LeavesSound (hand c own w) (hand (record c { fs = record c.fs { clock = clock } }) own w)) (sym none) (keeps-clock c own w sound clock);
     cause = record { later = omega arith; rose = λ failed. cc };
   }
 

@@ -8,8 +8,8 @@ use Rattle.std.specs.FinMap.{FinMap, find, get, insert, remove, empty, entries, 
 use Rattle.dt_host.proofs.Maps.{at_remove, get-insert_other, get-remove_same, get-remove_other, insert_same}
 use Rattle.dt_rv64.specs.declared.machine.Machine.{Machine}
 use Rattle.dt_calls.specs.Container.{Machines}
-use Rattle.dt_calls.specs.InCode.{home_in, home_of, entered}
-use Rattle.dt_calls.specs.Settle.{with_own, with_child}
+use Rattle.dt_calls.specs.InCode.{home_in, home_of, with_child_place}
+use Rattle.dt_calls.specs.Settle.{with_own, with_child_machine}
 
 same : {X : Type 0} (m n : FinMap nat_cmp X) → ((q : ℕ) → get m q ≡ get n q) → m ≡ n
 same m n is = same_map nat_cmp_total nat_cmp-IsAntisymmetric m n is
@@ -97,7 +97,7 @@ pub home-there : (places : FinMap nat_cmp (Option Machine)) (p : ℕ) (place : O
 home-there places p place is = get-home_of places p ∙ ap option_flatten is
 
 -- a child's machine is at home
-pub home-entered : (places : FinMap nat_cmp (Option Machine)) (next : ℕ) (child : Option Machine) → home_of (entered places next child) ≡ with_child (home_of places) next child
+pub home-entered : (places : FinMap nat_cmp (Option Machine)) (next : ℕ) (child : Option Machine) → home_of (with_child_place places next child) ≡ with_child_machine (home_of places) next child
 home-entered places next None = refl
 home-entered places next (Some m) = home-given places next m
 

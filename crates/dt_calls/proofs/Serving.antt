@@ -10,12 +10,12 @@ use Rattle.dt_rv64.specs.declared.machine.Machine.{Machine}
 use Rattle.dt_rv64.specs.declared.segments.Stop.{Stop}
 use Rattle.dt_calls.specs.declared.shared.Process.{Process}
 use Rattle.dt_calls.specs.declared.shared.Shared.{Shared as SharedInCode}
-use Rattle.dt_calls.specs.Call.{served}
+use Rattle.dt_calls.specs.Call.{serve_stop}
 use Rattle.dt_calls.specs.Delivery.{after_delivery, forced_by}
 use Rattle.dt_calls.specs.Container.{Container, blank_process}
 use Rattle.dt_calls.specs.Effect.{Effect}
 use Rattle.dt_calls.specs.InCode.{ContainerView, home_of, shared_of, container_of}
-use Rattle.dt_calls.specs.Settle.{Settled, Turned, turned, settle, serve, serve_machine, all_ended, with_own, with_child, next_after}
+use Rattle.dt_calls.specs.Settle.{Settled, Turned, turned, settle, serve, serve_machine, all_ended, with_own, with_child_machine, next_after}
 use Rattle.dt_calls.specs.Sound.{IsSound, IsPaired, IsSoundContainer, with_part}
 use Rattle.dt_calls.proofs.Held.{keeps-break}
 use Rattle.dt_calls.specs.AtHome.{Places, Becomes}
@@ -29,7 +29,7 @@ turned-over c d p m s over same =
     (λ i. record {
       container = record {
         shared = s.shared;
-        machines = cond (all_ended p s.served) empty (with_child (own i) (same i) s.child);
+        machines = cond (all_ended p s.served) empty (with_child_machine (own i) (same i) s.child);
         next = next_after (same i) s.child;
         events = s.events;
       };
@@ -88,7 +88,7 @@ module _ (v s : ContainerView) (w : World) (p : ℕ) (own : Process) (sound : Is
 
     -- what serving and settling came to is what the definition says
     pub serve-done : (stop : Stop) (next q : ℕ) (did : Effect) (d : Container) (t : Turned) → next ≡ s.shared.pids.next → q ≡ own.caller.vpid
-        → after_delivery (forced_by stop) (served (shared_of s.shared w) s.shared.pids.next own was stop) ≡ did
+        → after_delivery (forced_by stop) (serve_stop (shared_of s.shared w) s.shared.pids.next own was stop) ≡ did
         → d.machines ≡ home_of places → d.next ≡ next
         → turned d q (settle next q did) ≡ t → serve (container_of v w) p stop ≡ Some t
     unfolding serve serve_machine
@@ -98,8 +98,8 @@ module _ (v s : ContainerView) (w : World) (p : ℕ) (own : Process) (sound : Is
         let given = number ∙ ap (λ (x : SharedInCode). x.pids.next) same_shared in
         let over : d.machines ≡ insert c.machines p now = machines ∙ ap home_of (becomes.rest ∙ ap (λ x. insert x p (Some now)) same_places) ∙ home-given v.places p now in
         ap (option_map (λ k. turned c p (serve_machine c.shared c.next p stop k))) was-home
-        ∙ ap Some (ap (λ found. turned c p (settle c.next p (after_delivery (forced_by stop) (served c.shared c.next (unwrap_or found (blank_process p)) was stop)))) here
-        ∙ ap (λ (x : SharedInCode). turned c p (settle c.next p (after_delivery (forced_by stop) (served (shared_of x w) x.pids.next own was stop)))) (sym same_shared)
+        ∙ ap Some (ap (λ found. turned c p (settle c.next p (after_delivery (forced_by stop) (serve_stop c.shared c.next (unwrap_or found (blank_process p)) was stop)))) here
+        ∙ ap (λ (x : SharedInCode). turned c p (settle c.next p (after_delivery (forced_by stop) (serve_stop (shared_of x w) x.pids.next own was stop)))) (sym same_shared)
         ∙ ap (λ e. turned c p (settle c.next p e)) did_as
         ∙ sym (turned-over c d p now (settle c.next p did) over (numbered ∙ given))
         ∙ (λ i. turned d (sym pid i) (settle (sym given i) (sym pid i) did))

@@ -16,10 +16,10 @@ use Rattle.dt_calls.specs.declared.shared.Shared.{Shared as SharedInCode}
 use Rattle.dt_calls.specs.Container.{Shared, Processes, with_process}
 use Rattle.dt_calls.specs.declared.call.effect.Effect.{Effect as EffectInCode}
 use Rattle.dt_calls.specs.declared.call.effect.Outcome.TheVariants.{Ends}
-use Rattle.dt_calls.specs.InCode.{ContainerView, home_of, entered, shared_of, container_of, effect_as, turned_as}
+use Rattle.dt_calls.specs.InCode.{ContainerView, home_of, with_child_place, shared_of, container_of, effect_as, turned_as}
 use Rattle.dt_calls.specs.Effect.{Effect}
 use Rattle.dt_calls.specs.Sound.{IsSound, IsPaired, IsSoundContainer, with_part}
-use Rattle.dt_calls.specs.Settle.{turned, settle, settled_by, ends, ends_shown, all_ended, goes_on, is_gone, with_child, next_after}
+use Rattle.dt_calls.specs.Settle.{turned, settle, settled_by, ends, ends_shown, all_ended, goes_on, is_gone, with_child_machine, next_after}
 use Rattle.dt_calls.proofs.Homes.{home-entered, home-given, home-gone, home-empty}
 
 abbrev Places : Type 0
@@ -28,11 +28,11 @@ Places = FinMap nat_cmp (Option Machine)
 -- a container in which a process keeps its machine, by the one that the code had in hand before
 pub kept-view : (inside now : ContainerView) (next : ℕ) (own : Process) (e : EffectInCode) (put : SharedInCode) (new : ContainerView)
     → inside ≡ now → put ≡ with_part inside.shared own
-    → new ≡ record { shared = put; places = entered inside.places next e.child; events = e.events.items }
-    → new ≡ record { shared = with_part now.shared own; places = entered now.places next e.child; events = e.events.items }
+    → new ≡ record { shared = put; places = with_child_place inside.places next e.child; events = e.events.items }
+    → new ≡ record { shared = with_part now.shared own; places = with_child_place now.places next e.child; events = e.events.items }
 kept-view inside now next own e put new is put_is new_is = new_is ∙ (λ i. record {
   shared = (put_is ∙ ap (λ (v : ContainerView). with_part v.shared own) is) i;
-  places = entered (ap (λ (v : ContainerView). v.places) is i) next e.child;
+  places = with_child_place (ap (λ (v : ContainerView). v.places) is i) next e.child;
   events = e.events.items;
 })
 
@@ -48,23 +48,23 @@ is_gone-first p next (Some m) = refl
 -- the turn of a process that keeps its machine
 pub turned-kept : (old c : Shared) (places : Places) (p next later : ℕ) (m : Machine) (child : Option Machine) (before events : List Event) (served : Served) → all_ended p served ≡ false → later ≡ next_after next child
     → turned (record { shared = old; machines = home_of places; next = next; events = before }) p (record { shared = c; own = Some m; child = child; events = events; served = served })
-    ≡ record { container = record { shared = c; machines = home_of (entered (insert places p (Some m)) next child); next = later; events = events }; served = served }
+    ≡ record { container = record { shared = c; machines = home_of (with_child_place (insert places p (Some m)) next child); next = later; events = events }; served = served }
 turned-kept old c places p next later m child before events served lives number =
-    let machines = ap (λ b. cond b empty (with_child (insert (home_of places) p m) next child)) lives
-    ∙ sym (home-entered (insert places p (Some m)) next child ∙ ap (λ ms. with_child ms next child) (home-given places p m)) in
+    let machines = ap (λ b. cond b empty (with_child_machine (insert (home_of places) p m) next child)) lives
+    ∙ sym (home-entered (insert places p (Some m)) next child ∙ ap (λ ms. with_child_machine ms next child) (home-given places p m)) in
     (λ i. record { container = record { shared = c; machines = machines i; next = sym number i; events = events }; served = served })
 
 -- the turn of a process that ends
-pub turned-ended : (old c : Shared) (places left : Places) (p next later : ℕ) (child : Option Machine) (before events : List Event) → left ≡ cond (p == FIRST_PID) empty (entered (remove places p) next child) → later ≡ next_after next child
+pub turned-ended : (old c : Shared) (places left : Places) (p next later : ℕ) (child : Option Machine) (before events : List Event) → left ≡ cond (p == FIRST_PID) empty (with_child_place (remove places p) next child) → later ≡ next_after next child
     → turned (record { shared = old; machines = home_of places; next = next; events = before }) p (record { shared = c; own = None; child = child; events = events; served = is_gone next child })
     ≡ record { container = record { shared = c; machines = home_of left; next = later; events = events }; served = is_gone next child }
 turned-ended old c places left p next later child before events is number =
-    let machines = ap (λ b. cond b empty (with_child (remove (home_of places) p) next child)) (is_gone-first p next child) ∙ by_first (p == FIRST_PID) ∙ ap home_of (sym is) in
+    let machines = ap (λ b. cond b empty (with_child_machine (remove (home_of places) p) next child)) (is_gone-first p next child) ∙ by_first (p == FIRST_PID) ∙ ap home_of (sym is) in
     (λ i. record { container = record { shared = c; machines = machines i; next = sym number i; events = events }; served = is_gone next child })
   where
-    by_first : (b : Bool) → cond b empty (with_child (remove (home_of places) p) next child) ≡ home_of (cond b empty (entered (remove places p) next child))
+    by_first : (b : Bool) → cond b empty (with_child_machine (remove (home_of places) p) next child) ≡ home_of (cond b empty (with_child_place (remove places p) next child))
     by_first true = sym home-empty
-    by_first false = sym (home-entered (remove places p) next child ∙ ap (λ ms. with_child ms next child) (home-gone places p))
+    by_first false = sym (home-entered (remove places p) next child ∙ ap (λ ms. with_child_machine ms next child) (home-gone places p))
 
 module _ (processes : Processes) where
   -- each place is one of these processes
@@ -76,7 +76,7 @@ module _ (processes : Processes) where
       at_insert nat_cmp_total nat_cmp-IsAntisymmetric (λ found. IsSome found → IsSome (get processes q)) places p place q
       (λ is some. subst (λ k. IsSome (get processes k)) (sym is) here) (λ apart. paired q)
 
-  pub paired-entered : (places : Places) (next : ℕ) (child : Option Machine) → Paired places → IfSome child (λ _. IsSome (get processes next)) → Paired (entered places next child)
+  pub paired-entered : (places : Places) (next : ℕ) (child : Option Machine) → Paired places → IfSome child (λ _. IsSome (get processes next)) → Paired (with_child_place places next child)
   paired-entered places next None paired here = paired
   paired-entered places next (Some m) paired here = paired-insert places next (Some m) paired here
 
@@ -113,7 +113,7 @@ child-kept (Some m) step holds = step holds
 abbrev pub kept : ContainerView → ℕ → Process → EffectInCode → ContainerView
 kept v next own e = record {
   shared = with_part v.shared own;
-  places = entered v.places next e.child;
+  places = with_child_place v.places next e.child;
   events = e.events.items;
 }
 
@@ -142,12 +142,12 @@ module _ (v : ContainerView) (w : World) (next : ℕ) (own : Process) (m : Machi
   settle-kept new served home is by lives =
       ap (turned (record (container_of v w) { next = next }) p) by
       ∙ turned-kept (shared_of v.shared w) (with_process (shared_of v.shared w) own) v.places p next v.shared.pids.next m e.child v.events e.events.items served lives number
-      ∙ ap (λ places. turned_as (container_of (record { shared = with_part v.shared own; places = entered places next e.child; events = e.events.items }) w) served) (put_back nat_cmp_total nat_cmp-IsAntisymmetric v.places p (Some m) home)
+      ∙ ap (λ places. turned_as (container_of (record { shared = with_part v.shared own; places = with_child_place places next e.child; events = e.events.items }) w) served) (put_back nat_cmp_total nat_cmp-IsAntisymmetric v.places p (Some m) home)
       ∙ ap (λ n. turned_as (container_of n w) served) (sym is)
 
   -- likewise where the process ended
   pub settle-ended : (new : ContainerView) (u : World) (end : End) → e.outcome ≡ Ends end → shared_of new.shared u ≡ ends p end (with_process (shared_of v.shared w) own) → new.events ≡ e.events.items ++ ends_shown p end (with_process (shared_of v.shared w) own)
-      → new.places ≡ cond (p == FIRST_PID) empty (entered (remove v.places p) next e.child) → new.shared.pids.next ≡ v.shared.pids.next
+      → new.places ≡ cond (p == FIRST_PID) empty (with_child_place (remove v.places p) next e.child) → new.shared.pids.next ≡ v.shared.pids.next
       → turned (record (container_of v w) { next = next }) p (settle next p did) ≡ turned_as (container_of new u) (is_gone next e.child)
   unfolding settle
   settle-ended new u end is shared events places same =

@@ -16,9 +16,9 @@ use Rattle.dt_calls.specs.Container.{Signals, raised_at, raised_in}
 use Rattle.dt_calls.specs.declared.call.effect.Effect.{Effect as EffectInCode}
 use Rattle.dt_calls.specs.declared.call.effect.Outcome.{Outcome}
 use Rattle.dt_calls.specs.declared.shared.Process.{Process}
-use Rattle.dt_calls.specs.Effect.{answers}
+use Rattle.dt_calls.specs.Effect.{effect_of_answer}
 use Rattle.dt_calls.specs.InCode.{SigreturnAt, CalledAt, effect_as}
-use Rattle.dt_calls.specs.SignalCalls.{AfterSigreturn, called}
+use Rattle.dt_calls.specs.SignalCalls.{AfterSigreturn, effect_of_signal_call}
 use Rattle.dt_calls.specs.Container as container
 use Rattle.dt_calls.specs.Sound.{IsSound, StillSignalled}
 
@@ -67,8 +67,8 @@ still-sigreturn b p before after new became d = subst (StillSignalled before) (s
 -- what it did is what the definition says, once its answer is given
 pub called-served : (r : Called) (c : container.Shared) (own : Process) (m mid new : Machine) (number : ℕ) (after : Signals) (given : Answer) (result : Result EffectInCode NoMemory)
     → CalledAt r own.caller.vpid c.signals after m mid given
-    → IfOk result (λ e. answers (record c { signals = after }) own mid number given ≡ effect_as (record c { signals = after }) own new e)
-    → IfOk result (λ e. called c own m number r ≡ effect_as (record c { signals = after }) own new e)
+    → IfOk result (λ e. effect_of_answer (record c { signals = after }) own mid number given ≡ effect_as (record c { signals = after }) own new e)
+    → IfOk result (λ e. effect_of_signal_call c own m number r ≡ effect_as (record c { signals = after }) own new e)
 called-served r c own m mid new number after given (Ok e) d is =
-    (λ i. answers (record c { signals = sym d.signals i }) own (sym d.machine i) number (sym d.answer i)) ∙ is
+    (λ i. effect_of_answer (record c { signals = sym d.signals i }) own (sym d.machine i) number (sym d.answer i)) ∙ is
 called-served r c own m mid new number after given (Err x) d is = is

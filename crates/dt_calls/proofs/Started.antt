@@ -7,7 +7,7 @@ use Rattle.std.specs.FinMap.{get, insert, empty, get-empty, same_map, nat_cmp-Is
 use Rattle.dt_base.specs.declared.image.Entry.{Entry}
 use Rattle.dt_fds.specs.declared.desc.Desc.{Desc}
 use Rattle.dt_fds.specs.declared.desc.DescKind.TheVariants.{Input, Stream}
-use Rattle.dt_fds.specs.Descriptions.{Descriptions, Table, none_open, opened_at, opened_lowest, first_desc, first_files, with_slot, with_new, lowest_free, table_of}
+use Rattle.dt_fds.specs.Descriptions.{Descriptions, none_open, opened_at, opened_lowest, first_desc, first_files, with_slot, with_new_description, lowest_free, table_at}
 use Rattle.dt_fds.specs.Backs.{AllIn, IsPiped, descriptions_of}
 use Rattle.dt_host.specs.Total.{weight}
 use Rattle.dt_host.specs.World.{World, Forest, Pipes, IsDir}
@@ -38,8 +38,8 @@ use Rattle.dt_calls.specs.Sound.{IsSound, directories_of}
 
 -- what one process opens is in no table of another
 tables-opened : (p q : ℕ) (desc : Desc) (f : Descriptions) → q ≢ p → (let new = opened_lowest p desc f in get new.tables q ≡ get f.tables q)
-unfolding opened_lowest with_slot with_new
-tables-opened p q desc f apart = by_free (lowest_free (table_of f p) 0)
+unfolding opened_lowest with_slot with_new_description
+tables-opened p q desc f apart = by_free (lowest_free (table_at f p) 0)
   where
     by_free : (free : Option ℕ) → (let new = opened_at f p desc free in get new.tables q ≡ get f.tables q)
     by_free None = refl

@@ -31,8 +31,8 @@ answers_zero number =
     (number == SCHED_YIELD) || (number == GETUID) || (number == GETEUID) || (number == GETGID) || (number == GETEGID)
 
 -- a call of one of these numbers is refused with ENOSYS, so that a C library goes another way
-abbrev pub is_missing : ℕ → Bool
-is_missing number =
+abbrev pub is_missing_call : ℕ → Bool
+is_missing_call number =
     (number == MREMAP) || (number == MADVISE) || (number == PRLIMIT64) || (number == STATX) || (number == RSEQ)
 
 -- the calls on signals; any other is one on files, time or random bytes
@@ -54,7 +54,7 @@ identity_call number c own m =
     else if number == SET_ROBUST_LIST then set_robust_list_call c own m
     else if number == UNAME then uname_call c own m
     else if answers_zero number then done c own m 0
-    else if is_missing number then refused c own m NoSys
+    else if is_missing_call number then refused c own m NoSys
     else signal_call number c own m
 
 -- the calls on memory; any other is one of those above
@@ -77,8 +77,8 @@ call_of number c next own m =
 
 -- a call is served by its number, and a counter is read; at the end of a slice the process goes on, and at a fault it stays
 -- for the delivery of the fault's signal
-unfoldable pub served : Shared → ℕ → Process → Machine → Stop → Effect
-served c next own m Call = call_of (register m A7) c next own m
-served c next own m (Counter rd) = reads_counter c own m rd
-served c next own m (Fault signal) = quiet c own m Done
-served c next own m Slice = quiet c own m Done
+unfoldable pub serve_stop : Shared → ℕ → Process → Machine → Stop → Effect
+serve_stop c next own m Call = call_of (register m A7) c next own m
+serve_stop c next own m (Counter rd) = reads_counter c own m rd
+serve_stop c next own m (Fault signal) = quiet c own m Done
+serve_stop c next own m Slice = quiet c own m Done

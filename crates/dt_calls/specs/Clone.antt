@@ -3,6 +3,7 @@ use Rattle.std.specs.Prelude.{ℕ, ◌==◌, ◌&&◌, not, Bool, bit_and, bit_o
 use Rattle.std.specs.FinMap.{insert}
 use Rattle.dt_base.specs.declared.abi.TheConstants.{A0, A1, A2, A4, SP, CLONE, CSIGNAL, CLONE_PARENT_SETTID, CLONE_CHILD_CLEARTID, CLONE_CHILD_SETTID, SIGCHLD}
 use Rattle.dt_base.specs.declared.errno.Errno.TheVariants.{Again}
+use Rattle.dt_base.specs.Abi.{has}
 use Rattle.dt_base.specs.Fields.{low_bytes}
 use Rattle.dt_fds.specs.Descriptions.{shared_all}
 use Rattle.dt_procs.specs.Members.{is_full, with_child}
@@ -32,16 +33,12 @@ where_written pages (Ok written) = written
 
 -- the machine with a pid of 4 bytes at an address, if a flag asks for it; an address that can't be written is ignored
 abbrev pub with_pid : Bool → ℕ → ℕ → Machine → Machine
-with_pid asked address vpid m =
-    if asked then record m { space = where_written m.space (stored m.space address (low_bytes 4 vpid)) } else m
+with_pid flag address vpid m =
+    if flag then record m { space = where_written m.space (stored m.space address (low_bytes 4 vpid)) } else m
 
 -- the machine with another stack, unless the address is 0
 abbrev pub with_stack : ℕ → Machine → Machine
 with_stack stack m = if stack == 0 then m else with_register m SP stack
-
--- a flag is set
-abbrev pub has : ℕ → ℕ → Bool
-has flags flag = bit_and flags flag == flag
 
 -- the child's machine: its call answers 0
 abbrev pub child_machine : Machine → ℕ → Machine

@@ -4,7 +4,7 @@ use Rattle.std.specs.Ordering.{nat_cmp}
 use Rattle.std.specs.FinMap.{FinMap, empty, get, insert}
 use Rattle.dt_base.specs.declared.event.Event.{Event}
 use Rattle.dt_fds.specs.Descriptions.{Descriptions, first_files}
-use Rattle.dt_fds.specs.Pipes.{Pipes}
+use Rattle.dt_fds.specs.Pipes.{PipesView}
 use Rattle.dt_pipes.specs.declared.pipe.TheConstants.{FIRST_PIPE}
 use Rattle.dt_rv64.specs.declared.machine.Machine.{Machine}
 use Rattle.dt_procs.specs.declared.member.Member.{Member}
@@ -32,7 +32,7 @@ Signals = FinMap nat_cmp Sig
 pub record Shared : Type 0 where
   pub tree : FileTree
   pub files : Descriptions
-  pub pipes : Pipes
+  pub pipes : PipesView
   pub clock : ℕ
   pub rand : Seeded
   pub members : List Member
@@ -86,7 +86,7 @@ abbrev pub raised_at : ℕ → ℕ → Signals → Signals
 raised_at p signal signals = raised_in p signal signals (get signals p)
 
 -- no pipes, none of which has been made
-abbrev pub no_pipes : Pipes
+abbrev pub no_pipes : PipesView
 no_pipes = record { contents = empty; next = FIRST_PIPE }
 
 -- what a process finds that starts on a tree: it holds its working directory, there is no pipe, and no time has passed

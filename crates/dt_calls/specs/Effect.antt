@@ -43,19 +43,19 @@ puts_out c own m stream bytes =
     record (done c own m (length bytes)) { events = Out stream bytes ∷ [] }
 
 -- a write to a pipe that nobody reads is done: it answers how many bytes it moved before, or is refused
-abbrev pub broken : Shared → Process → Machine → Result ℕ Errno → Effect
-broken c own m (Ok moved) = done c own m moved
-broken c own m (Err errno) = refused c own m errno
+abbrev pub effect_of_broken : Shared → Process → Machine → Result ℕ Errno → Effect
+effect_of_broken c own m (Ok moved) = done c own m moved
+effect_of_broken c own m (Err errno) = refused c own m errno
 
 -- a call of this number gives its answer: one that waits or goes on is tried again in the process's next turn
-abbrev pub answers : Shared → Process → Machine → ℕ → Answer → Effect
-answers c own m number (answer.Value value) = done c own m value
-answers c own m number (answer.Refused errno) = refused c own m errno
-answers c own m number (answer.Output stream bytes) = puts_out c own m stream bytes
-answers c own m number answer.Waits = quiet c own m Blocked
-answers c own m number (answer.Part moved) = quiet c own m Moved
-answers c own m number (answer.Pipe value) = broken c own m value
-answers c own m number answer.Unsupported = quiet c own m (Unsupported number)
+abbrev pub effect_of_answer : Shared → Process → Machine → ℕ → Answer → Effect
+effect_of_answer c own m number (answer.Value value) = done c own m value
+effect_of_answer c own m number (answer.Refused errno) = refused c own m errno
+effect_of_answer c own m number (answer.Output stream bytes) = puts_out c own m stream bytes
+effect_of_answer c own m number answer.Waits = quiet c own m Blocked
+effect_of_answer c own m number (answer.Part moved) = quiet c own m Moved
+effect_of_answer c own m number (answer.Pipe value) = effect_of_broken c own m value
+effect_of_answer c own m number answer.Unsupported = quiet c own m (Unsupported number)
 
 -- a counter is read into a register: the reading takes its time, and gives the time after it
 abbrev pub reads_counter : Shared → Process → Machine → ℕ → Effect

@@ -15,8 +15,8 @@ use Rattle.dt_calls.specs.Container.{Shared, signals_at, with_signals}
 use Rattle.dt_calls.specs.Effect.{Effect, quiet, refused}
 
 -- with these open files, their pipes, and the tree whose nodes they hold
-abbrev pub with_holding : Shared → Holding → Shared
-with_holding c h = record c { tree = h.tree; files = h.files; pipes = h.pipes }
+abbrev pub shared_with_holding : Shared → Holding → Shared
+shared_with_holding c h = record c { tree = h.tree; files = h.files; pipes = h.pipes }
 
 -- the process's part: its break is where the program's starts
 abbrev pub with_program : Process → Program → Process
@@ -26,7 +26,7 @@ with_program own program =
 -- what is shared once another program was taken up: what is marked close-on-exec is closed, and handlers are gone
 abbrev pub with_exec : Shared → ℕ → Shared
 with_exec c p =
-    with_signals (with_holding c (closed_on_exec p (over c.tree c.pipes c.files))) p (after_exec (signals_at c p))
+    with_signals (shared_with_holding c (closed_on_exec p (over c.tree c.pipes c.files))) p (after_exec (signals_at c p))
 
 -- a program that can be started takes the place of the one that called: pid, working directory and umask stay
 abbrev pub by_program : Shared → Process → Machine → Result Program Errno → Effect

@@ -11,7 +11,7 @@ use Rattle.dt_calls.specs.Container.{Shared, Signals, raised_at}
 use Rattle.dt_base.specs.declared.answer.Answer.{Answer}
 use Rattle.dt_base.specs.declared.answer.Answer.TheVariants.{Value, Refused, Output, Waits, Part, Pipe, Unsupported}
 use Rattle.dt_base.specs.declared.caller.Caller.{Caller}
-use Rattle.dt_calls.specs.Effect.{Effect, answers}
+use Rattle.dt_calls.specs.Effect.{Effect, effect_of_answer}
 
 -- the arguments of a call: a0 to a5 (syscall(2))
 abbrev pub arguments : Machine → List ℕ
@@ -67,11 +67,11 @@ abbrev pub shared_after : Shared → ℕ → Answer → Shared
 shared_after c p answer = record c { signals = signals_after p answer c.signals }
 
 -- the call of a number leaves this, and gives its answer
-abbrev pub left : Shared → Process → Machine → ℕ → Row → Effect
-left c own m number r =
-    answers (shared_after (with_scene c r.next) own.caller.vpid r.answer) (record own { caller = caller_after r.next.caller r.answer })
+abbrev pub effect_of_row : Shared → Process → Machine → ℕ → Row → Effect
+effect_of_row c own m number r =
+    effect_of_answer (shared_after (with_scene c r.next) own.caller.vpid r.answer) (record own { caller = caller_after r.next.caller r.answer })
     (record m { space = r.next.space }) number r.answer
 
 -- the call of a number, served by its row
 unfoldable pub file_call : ℕ → Shared → Process → Machine → Effect
-file_call number c own m = left c own m number (row_of number (arguments m) (scene_of c own m))
+file_call number c own m = effect_of_row c own m number (row_of number (arguments m) (scene_of c own m))

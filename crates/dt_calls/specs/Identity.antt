@@ -8,7 +8,7 @@ use Rattle.dt_rv64.specs.Effects.{register}
 use Rattle.dt_space.specs.declared.access.Miss.{Miss}
 use Rattle.dt_space.specs.Space.{PageView}
 use Rattle.dt_space.specs.Write.{stored}
-use Rattle.dt_procs.specs.Members.{parent_of}
+use Rattle.dt_procs.specs.Members.{parent_pid}
 use Rattle.dt_calls.specs.declared.numbers.TheConstants.{ROBUST_LIST_SIZE, UTSNAME_FIELD}
 use Rattle.dt_calls.specs.declared.shared.Process.{Process}
 use Rattle.dt_calls.specs.Container.{Shared}
@@ -20,7 +20,7 @@ getpid_call c own m = done c own m own.caller.vpid
 
 -- getppid(2): the parent's pid; 0 for the first process
 unfoldable pub getppid_call : Shared → Process → Machine → Effect
-getppid_call c own m = done c own m (unwrap_or (parent_of c.members own.caller.vpid) 0)
+getppid_call c own m = done c own m (unwrap_or (parent_pid c.members own.caller.vpid) 0)
 
 -- set_robust_list(2): the list is not looked at, since a process has one thread; EINVAL where its size is another
 unfoldable pub set_robust_list_call : Shared → Process → Machine → Effect

@@ -53,9 +53,9 @@ unfoldable pub home_of : FinMap nat_cmp (Option Machine) → Machines
 home_of places = home_in (entries places)
 
 -- the places with that of a child, if there is one
-abbrev pub entered : FinMap nat_cmp (Option Machine) → ℕ → Option Machine → FinMap nat_cmp (Option Machine)
-entered places next None = places
-entered places next (Some m) = insert places next (Some m)
+abbrev pub with_child_place : FinMap nat_cmp (Option Machine) → ℕ → Option Machine → FinMap nat_cmp (Option Machine)
+with_child_place places next None = places
+with_child_place places next (Some m) = insert places next (Some m)
 
 -- what a run sees of a container
 abbrev pub container_of : ContainerView → World → Container

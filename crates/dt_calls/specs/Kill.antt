@@ -3,7 +3,7 @@ use Rattle.std.specs.Prelude.{ℕ, ◌^◌, ◌==◌, ◌||◌, ◌&&◌, not, n
 use Rattle.dt_base.specs.declared.abi.TheConstants.{A0, A1, A2, KILL, TKILL, TGKILL, SIGCHLD, SIGNAL_LIMIT}
 use Rattle.dt_base.specs.Abi.{low_word}
 use Rattle.dt_base.specs.declared.errno.Errno.TheVariants.{Inval, Srch}
-use Rattle.dt_procs.specs.Members.{parent_of}
+use Rattle.dt_procs.specs.Members.{parent_pid}
 use Rattle.dt_rv64.specs.declared.machine.Machine.{Machine}
 use Rattle.dt_rv64.specs.Effects.{register}
 use Rattle.dt_calls.specs.declared.call.effect.Outcome.TheVariants.{Unsupported}
@@ -21,7 +21,7 @@ is_unsupported_signal signal = nat_lt SIGCHLD signal && nat_le signal SIGNAL_LIM
 
 -- a process of this pid is there, a zombie included
 abbrev pub is_there : Shared → ℕ → Bool
-is_there c pid = is_some (parent_of c.members pid)
+is_there c pid = is_some (parent_pid c.members pid)
 
 -- a signal is pending at a process that lives; signal 0 asks whether it is there
 abbrev pub sends : Shared → Process → Machine → ℕ → ℕ → Effect

@@ -18,9 +18,9 @@ pub record Launched : Type 0 where
   pub launch : Launch
 
 -- a program that can be started has its machine at home, and its break where it starts
-abbrev pub started : Container → Result Program Errno → Launched
-started c (Err errno) = record { container = c; launch = NoStart errno }
-started c (Ok program) = record {
+abbrev pub launched_program : Container → Result Program Errno → Launched
+launched_program c (Err errno) = record { container = c; launch = NoStart errno }
+launched_program c (Ok program) = record {
   container = record c {
     shared = with_process c.shared (with_program (process_at c.shared FIRST_PID) program);
     machines = insert c.machines FIRST_PID program.machine;
@@ -30,4 +30,4 @@ started c (Ok program) = record {
 
 -- the program of a command is started: it is handed the command's words, its path, and 16 bytes that the seed gives
 unfoldable pub launch : Container → Words → Launched
-launch c words = started c (start_program c.shared.tree.shape words (start_bytes c.shared.rand))
+launch c words = launched_program c (start_program c.shared.tree.shape words (start_bytes c.shared.rand))

@@ -10,11 +10,11 @@ use Rattle.dt_mcalls.specs.Munmap.{munmap_of}
 use Rattle.dt_mcalls.specs.Mprotect.{mprotect_of}
 use Rattle.dt_calls.specs.declared.shared.Process.{Process}
 use Rattle.dt_calls.specs.Container.{Shared}
-use Rattle.dt_calls.specs.Effect.{Effect, done, answers}
+use Rattle.dt_calls.specs.Effect.{Effect, done, effect_of_answer}
 
 -- a call of this number leaves the process's pages so, and gives its answer
-abbrev pub called : Shared → Process → Machine → ℕ → Called → Effect
-called c own m number r = answers c own (record m { space = r.pages }) number r.answer
+abbrev pub effect_of_memory_call : Shared → Process → Machine → ℕ → Called → Effect
+effect_of_memory_call c own m number r = effect_of_answer c own (record m { space = r.pages }) number r.answer
 
 -- the break and the pages are these, and the break is the answer
 abbrev pub moved_break : Shared → Process → Machine → Moved → Effect
@@ -27,12 +27,12 @@ brk_call c own m = moved_break c own m (brk_of own.program_break m.space (regist
 
 -- munmap(2)
 unfoldable pub munmap_call : Shared → Process → Machine → Effect
-munmap_call c own m = called c own m MUNMAP (munmap_of m.space (register m A0) (register m A1))
+munmap_call c own m = effect_of_memory_call c own m MUNMAP (munmap_of m.space (register m A0) (register m A1))
 
 -- mmap(2), of zeros: which file and which part of it is not looked at
 unfoldable pub mmap_call : Shared → Process → Machine → Effect
-mmap_call c own m = called c own m MMAP (mmap_of m.space (register m A0) (register m A1) (register m A2) (register m A3))
+mmap_call c own m = effect_of_memory_call c own m MMAP (mmap_of m.space (register m A0) (register m A1) (register m A2) (register m A3))
 
 -- mprotect(2)
 unfoldable pub mprotect_call : Shared → Process → Machine → Effect
-mprotect_call c own m = called c own m MPROTECT (mprotect_of m.space (register m A0) (register m A1) (register m A2))
+mprotect_call c own m = effect_of_memory_call c own m MPROTECT (mprotect_of m.space (register m A0) (register m A1) (register m A2))

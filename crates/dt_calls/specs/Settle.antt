@@ -6,7 +6,7 @@ use Rattle.dt_base.specs.declared.event.End.{End}
 use Rattle.dt_base.specs.declared.event.End.TheVariants.{Signal}
 use Rattle.dt_base.specs.declared.event.Event.{Event}
 use Rattle.dt_base.specs.declared.event.Event.TheVariants.{Exit}
-use Rattle.dt_fds.specs.Holding.{dropped, over}
+use Rattle.dt_fds.specs.Holding.{without_process, over}
 use Rattle.dt_procs.specs.declared.member.TheConstants.{FIRST_PID}
 use Rattle.dt_procs.specs.Members as members
 use Rattle.dt_rv64.specs.declared.machine.Machine.{Machine}
@@ -15,12 +15,13 @@ use Rattle.dt_tree.specs.Changes.{released}
 use Rattle.dt_calls.specs.declared.call.effect.Outcome.{Outcome}
 use Rattle.dt_calls.specs.declared.call.effect.Outcome.TheVariants as outcome
 use Rattle.dt_calls.specs.declared.container.Served.{Served}
+use Rattle.dt_calls.specs.declared.shared.Process.{Process}
 use Rattle.dt_calls.specs.declared.container.Served.TheVariants.{Done, Child, LastChild, Blocked, Moved, Ended, Unsupported}
 use Rattle.dt_base.specs.declared.abi.TheConstants.{SIGKILL, SIGCHLD}
 use Rattle.dt_calls.specs.Container.{Shared, Container, Machines, Signals, process_at, with_process, raised_at}
 use Rattle.dt_calls.specs.Effect.{Effect}
-use Rattle.dt_calls.specs.Execve.{with_holding}
-use Rattle.dt_calls.specs.Call.{served}
+use Rattle.dt_calls.specs.Execve.{shared_with_holding}
+use Rattle.dt_calls.specs.Call.{serve_stop}
 use Rattle.dt_calls.specs.Delivery.{after_delivery, forced_by}
 
 -- what is shared after a turn of a process, its machine if it lives on, the machine of a child that it made, what the turn
@@ -33,19 +34,19 @@ pub record Settled : Type 0 where
   pub served : Served
 
 -- a process has nothing open, and holds its working directory no longer
-abbrev pub let_go : ℕ → Shared → Shared
-let_go p c =
-    let left = with_holding c (dropped p (over c.tree c.pipes c.files)) in
+abbrev pub files_let_go : ℕ → Shared → Shared
+files_let_go p c =
+    let left = shared_with_holding c (without_process p (over c.tree c.pipes c.files)) in
     record left { tree = released left.tree (process_at c p).caller.cwd }
 
 -- the signal states after the end of a process: its own goes, and SIGCHLD is pending at its parent, if that lives
 abbrev pub signals_without : ℕ → Shared → Signals
-signals_without p c = raised_at (unwrap_or (members.parent_of c.members p) 0) SIGCHLD (remove c.signals p)
+signals_without p c = raised_at (unwrap_or (members.parent_pid c.members p) 0) SIGCHLD (remove c.signals p)
 
 -- a process ends: its part and its signal state go, its parent is told, its children go to the first process, and its end is
 -- kept until it is reaped
 unfoldable pub ends_one : ℕ → End → Shared → Shared
-ends_one p end c = record (let_go p c) {
+ends_one p end c = record (files_let_go p c) {
   processes = remove c.processes p;
   signals = signals_without p c;
   members = members.ended p end c.members;
@@ -121,11 +122,15 @@ settled_by next p r (outcome.Unsupported number) = record {
 unfoldable pub settle : ℕ → ℕ → Effect → Settled
 settle next p r = settled_by next p r r.outcome
 
+-- a stop of a process with this machine is served, and then a signal is delivered to the process, if one is to be
+abbrev pub serve_and_deliver : Shared → ℕ → Process → Machine → Stop → Effect
+serve_and_deliver c next own m stop = after_delivery (forced_by stop) (serve_stop c next own m stop)
+
 -- a stop of a process with this machine is served, a signal is delivered, and what becomes of the process is settled; a call
 -- that waits or goes on is served again
 unfoldable pub serve_machine : Shared → ℕ → ℕ → Stop → Machine → Settled
 serve_machine c next p stop m =
-    settle next p (after_delivery (forced_by stop) (served c next (process_at c p) m stop))
+    settle next p (serve_and_deliver c next (process_at c p) m stop)
 
 -- whether all processes have ended
 abbrev pub all_ended : ℕ → Served → Bool
@@ -143,14 +148,14 @@ with_own owned p None = remove owned p
 with_own owned p (Some own) = insert owned p own
 
 -- with the machine of a child, if there is one
-abbrev pub with_child : Machines → ℕ → Option Machine → Machines
-with_child machines next None = machines
-with_child machines next (Some m) = insert machines next m
+abbrev pub with_child_machine : Machines → ℕ → Option Machine → Machines
+with_child_machine machines next None = machines
+with_child_machine machines next (Some m) = insert machines next m
 
 -- the machines after a turn: the process's own, that of a child, and the others' as they were; at the end of all none
 abbrev pub machines_after : Machines → ℕ → ℕ → Settled → Machines
 machines_after machines next p s =
-    if all_ended p s.served then empty else with_child (with_own machines p s.own) next s.child
+    if all_ended p s.served then empty else with_child_machine (with_own machines p s.own) next s.child
 
 -- the pid that the next child gets
 abbrev pub next_after : ℕ → Option Machine → ℕ

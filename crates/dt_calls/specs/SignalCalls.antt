@@ -14,21 +14,21 @@ use Rattle.dt_calls.specs.declared.call.effect.Outcome.{Outcome}
 use Rattle.dt_calls.specs.declared.call.effect.Outcome.TheVariants.{Done, Ends}
 use Rattle.dt_calls.specs.declared.shared.Process.{Process}
 use Rattle.dt_calls.specs.Container.{Shared, signals_at, with_signals}
-use Rattle.dt_calls.specs.Effect.{Effect, quiet, answers}
+use Rattle.dt_calls.specs.Effect.{Effect, quiet, effect_of_answer}
 
 -- a call of this number leaves the process's signal state and its pages so, and gives its answer
-abbrev pub called : Shared → Process → Machine → ℕ → Called → Effect
-called c own m number r =
-    answers (with_signals c own.caller.vpid r.signals) own (record m { space = r.pages }) number r.answer
+abbrev pub effect_of_signal_call : Shared → Process → Machine → ℕ → Called → Effect
+effect_of_signal_call c own m number r =
+    effect_of_answer (with_signals c own.caller.vpid r.signals) own (record m { space = r.pages }) number r.answer
 
 -- rt_sigaction(2)
 unfoldable pub sigaction_call : Shared → Process → Machine → Effect
-sigaction_call c own m = called c own m RT_SIGACTION
+sigaction_call c own m = effect_of_signal_call c own m RT_SIGACTION
     (sigaction_of (signals_at c own.caller.vpid) m.space (register m A0) (register m A1) (register m A2) (register m A3))
 
 -- rt_sigprocmask(2)
 unfoldable pub sigprocmask_call : Shared → Process → Machine → Effect
-sigprocmask_call c own m = called c own m RT_SIGPROCMASK
+sigprocmask_call c own m = effect_of_signal_call c own m RT_SIGPROCMASK
     (sigprocmask_of (signals_at c own.caller.vpid) m.space (register m A0) (register m A1) (register m A2) (register m A3))
 
 -- a process's signal state and its machine after a return from a handler, and what becomes of it

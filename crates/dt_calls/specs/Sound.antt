@@ -77,7 +77,7 @@ IsSoundHand h = IsSound (with_part h.shared h.own) h.world
 
 -- a stop that is served leaves what is sound, the process's pid and each other's part; and the pid of a child was next, and has
 -- its part
-pub record Keeps (old new : Hand) (made : Option Machine) : Type 0 where
+pub record LeavesSound (old new : Hand) (made : Option Machine) : Type 0 where
   pub sound : IsSoundHand new
   pub vpid : new.own.caller.vpid ≡ old.own.caller.vpid
   pub parts : (q : ℕ) → IsSome (get old.shared.processes q) → IsSome (get new.shared.processes q)
@@ -87,5 +87,5 @@ pub record Keeps (old new : Hand) (made : Option Machine) : Type 0 where
 -- the code served a stop as it is defined, unless the host failed or memory was wanting
 pub record Serves (defined : Effect) (old new : Hand) (machine : Machine) (result : Result EffectInCode HostErr) (before now : ℕ) : Type 0 where
   pub served : IfOk result (λ e. defined ≡ effect_as (shared_of new.shared new.world) new.own machine e)
-  pub kept : IfOk result (λ e. Keeps old new e.child)
+  pub kept : IfOk result (λ e. LeavesSound old new e.child)
   pub cause : HasCause before now (IsErrOf result Failed)

@@ -1,6 +1,6 @@
 -- wait4(2): a child that has ended is reaped.
 use Rattle.std.specs.Prelude.{ℕ, ◌*◌, ◌==◌, ◌||◌, ◌&&◌, nat_lt, not, Bool, List, replicate, Option, None, Some, if◌then◌else◌}
-use Rattle.dt_base.specs.declared.abi.TheConstants.{A0, A1, A2, A3, WAIT4, WNOHANG, WAIT_OPTIONS}
+use Rattle.dt_base.specs.declared.abi.TheConstants.{A0, A1, A2, A3, WAIT4, WNOHANG, WAIT_OPTIONS, GREATEST_PID, ANY_CHILD}
 use Rattle.dt_base.specs.Abi.{low_word}
 use Rattle.dt_base.specs.declared.errno.Errno.TheVariants.{Inval, Child, Fault as BadAddress}
 use Rattle.dt_base.specs.declared.event.End.{End}
@@ -8,14 +8,13 @@ use Rattle.dt_base.specs.declared.event.End.TheVariants.{Code, Signal}
 use Rattle.dt_base.specs.Fields.{low_bytes}
 use Rattle.dt_procs.specs.declared.member.Reaped.{Reaped}
 use Rattle.dt_procs.specs.declared.member.Reaped.TheVariants.{Got, NoneReady, NoChild}
-use Rattle.dt_procs.specs.Members.{look_for, without}
+use Rattle.dt_procs.specs.Members.{look_for, without_member}
 use Rattle.dt_rv64.specs.declared.machine.Machine.{Machine}
 use Rattle.dt_rv64.specs.Effects.{register}
 use Rattle.dt_space.specs.Argument.{may_fill, with_filled}
 use Rattle.dt_scene.specs.Arguments.{has_only}
 use Rattle.dt_base.specs.Abi.{has}
 use Rattle.dt_calls.specs.declared.call.effect.Outcome.TheVariants.{Blocked, Unsupported}
-use Rattle.dt_calls.specs.declared.call.wait.TheConstants.{GREATEST_PID, ANY_CHILD}
 use Rattle.dt_calls.specs.declared.numbers.TheConstants.{RUSAGE_SIZE}
 use Rattle.dt_calls.specs.declared.shared.Process.{Process}
 use Rattle.dt_calls.specs.Container.{Shared}
@@ -26,8 +25,8 @@ abbrev pub is_group : ℕ → Bool
 is_group pid = nat_lt GREATEST_PID pid && nat_lt pid ANY_CHILD
 
 -- the child that is waited for: any where the pid is 0 or -1
-abbrev pub asked : ℕ → Option ℕ
-asked pid = if (pid == 0) || (pid == ANY_CHILD) then None else Some pid
+abbrev pub which_child : ℕ → Option ℕ
+which_child pid = if (pid == 0) || (pid == ANY_CHILD) then None else Some pid
 
 -- the status word of an end: an exit code is its second byte, a signal its first
 abbrev pub status_of : End → ℕ
@@ -46,7 +45,7 @@ usage_bytes = replicate RUSAGE_SIZE 0
 abbrev pub reaps : Shared → Process → Machine → ℕ → ℕ → ℕ → End → Effect
 reaps c own m status usage vpid end =
     if may_fill m.space status 4 && may_fill m.space usage RUSAGE_SIZE
-    then done (record c { members = without c.members vpid }) own
+    then done (record c { members = without_member c.members vpid }) own
     (record m { space = with_filled (with_filled m.space status (status_bytes end)) usage usage_bytes }) vpid
     else refused c own m BadAddress
 
@@ -61,4 +60,4 @@ unfoldable pub wait4_call : Shared → Process → Machine → Effect
 wait4_call c own m =
     if is_group (low_word (register m A0)) then quiet c own m (Unsupported WAIT4)
     else if not (has_only (low_word (register m A2)) WAIT_OPTIONS) then refused c own m Inval
-    else by_found c own m (look_for c.members own.caller.vpid (asked (low_word (register m A0))))
+    else by_found c own m (look_for c.members own.caller.vpid (which_child (low_word (register m A0))))

@@ -2,13 +2,12 @@
 ghost use Rattle.std.specs.Prelude.{◌≡◌, IsSome, IfSome, IsOk, IfOk};
 ghost use Rattle.std.specs.FinMap.{get};
 ghost use Rattle.dt_rv64.specs.Segment.{segment_of};
-ghost use Rattle.dt_calls.specs.Call.{served};
-ghost use Rattle.dt_calls.specs.Delivery.{after_delivery, forced_by};
+ghost use Rattle.dt_calls.specs.Settle.{serve_and_deliver};
 ghost use Rattle.dt_calls.specs.InCode.{home_of, shared_of};
 ghost use Rattle.dt_calls.specs.AtHome.{RunsAt, ServesAt};
 ghost use Rattle.dt_calls.specs.Sound.{IsSoundHand, Serves, hand};
 
-use crate::call::{Effect, serve};
+use crate::call::{Effect, serve_and_deliver};
 use crate::shared::{Process, Shared};
 use dt_base::NoMemory;
 use dt_host::{Host, HostErr};
@@ -41,8 +40,7 @@ pub(crate) fn serve_at<H: Host>(
     requires sound { IsSoundHand (hand shared.old own.old (H.view host.old)) }
     requires home { IsSome (get (home_of places.old) vpid) }
     ensures { ServesAt
-        (λ m. after_delivery (forced_by stop)
-        (served (shared_of shared.old (H.view host.old)) shared.old.pids.next own.old m stop))
+        (λ m. serve_and_deliver (shared_of shared.old (H.view host.old)) shared.old.pids.next own.old m stop)
         (hand shared.old own.old (H.view host.old)) (hand shared.new own.new (H.view host.new))
         places.old places.new vpid result (H.count host.old) (H.count host.new) }
 {
@@ -79,13 +77,12 @@ fn serve_in<H: Host>(
     requires some { IsSome place.old }
     ensures stays { IsSome place.new }
     ensures served { IfSome place.old (λ was. IfSome place.new (λ now. Serves
-        (after_delivery (forced_by stop)
-        (served (shared_of shared.old (H.view host.old)) shared.old.pids.next own.old was stop))
+        (serve_and_deliver (shared_of shared.old (H.view host.old)) shared.old.pids.next own.old was stop)
         (hand shared.old own.old (H.view host.old)) (hand shared.new own.new (H.view host.new)) now result
         (H.count host.old) (H.count host.new))) }
 {
     match place {
-        Some(machine) => serve(alloc, host, shared, own, machine, stop),
+        Some(machine) => serve_and_deliver(alloc, host, shared, own, machine, stop),
         None => unreachable!(),
     }
 }

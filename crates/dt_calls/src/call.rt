@@ -1,8 +1,8 @@
 // The system calls, by their numbers.
 ghost use Rattle.std.specs.Prelude.{◌≡◌};
 ghost use Rattle.dt_rv64.specs.Effects.{register};
-ghost use Rattle.dt_calls.specs.Call.{served, call_of, memory_call, identity_call, signal_call};
-ghost use Rattle.dt_calls.specs.Delivery.{after_delivery, forced_by};
+ghost use Rattle.dt_calls.specs.Call.{serve_stop, call_of, memory_call, identity_call, signal_call};
+ghost use Rattle.dt_calls.specs.Settle.{serve_and_deliver};
 ghost use Rattle.dt_calls.specs.InCode.{shared_of};
 ghost use Rattle.dt_calls.specs.Sound.{IsSoundHand, Serves, hand};
 
@@ -32,7 +32,7 @@ pub use effect::{Effect, Outcome};
 use std::alloc::Global;
 
 /// Serves a stop, and delivers a signal to the process where there is one: that of a fault, or a pending one.
-pub fn serve<H: Host>(
+pub fn serve_and_deliver<H: Host>(
     alloc: Global,
     host: &mut H,
     shared: &mut Shared,
@@ -41,8 +41,8 @@ pub fn serve<H: Host>(
     stop: Stop,
 ) -> Result<Effect, HostErr>
     requires { IsSoundHand (hand shared.old own.old (H.view host.old)) }
-    ensures { Serves (after_delivery (forced_by stop)
-        (served (shared_of shared.old (H.view host.old)) shared.old.pids.next own.old machine.old stop))
+    ensures { Serves
+        (serve_and_deliver (shared_of shared.old (H.view host.old)) shared.old.pids.next own.old machine.old stop)
         (hand shared.old own.old (H.view host.old)) (hand shared.new own.new (H.view host.new)) machine.new result
         (H.count host.old) (H.count host.new) }
 {
@@ -59,7 +59,7 @@ pub fn serve<H: Host>(
 }
 
 // Serves a stop: a call by its number, a counter by the logical time, a fault and the end of a slice by nothing.
-#[tactic(auto, unfolding(crate::specs::Call::served))]
+#[tactic(auto, unfolding(crate::specs::Call::serve_stop))]
 fn serve_stop<H: Host>(
     alloc: Global,
     host: &mut H,
@@ -69,7 +69,7 @@ fn serve_stop<H: Host>(
     stop: Stop,
 ) -> Result<Effect, HostErr>
     requires { IsSoundHand (hand shared.old own.old (H.view host.old)) }
-    ensures { Serves (served (shared_of shared.old (H.view host.old)) shared.old.pids.next own.old machine.old stop)
+    ensures { Serves (serve_stop (shared_of shared.old (H.view host.old)) shared.old.pids.next own.old machine.old stop)
         (hand shared.old own.old (H.view host.old)) (hand shared.new own.new (H.view host.new)) machine.new result
         (H.count host.old) (H.count host.new) }
 {

@@ -8,7 +8,7 @@ ghost use Rattle.dt_procs.specs.Members.{lives};
 ghost use Rattle.dt_procs.specs.Table.{members_of};
 ghost use Rattle.dt_procs.specs.declared.member.TheConstants.{PROCESS_LIMIT};
 ghost use Rattle.dt_calls.specs.Settle.{settle, turned, goes_on, is_gone, ends, ends_shown, next_after};
-ghost use Rattle.dt_calls.specs.InCode.{entered, shared_of, container_of, turned_as, effect_as};
+ghost use Rattle.dt_calls.specs.InCode.{with_child_place, shared_of, container_of, turned_as, effect_as};
 ghost use Rattle.dt_calls.specs.Sound.{IsSound, IsSoundHand, IsSoundContainer, IsPaired, hand};
 
 use crate::call::{Effect, Outcome};
@@ -112,7 +112,7 @@ impl Container {
 
     // A child gets a place for its machine.
     fn enter(&mut self, next: u32, child: Option<Machine>) -> Result<(), NoMemory>
-        ensures { OnOk result (self.new ≡ record self.old { places = entered self.old.places next child }) }
+        ensures { OnOk result (self.new ≡ record self.old { places = with_child_place self.old.places next child }) }
     {
         match child {
             Some(machine) => self.places.put(u64::from(next), Some(machine))?,
@@ -140,7 +140,7 @@ impl Container {
         ensures events { OnOk result (self.new.events
             ≡ self.old.events ++ ends_shown vpid end (shared_of self.old.shared (H.view host.old))) }
         ensures places { OnOk result (self.new.places
-            ≡ (if vpid == FIRST_PID then empty else entered (remove self.old.places vpid) next child)) }
+            ≡ (if vpid == FIRST_PID then empty else with_child_place (remove self.old.places vpid) next child)) }
         ensures next { OnOk result (self.new.shared.pids.next ≡ self.old.shared.pids.next) }
         ensures sound { OnOk result (IsSound self.new.shared (H.view host.new)) }
         ensures paired { OnOk result (IsPaired self.new) }

@@ -5,7 +5,7 @@ use Rattle.dt_elf.specs.declared.elf.Segment.{Segment}
 use Rattle.std.specs.List.{list_any}
 use Rattle.dt_elf.specs.declared.layout.TheConstants.{HEADER_SIZE}
 use Rattle.dt_elf.specs.declared.header.ProgramHeader.{ProgramHeader}
-use Rattle.dt_elf.specs.Header.{program_header, headers_from, e_phoff, e_phnum, is_load, is_interp, segment_of, loads}
+use Rattle.dt_elf.specs.Header.{program_header, headers_from, e_phoff, e_phnum, is_load, is_interp, segment_from_header, loads}
 
 headers-suc : (bytes : List ℕ) (at at' left rest : ℕ) → left ≡ suc rest → at + HEADER_SIZE ≡ at' → headers_from bytes at left ≡ program_header bytes at ∷ headers_from bytes at' rest
 unfolding headers_from
@@ -22,9 +22,9 @@ module _ (bytes : List ℕ) (start count : ℕ) where
 
   pub headers_after-start : headers_after 0 ≡ headers_from bytes start count
   headers_after-start =
-      let place : start + HEADER_SIZE * 0 ≡ start = omega arith in
+      let position : start + HEADER_SIZE * 0 ≡ start = omega arith in
       let left : count - 0 ≡ count = omega arith in
-      rw (place, left) refl
+      rw (position, left) refl
 
   pub headers_after-end : (i : ℕ) → count ≤ i → headers_after i ≡ []
   headers_after-end i all = headers-zero bytes _ _ (omega arith)
@@ -49,20 +49,20 @@ module _ (bytes : List ℕ) (start count : ℕ) where
 
 -- the segments that are still to be read
 abbrev pub loads_after : List ℕ → ℕ → List Segment
-loads_after bytes i = map segment_of (filter is_load (headers_after bytes (e_phoff bytes) (e_phnum bytes) i))
+loads_after bytes i = map segment_from_header (filter is_load (headers_after bytes (e_phoff bytes) (e_phnum bytes) i))
 
 pub loads-start : (bytes : List ℕ) → loads_after bytes 0 ≡ loads bytes
 unfolding loads
-loads-start bytes = ap (λ headers. map segment_of (filter is_load headers)) (headers_after-start bytes (e_phoff bytes) (e_phnum bytes))
+loads-start bytes = ap (λ headers. map segment_from_header (filter is_load headers)) (headers_after-start bytes (e_phoff bytes) (e_phnum bytes))
 
-pub loads-next : (bytes : List ℕ) (i : ℕ) (header : ProgramHeader) → i < e_phnum bytes → header ≡ program_header bytes (e_phoff bytes + HEADER_SIZE * i) → is_load header ≡ true → loads_after bytes i ≡ segment_of header ∷ loads_after bytes (i + 1)
-loads-next bytes i header lt is kept = ap (map segment_of) (loads-keep bytes (e_phoff bytes) (e_phnum bytes) i lt (ap is_load (sym is) ∙ kept)) ∙ rw is refl
+pub loads-next : (bytes : List ℕ) (i : ℕ) (header : ProgramHeader) → i < e_phnum bytes → header ≡ program_header bytes (e_phoff bytes + HEADER_SIZE * i) → is_load header ≡ true → loads_after bytes i ≡ segment_from_header header ∷ loads_after bytes (i + 1)
+loads-next bytes i header lt is kept = ap (map segment_from_header) (loads-keep bytes (e_phoff bytes) (e_phnum bytes) i lt (ap is_load (sym is) ∙ kept)) ∙ rw is refl
 
 pub loads-passed : (bytes : List ℕ) (i : ℕ) (header : ProgramHeader) → i < e_phnum bytes → header ≡ program_header bytes (e_phoff bytes + HEADER_SIZE * i) → is_load header ≡ false → loads_after bytes i ≡ loads_after bytes (i + 1)
-loads-passed bytes i header lt is skipped = ap (map segment_of) (loads-skip bytes (e_phoff bytes) (e_phnum bytes) i lt (ap is_load (sym is) ∙ skipped))
+loads-passed bytes i header lt is skipped = ap (map segment_from_header) (loads-skip bytes (e_phoff bytes) (e_phnum bytes) i lt (ap is_load (sym is) ∙ skipped))
 
 pub loads-end : (bytes : List ℕ) (i : ℕ) → e_phnum bytes ≤ i → loads_after bytes i ≡ []
-loads-end bytes i all = ap (λ headers. map segment_of (filter is_load headers)) (headers_after-end bytes (e_phoff bytes) (e_phnum bytes) i all)
+loads-end bytes i all = ap (λ headers. map segment_from_header (filter is_load headers)) (headers_after-end bytes (e_phoff bytes) (e_phnum bytes) i all)
 
 -- one more segment in the table
 pub table-keep : (table : List Segment) (count : ℕ) (segment : Segment) (rest more all : List Segment) → count < length table → take count table ++ rest ≡ all → rest ≡ segment ∷ more → take (count + 1) (set table count segment) ++ more ≡ all

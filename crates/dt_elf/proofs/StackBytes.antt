@@ -8,7 +8,7 @@ use Rattle.std.proofs.lemmas.Bool.{cases_lt}
 use Rattle.std.proofs.lemmas.Bool.Decides.{nat_tests}
 use Rattle.dt_base.specs.declared.limits.TheConstants.{PAGE_SIZE}
 use Rattle.dt_space.specs.declared.access.TheConstants.{READ, WRITE}
-use Rattle.dt_space.specs.Space.{PageView, has, granted, page_at, byte_of, byte_at}
+use Rattle.dt_space.specs.Space.{PageView, has_right, granted, page_at, byte_of, byte_at}
 use Rattle.dt_space.specs.Pages.{zero_padded, pages_from, EndsBelow}
 use Rattle.dt_elf.specs.declared.layout.TheConstants.{SEGMENT_PAGES_END, STACK_START, STACK_PAGES, STACK_TOP}
 use Rattle.dt_elf.specs.Header.{e_phnum}
@@ -51,7 +51,7 @@ page_at-from first rights contents (suc count) (suc k) after lt =
     rw (next, ← more) (grind (arith, nat_tests, rest))
 
 -- the byte at an address of pages that follow one another is that of their contents, or 0 past the end of these
-pub byte-pages_from : (before after : List PageView) (first rights right : ℕ) (contents : List ℕ) (count address : ℕ) → EndsBelow before first → has rights right ≡ true → PAGE_SIZE * first ≤ address → address < PAGE_SIZE * (first + count) → byte_at (before ++ pages_from first rights contents count ++ after) right address ≡ Some (get_or contents (address - PAGE_SIZE * first) 0)
+pub byte-pages_from : (before after : List PageView) (first rights right : ℕ) (contents : List ℕ) (count address : ℕ) → EndsBelow before first → has_right rights right ≡ true → PAGE_SIZE * first ≤ address → address < PAGE_SIZE * (first + count) → byte_at (before ++ pages_from first rights contents count ++ after) right address ≡ Some (get_or contents (address - PAGE_SIZE * first) 0)
 byte-pages_from before after first rights right contents count address below given low high =
     let k = address / PAGE_SIZE - first in
     let piece = take PAGE_SIZE (drop (PAGE_SIZE * k) contents) in

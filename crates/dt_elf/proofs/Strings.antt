@@ -1,10 +1,9 @@
 -- Strings and words of a stack, one after another.
-use Rattle.std.proofs.Common.{◌≡◌, ℕ, ◌+◌, ◌-◌, ◌*◌, ◌<◌, ◌≤◌, List, [], ◌∷◌, ◌++◌, length, get_or, drop, take, replicate, refl, sym, ap, ◌∙◌, append-nil, append_assoc, length-append, add-one, arith}
-use Rattle.std.proofs.Math.Seq.{drop-cons}
+use Rattle.std.proofs.Common.{◌≡◌, ℕ, ◌+◌, ◌-◌, ◌*◌, ◌<◌, ◌≤◌, List, [], ◌∷◌, ◌++◌, length, get_or, drop, take, replicate, refl, sym, ap, ◌∙◌, append-nil, append_assoc, length-append, arith}
 use Rattle.std.proofs.lemmas.List.{drop_all, take_all, length-replicate}
 use Rattle.dt_base.proofs.Lists.{drop-at}
 use Rattle.dt_base.specs.Fields.{low_bytes}
-use Rattle.dt_elf.specs.Stack.{Invocation, terminated, addresses, word_bytes, size, strings, strings_start, words_at, stack_words, laid_out}
+use Rattle.dt_elf.specs.Stack.{Invocation, terminated, addresses, word_bytes, size, strings, strings_start, stack_words_at, stack_words, laid_out}
 use Rattle.dt_elf.specs.declared.layout.TheConstants.{RANDOM_SIZE, STACK_START}
 use Rattle.dt_base.specs.declared.limits.TheConstants.{ARGUMENT_LIMIT, PATH_LIMIT}
 use Rattle.dt_base.specs.Command.{Words}
@@ -113,7 +112,7 @@ length-addresses (word ∷ rest) address =
 pub length-strings : (given : Invocation) → length (strings given) ≡ length given.random + (length given.execfn + (1 + (length (terminated given.words.args) + length (terminated given.words.env))))
 length-strings given = simp length-append (omega arith)
 
-pub length-words : (program : Executable) (headers : ℕ) (words : Words) (execfn : List ℕ) (start : ℕ) → length (words_at program headers words execfn start) ≡ 31 + (length words.args + length words.env)
+pub length-words : (program : Executable) (headers : ℕ) (words : Words) (execfn : List ℕ) (start : ℕ) → length (stack_words_at program headers words execfn start) ≡ 31 + (length words.args + length words.env)
 length-words program headers words execfn start = simp (length-append, length-addresses) (omega arith)
 
 -- strings and words take less than the stack
@@ -121,7 +120,7 @@ pub record HasRoom (program : Executable) (headers : ℕ) (given : Invocation) :
   pub text : length (strings given) ≤ 140000
   pub words : 8 * length (stack_words program headers given) ≤ 140000
 
-pub stack_words-are : (program : Executable) (headers : ℕ) (given : Invocation) (start : ℕ) → start ≡ strings_start given → words_at program headers given.words given.execfn start ≡ stack_words program headers given
+pub stack_words-are : (program : Executable) (headers : ℕ) (given : Invocation) (start : ℕ) → start ≡ strings_start given → stack_words_at program headers given.words given.execfn start ≡ stack_words program headers given
 unfolding stack_words
 stack_words-are program headers given start is = rw is refl
 

@@ -55,11 +55,11 @@ get-under old bytes offset i fits under =
 get-over : (old bytes : List ℕ) (offset i : ℕ) → offset + length bytes ≤ length old → offset + length bytes ≤ i → get_or (overwritten old offset bytes) i 0 ≡ get_or old i 0
 get-over old bytes offset i fits over =
     let prefix_length : length (take offset old) ≡ offset = length-take-le offset old (omega arith) in
-    let place : offset + length bytes + (i - offset - length bytes) ≡ i = omega arith in
+    let position : offset + length bytes + (i - offset - length bytes) ≡ i = omega arith in
     rw append_assoc (get_or-append_right (take offset old) (bytes ++ drop (offset + length bytes) old) offset i 0 prefix_length (omega arith)
     ∙ get_or-append_right bytes (drop (offset + length bytes) old) (length bytes) (i - offset) 0 refl (omega arith)
     ∙ get_or-drop (offset + length bytes) old (i - offset - length bytes) 0
-    ∙ rw place refl)
+    ∙ rw position refl)
 
 byte-in : (segment : Segment) (bytes : List ℕ) (address other : ℕ) → segment.vaddr ≤ address → address < segment.vaddr + segment.filesz → segment_byte segment bytes address other ≡ get_or bytes (segment.offset + (address - segment.vaddr)) 0
 byte-in segment bytes address other low high = grind (arith, nat_tests)
@@ -80,8 +80,8 @@ put-part segment bytes old start low high from count whole in_file low_is high_i
       | inl under ↦ get-under old part (low - start) i fits under ∙ sym (byte-under segment bytes (start + i) (get_or old i 0) (omega (arith, under)))
       | inr up ↦ elim (cases_lt i (low - start + length part)) [
         | inl inside ↦
-            let place : from + (i - (low - start)) ≡ segment.offset + (start + i - segment.vaddr) = omega (arith, inside, up) in
-            get-inside old part (low - start) i fits up inside ∙ within-take bytes from count (i - (low - start)) (omega (arith, inside, up)) ∙ rw place (sym (byte-in segment bytes (start + i) (get_or old i 0) (omega (arith, up)) (omega (arith, inside, up))))
+            let position : from + (i - (low - start)) ≡ segment.offset + (start + i - segment.vaddr) = omega (arith, inside, up) in
+            get-inside old part (low - start) i fits up inside ∙ within-take bytes from count (i - (low - start)) (omega (arith, inside, up)) ∙ rw position (sym (byte-in segment bytes (start + i) (get_or old i 0) (omega (arith, up)) (omega (arith, inside, up))))
         | inr over ↦ get-over old part (low - start) i fits over ∙ sym (byte-over segment bytes (start + i) (get_or old i 0) (omega (arith, over)))
       ]
     ]

@@ -5,7 +5,7 @@ use Rattle.dt_elf.specs.declared.layout.TheConstants.{PT_LOAD, PT_INTERP, PF_X, 
 use Rattle.dt_elf.specs.declared.elf.Segment.{Segment}
 use Rattle.dt_elf.specs.declared.header.ProgramHeader.{ProgramHeader}
 use Rattle.dt_space.specs.declared.access.TheConstants.{READ, WRITE, EXECUTE}
-use Rattle.dt_space.specs.Space.{has}
+use Rattle.dt_space.specs.Space.{has_right}
 
 -- the number of so many bytes at an offset of the file; 0 past its end
 abbrev pub number : ℕ → List ℕ → ℕ → ℕ
@@ -70,12 +70,12 @@ is_interp header = header.kind == PT_INTERP
 -- the rights that a header's flags give; the right to write brings the right to read
 abbrev pub rights_of : ℕ → ℕ
 rights_of flags =
-    (if has flags PF_W then READ + WRITE else if has flags PF_R then READ else 0)
-    + (if has flags PF_X then EXECUTE else 0)
+    (if has_right flags PF_W then READ + WRITE else if has_right flags PF_R then READ else 0)
+    + (if has_right flags PF_X then EXECUTE else 0)
 
 -- the segment of a header
-abbrev pub segment_of : ProgramHeader → Segment
-segment_of header = record {
+abbrev pub segment_from_header : ProgramHeader → Segment
+segment_from_header header = record {
   vaddr = header.vaddr;
   memsz = header.memsz;
   offset = header.offset;
@@ -85,4 +85,4 @@ segment_of header = record {
 
 -- the segments that take memory, in the order of their headers
 unfoldable pub loads : List ℕ → List Segment
-loads bytes = map segment_of (filter is_load (program_headers bytes))
+loads bytes = map segment_from_header (filter is_load (program_headers bytes))

@@ -51,15 +51,15 @@ auxiliary program headers start =
     AT_NULL ∷ 0 ∷ []
 
 -- the words: the number of arguments, their addresses, 0, those of the environment, 0, the auxiliary vector
-abbrev pub words_at : Executable → ℕ → Words → List ℕ → ℕ → List ℕ
-words_at program headers words execfn start =
+abbrev pub stack_words_at : Executable → ℕ → Words → List ℕ → ℕ → List ℕ
+stack_words_at program headers words execfn start =
     let args_at = args_start start execfn in
     let env_at = args_at + length (terminated words.args) in
     length words.args ∷ (addresses args_at words.args
     ++ (0 ∷ (addresses env_at words.env ++ (0 ∷ auxiliary program headers start))))
 
 unfoldable pub stack_words : Executable → ℕ → Invocation → List ℕ
-stack_words program headers given = words_at program headers given.words given.execfn (strings_start given)
+stack_words program headers given = stack_words_at program headers given.words given.execfn (strings_start given)
 
 -- the address of the first of so many words below the strings, a multiple of 16
 abbrev pub pointer_below : ℕ → ℕ → ℕ

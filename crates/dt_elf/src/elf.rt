@@ -90,12 +90,12 @@ pub fn read_elf(alloc: Global, bytes: &[u8]) -> Result<Elf, ElfErr>
     }
     let mut table = [NO_SEGMENT; 64];
     let count = read_segments(bytes, &mut table);
-    let loaded = &table[..count];
+    let found = &table[..count];
     let mut segments = Vec::new(alloc);
-    segments.extend_from_slice(loaded)?;
+    segments.extend_from_slice(found)?;
     Ok(Elf {
         entry: double(bytes, 24),
-        phdr: table_address(bytes, loaded),
+        phdr: table_address(bytes, found),
         segments,
     })
 }
@@ -148,10 +148,10 @@ fn refused_segments(bytes: &[u8]) -> Option<ElfErr>
 {
     let mut table = [NO_SEGMENT; 64];
     let count = read_segments(bytes, &mut table);
-    let loaded = &table[..count];
-    if !are_placed(bytes, loaded) {
+    let found = &table[..count];
+    if !are_placed(bytes, found) {
         Some(ElfErr::Segment)
-    } else if overlapping(loaded) {
+    } else if overlapping(found) {
         Some(ElfErr::Overlap)
     } else if asks_interpreter(bytes) {
         Some(ElfErr::Interp)
@@ -165,7 +165,7 @@ fn read_segments(bytes: &[u8], table: &mut [Segment; 64]) -> usize
     requires table { table_end bytes.now ≤ length bytes.now }
     requires few { e_phnum bytes.now ≤ HEADER_LIMIT }
     ensures within { result ≤ HEADER_LIMIT }
-    ensures loaded { take result table.new ≡ loads bytes.now }
+    ensures segments { take result table.new ≡ loads bytes.now }
 {
     let mut count = 0;
     for index in 0..phnum(bytes) {

@@ -1,7 +1,7 @@
 // The numbers of an ELF-64 file: its header's fields, and its program headers.
 ghost use Rattle.std.specs.Prelude.{◌≡◌, ◌+◌, ◌*◌, ◌≤◌, ◌<◌, length, nat_lt};
 ghost use Rattle.dt_elf.specs.Header.{number, e_phoff, e_phnum, table_end, program_header, is_load, is_interp};
-ghost use Rattle.dt_elf.specs.Header.{rights_of, segment_of};
+ghost use Rattle.dt_elf.specs.Header.{rights_of, segment_from_header};
 
 use crate::elf::Segment;
 use crate::layout::{HEADER_SIZE, PF_R, PF_W, PF_X, PT_INTERP, PT_LOAD};
@@ -52,7 +52,7 @@ impl ProgramHeader {
     }
 
     pub(crate) fn segment(&self) -> Segment
-        ensures { result ≡ segment_of self.now }
+        ensures { result ≡ segment_from_header self.now }
     {
         Segment {
             vaddr: self.vaddr,

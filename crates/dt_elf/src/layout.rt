@@ -44,7 +44,7 @@ pub const SEGMENT_PAGES_END: u64 = MMAP_START / PAGE_SIZE;
 /// The first address of the stack.
 pub const STACK_START: u64 = 0x3f_ffef_e000;
 
-/// Pages of the stack.
+/// The stack's size: 1 MiB, in pages.
 pub const STACK_PAGES: u64 = 256;
 
 /// The first address past the stack.

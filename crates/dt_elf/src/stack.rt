@@ -2,7 +2,8 @@
 ghost use Rattle.std.specs.Prelude.{◌≡◌, ◌+◌, ◌*◌, ◌^◌, ◌≤◌, ◌<◌, ◌++◌, length, nat_lt, IfOk, OnOk, MatchOption};
 ghost use Rattle.dt_elf.specs.Executable.{executable};
 ghost use Rattle.dt_elf.specs.Stack.{invocation, aligned, pointer_below, args_start, terminated, addresses, strings};
-ghost use Rattle.dt_elf.specs.Stack.{auxiliary, words_at, stack_pointer, word_bytes, laid_out, stack_contents, size};
+ghost use Rattle.dt_elf.specs.Stack.{auxiliary, stack_words_at, stack_pointer, word_bytes, laid_out, stack_contents};
+ghost use Rattle.dt_elf.specs.Stack.{size};
 
 use crate::elf::Elf;
 use crate::layout::{
@@ -122,7 +123,7 @@ fn words(
     requires short { length execfn.now ≤ PATH_LIMIT }
     requires low { start ≤ STACK_TOP }
     ensures { IfOk result (λ words.
-        words.items ≡ words_at (executable elf.now) headers command.now execfn.now start) }
+        words.items ≡ stack_words_at (executable elf.now) headers command.now execfn.now start) }
 {
     let mut words = Vec::new(alloc);
     words.push(command.args().len() as u64)?;

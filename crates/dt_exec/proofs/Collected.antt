@@ -13,7 +13,7 @@ use Rattle.dt_elf.specs.Stack.{size}
 use Rattle.dt_space.specs.declared.access.Miss.{Miss}
 use Rattle.dt_space.specs.declared.access.TheConstants.{READ}
 use Rattle.dt_space.specs.Space.{PageView, load, loaded_number}
-use Rattle.dt_exec.specs.Arguments.{before, word_at, words_from, words_at, one_at_least, within_limit, command_of}
+use Rattle.dt_exec.specs.Arguments.{word_before, word_at, words_from, words_at, one_at_least, within_limit, command_of}
 use Rattle.dt_exec.specs.Listed.{AreListed, IsTooBig}
 use Rattle.dt_exec.proofs.NoNul.{each, all-append}
 
@@ -30,7 +30,7 @@ after-none : (rest : Result (List (List ℕ)) Errno) → rest ≡ after [] rest
 after-none (Ok words) = refl
 after-none (Err errno) = refl
 
-after-before : (words : List (List ℕ)) (word : List ℕ) (rest : Result (List (List ℕ)) Errno) → after words (before (Ok word) rest) ≡ after (words ++ word ∷ []) rest
+after-before : (words : List (List ℕ)) (word : List ℕ) (rest : Result (List (List ℕ)) Errno) → after words (word_before (Ok word) rest) ≡ after (words ++ word ∷ []) rest
 after-before words word (Ok more) = ap Ok (sym (append_assoc words (word ∷ []) more))
 after-before words word (Err errno) = refl
 
@@ -55,7 +55,7 @@ abbrev stored_if : Bool → List (List ℕ) → List ℕ → List (List ℕ)
 stored_if fits stored word = if fits then stored ++ word ∷ [] else stored
 
 -- one word more
-pub more : (all rest next : Result (List (List ℕ)) Errno) (stored now : List (List ℕ)) (count counted : ℕ) (word : List ℕ) → SoFar all rest stored count → rest ≡ before (Ok word) next → IsTrue (has_no_nul word)
+pub more : (all rest next : Result (List (List ℕ)) Errno) (stored now : List (List ℕ)) (count counted : ℕ) (word : List ℕ) → SoFar all rest stored count → rest ≡ word_before (Ok word) next → IsTrue (has_no_nul word)
     → counted ≡ min (count + length word + 9) (2 ^ 64 - 1) → now ≡ (if nat_le counted ARGUMENT_LIMIT then stored ++ word ∷ [] else stored) → SoFar all next now counted
 more all rest next stored now count counted word sofar is clean count_is now_is = record {
   words = sofar.words ++ word ∷ [];
@@ -72,7 +72,7 @@ more all rest next stored now count counted word sofar is clean count_is now_is 
     by_test false = sofar.no_nul
 
 -- a word that can't be read
-pub refused : (all rest next : Result (List (List ℕ)) Errno) (stored : List (List ℕ)) (count : ℕ) (errno : Errno) → SoFar all rest stored count → rest ≡ before (Err errno) next → all ≡ Err errno
+pub refused : (all rest next : Result (List (List ℕ)) Errno) (stored : List (List ℕ)) (count : ℕ) (errno : Errno) → SoFar all rest stored count → rest ≡ word_before (Err errno) next → all ≡ Err errno
 refused all rest next stored count errno sofar is = sofar.so_far ∙ ap (after sofar.words) is
 
 -- an entry that can't be read
@@ -100,9 +100,9 @@ unfolding words_at
 entry_at pages at left less found is read = ap (words_at pages at) is ∙ ap (λ r. words_from pages r (words_at pages ((at + 8) % 2 ^ 64) less)) (sym read)
 
 -- an entry that is no 0 is the address of a word
-pub word_of_entry : (pages : List PageView) (entry : ℕ) (word : Result (List ℕ) Errno) (rest : Result (List (List ℕ)) Errno) → entry ≢ 0 → word ≡ word_at pages entry → words_from pages (Ok entry) rest ≡ before word rest
+pub word_of_entry : (pages : List PageView) (entry : ℕ) (word : Result (List ℕ) Errno) (rest : Result (List (List ℕ)) Errno) → entry ≢ 0 → word ≡ word_at pages entry → words_from pages (Ok entry) rest ≡ word_before word rest
 word_of_entry pages zero word rest some is = absurd (some refl)
-word_of_entry pages (suc entry) word rest some is = ap (λ w. before w rest) (sym is)
+word_of_entry pages (suc entry) word rest some is = ap (λ w. word_before w rest) (sym is)
 
 pub words_at-end : (pages : List PageView) (at left : ℕ) → left ≡ 0 → words_at pages at left ≡ Err BadAddress
 unfolding words_at

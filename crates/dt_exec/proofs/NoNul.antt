@@ -1,5 +1,5 @@
 -- Texts of which no byte is 0.
-use Rattle.std.proofs.Common.{◌≡◌, ℕ, ◌+◌, ◌≤◌, suc, Bool, true, false, List, [], ◌∷◌, ◌++◌, length, take, drop, Option, Some, None, Result, Ok, Err, refl, sym, ap, subst, ◌∙◌, arith}
+use Rattle.std.proofs.Common.{◌≡◌, ℕ, ◌≤◌, suc, Bool, true, false, List, [], ◌∷◌, ◌++◌, length, take, drop, Option, Some, None, Result, Ok, Err, refl, sym, ap, subst, ◌∙◌, arith}
 use Rattle.std.specs.Prelude.{IsTrue, IfOk, IfSome, ◌==◌, ◌&&◌, ◌||◌, not, nat_lt, if◌then◌else◌}
 use Rattle.std.specs.List.{list_all, position_or_len, prefix_len}
 use Rattle.std.specs.Option.{option_to_list}
@@ -7,7 +7,7 @@ use Rattle.std.proofs.lemmas.List.{take-append-drop}
 use Rattle.std.proofs.lemmas.List.Folds.{list_all-append}
 use Rattle.dt_base.specs.Path.{has_no_nul}
 use Rattle.dt_space.specs.Space.{PageView}
-use Rattle.dt_space.specs.Text.{text_at}
+use Rattle.dt_space.specs.Text.{text_at_address}
 use Rattle.dt_space.specs.declared.access.TextErr.{TextErr}
 use Rattle.dt_space.specs.declared.access.TextErr.TheVariants as text_err
 use Rattle.dt_space.proofs.Texts.{text_no_nul, text_short}
@@ -109,9 +109,9 @@ path_read (Err text_err.NoMemory) text is = cc
 
 -- a path that was read has none, and is within the limit
 pub path-no_nul : (pages : List PageView) (address : ℕ) (text : List ℕ) → Ok text ≡ path_argument pages address → IsTrue (has_no_nul text)
-path-no_nul pages address text is = text_no_nul pages address (suc PATH_LIMIT) text (path_read (text_at pages address (suc PATH_LIMIT)) text is)
+path-no_nul pages address text is = text_no_nul pages address (suc PATH_LIMIT) text (path_read (text_at_address pages address (suc PATH_LIMIT)) text is)
 
 pub path-short : (pages : List PageView) (address : ℕ) (text : List ℕ) → Ok text ≡ path_argument pages address → length text ≤ PATH_LIMIT
 path-short pages address text is =
-    let short = text_short pages address (suc PATH_LIMIT) text (path_read (text_at pages address (suc PATH_LIMIT)) text is) in
+    let short = text_short pages address (suc PATH_LIMIT) text (path_read (text_at_address pages address (suc PATH_LIMIT)) text is) in
     omega arith

@@ -20,7 +20,7 @@ use Rattle.dt_walk.specs.declared.step.Found.{Found}
 use Rattle.dt_walk.specs.declared.step.Found.TheVariants.{Node, Missing, Gone}
 use Rattle.dt_walk.specs.declared.step.Step.{Step}
 use Rattle.dt_walk.specs.declared.step.Step.TheVariants.{On, Done, Refused, Follow}
-use Rattle.dt_walk.specs.Walk.{is_nil, path_names, ends_in_slash, start_of, keeps, node_or, looked_up, ended, arrived, after_look, step_in_dir, step_of, after_step, walk_from, walk_by, walk_of}
+use Rattle.dt_walk.specs.Walk.{is_nil, path_names, ends_in_slash, start_of, keeps, node_or, looked_up, walk_ended, reached_node, after_look, step_in_dir, step_of, after_step, walk_from, walk_by, walk_of}
 use Rattle.dt_exec.specs.Lookup.{node_reached, lookup}
 
 -- what may be there is there
@@ -80,12 +80,12 @@ module _ (v : Forest) (s : IsShaped v) where
       (lives_or v Missing (entry v at name) tt (lives-entry at name (entry v at name) refl)))
 
   module _ (keep last slash : Bool) (at : ℕ) (name : List ℕ) where
-    lives-ended : (n : ℕ) → IsLive v n → LivesStep v (ended v slash at name n)
+    lives-ended : (n : ℕ) → IsLive v n → LivesStep v (walk_ended v slash at name n)
     lives-ended n live = step_if v (slash && not (is_dir v n)) (Refused NotDir) (Done (record { parent = at; name = name; node = Some n; slash = slash })) tt live
 
-    lives-arrived : (n : ℕ) (target : Option (List ℕ)) → IsLive v n → LivesStep v (arrived v keep last slash at name n target)
-    lives-arrived n None live = step_if v last (ended v slash at name n) (On n) (lives-ended n live) tt
-    lives-arrived n (Some target) live = step_if v (last && keep) (ended v slash at name n) (Follow target) (lives-ended n live) tt
+    lives-arrived : (n : ℕ) (target : Option (List ℕ)) → IsLive v n → LivesStep v (reached_node v keep last slash at name n target)
+    lives-arrived n None live = step_if v last (walk_ended v slash at name n) (On n) (lives-ended n live) tt
+    lives-arrived n (Some target) live = step_if v (last && keep) (walk_ended v slash at name n) (Follow target) (lives-ended n live) tt
 
     lives-after : (found : Found) → LivesFound v found → LivesStep v (after_look v keep last slash at name found)
     lives-after Gone live = tt

@@ -5,34 +5,34 @@ use Rattle.dt_base.specs.declared.errno.Errno.{Errno}
 use Rattle.dt_base.specs.declared.errno.Errno.TheVariants.{TooBig, Fault as BadAddress}
 use Rattle.dt_base.specs.declared.limits.TheConstants.{ADDRESS_LIMIT, ARGUMENT_LIMIT}
 use Rattle.dt_elf.specs.Stack.{size}
-use Rattle.dt_exec.specs.declared.limits.TheConstants.{LIST_LIMIT}
+use Rattle.dt_exec.specs.declared.limits.TheConstants.{LIST_LIMIT, LIST_ENTRY}
 use Rattle.dt_space.specs.declared.access.Miss.{Miss}
 use Rattle.dt_space.specs.declared.access.TheConstants.{READ}
 use Rattle.dt_space.specs.Argument.{text_or}
 use Rattle.dt_space.specs.Space.{PageView, load, loaded_number}
-use Rattle.dt_space.specs.Text.{text_at}
+use Rattle.dt_space.specs.Text.{text_at_address}
 
 -- a word, which has no limit of its own: a NUL ends it before the first byte that can't be read, or there is EFAULT
 abbrev pub word_at : List PageView → ℕ → Result (List ℕ) Errno
-word_at pages address = text_or BadAddress (text_at pages address ADDRESS_LIMIT)
+word_at pages address = text_or BadAddress (text_at_address pages address ADDRESS_LIMIT)
 
 -- a word before those that follow it
-abbrev pub before : Result (List ℕ) Errno → Result (List (List ℕ)) Errno → Result (List (List ℕ)) Errno
-before (Err errno) rest = Err errno
-before (Ok word) (Err errno) = Err errno
-before (Ok word) (Ok words) = Ok (word ∷ words)
+abbrev pub word_before : Result (List ℕ) Errno → Result (List (List ℕ)) Errno → Result (List (List ℕ)) Errno
+word_before (Err errno) rest = Err errno
+word_before (Ok word) (Err errno) = Err errno
+word_before (Ok word) (Ok words) = Ok (word ∷ words)
 
 -- the words of a list that begins with this entry: the address of a word, or the 0 that ends the list
 abbrev pub words_from : List PageView → Result ℕ Miss → Result (List (List ℕ)) Errno → Result (List (List ℕ)) Errno
 words_from pages (Err miss) rest = Err BadAddress
 words_from pages (Ok zero) rest = Ok []
-words_from pages (Ok (suc before_it)) rest = before (word_at pages (suc before_it)) rest
+words_from pages (Ok (suc before_it)) rest = word_before (word_at pages (suc before_it)) rest
 
--- the words of a list whose 0 is one of so many entries, each 8 bytes; else EFAULT
+-- the words of a list whose 0 is one of so many entries; else EFAULT
 unfoldable pub words_at : List PageView → ℕ → ℕ → Result (List (List ℕ)) Errno
 words_at pages address zero = Err BadAddress
 words_at pages address (suc left) =
-    words_from pages (loaded_number (load pages READ address 8)) (words_at pages ((address + 8) % 2 ^ 64) left)
+    words_from pages (loaded_number (load pages READ address LIST_ENTRY)) (words_at pages ((address + LIST_ENTRY) % 2 ^ 64) left)
 
 -- a list of words, which goes as far as entries can be read; one at address 0 is empty
 abbrev pub list_argument : List PageView → ℕ → Result (List (List ℕ)) Errno

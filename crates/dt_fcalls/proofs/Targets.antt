@@ -7,7 +7,7 @@ use Rattle.dt_base.specs.Image.{is_target}
 use Rattle.dt_base.specs.declared.errno.Errno.TheVariants.{NameTooLong}
 use Rattle.dt_base.specs.declared.limits.TheConstants.{PATH_LIMIT}
 use Rattle.dt_space.specs.Space.{PageView}
-use Rattle.dt_space.specs.Text.{text_at}
+use Rattle.dt_space.specs.Text.{text_at_address}
 use Rattle.dt_space.specs.declared.access.TextErr.{TextErr}
 use Rattle.dt_space.specs.declared.access.TextErr.TheVariants as text_err
 use Rattle.dt_space.proofs.Texts.{text_short}
@@ -29,4 +29,4 @@ target_of (Err text_err.NoMemory) text short is no_nul = cc
 -- a path that was read may be a link's target
 pub target_good : (pages : List PageView) (address : ℕ) (text : List ℕ) → Ok text ≡ path_argument pages address → IsTrue (has_no_nul text) → IsTrue (is_target text)
 target_good pages address text is no_nul =
-    target_of (text_at pages address (suc PATH_LIMIT)) text (λ t. text_short pages address (suc PATH_LIMIT) t) is no_nul
+    target_of (text_at_address pages address (suc PATH_LIMIT)) text (λ t. text_short pages address (suc PATH_LIMIT) t) is no_nul

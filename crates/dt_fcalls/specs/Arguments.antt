@@ -13,18 +13,18 @@ use Rattle.dt_scene.specs.Scene.{Scene, described}
 use Rattle.dt_tree.specs.declared.limits.TheConstants.{ROOT}
 
 -- the directory that a description is of: ENOTDIR where it is of something else
-abbrev pub dir_of : DescKind → Result ℕ Errno
-dir_of (File n) = Err NotDir
-dir_of (Dir n) = Ok n
-dir_of (PipeRead q) = Err NotDir
-dir_of (PipeWrite q) = Err NotDir
-dir_of Input = Err NotDir
-dir_of (Stream stream) = Err NotDir
+abbrev pub dir_of_kind : DescKind → Result ℕ Errno
+dir_of_kind (File n) = Err NotDir
+dir_of_kind (Dir n) = Ok n
+dir_of_kind (PipeRead q) = Err NotDir
+dir_of_kind (PipeWrite q) = Err NotDir
+dir_of_kind Input = Err NotDir
+dir_of_kind (Stream stream) = Err NotDir
 
 -- the directory that a descriptor refers to: EBADF where it is not open
 abbrev pub dir_described : Option Desc → Result ℕ Errno
 dir_described None = Err BadF
-dir_described (Some desc) = dir_of desc.kind
+dir_described (Some desc) = dir_of_kind desc.kind
 
 -- where a path is looked up first: from the root if it begins with `/`, and else in the directory of the dirfd, which is
 -- the working directory or an open one

@@ -1,7 +1,7 @@
 -- The calls that look at a node, or change what is kept of one: chdir(2), umask(2), faccessat(2), fchmodat(2).
 use Rattle.std.specs.Prelude.{ℕ, List, nat_lt, bit_and, if◌then◌else◌}
 use Rattle.dt_base.specs.Abi.{low_word}
-use Rattle.dt_base.specs.declared.abi.TheConstants.{ACCESS_ALL}
+use Rattle.dt_base.specs.declared.abi.TheConstants.{ACCESS_ALL, CWD_DIRFD}
 use Rattle.dt_base.specs.declared.answer.Answer.TheVariants.{Value}
 use Rattle.dt_base.specs.declared.errno.Errno.TheVariants.{NotDir, Inval}
 use Rattle.dt_base.specs.declared.limits.TheConstants.{MODE_LIMIT}
@@ -9,7 +9,6 @@ use Rattle.dt_tree.specs.Changes.{chmodded, held, released}
 use Rattle.dt_tree.specs.Shape.{is_dir}
 use Rattle.dt_fcalls.specs.declared.modes.TheConstants.{PERMISSIONS}
 use Rattle.dt_fcalls.specs.declared.places.LastLink.TheVariants.{Follow}
-use Rattle.dt_fcalls.specs.declared.places.TheConstants.{CWD_DIRFD}
 use Rattle.dt_scene.specs.Arguments.{argument}
 use Rattle.dt_fcalls.specs.Places.{on_path}
 use Rattle.dt_scene.specs.Scene.{Scene, Row, refused, answers}
@@ -42,9 +41,9 @@ with_cwd n s = answers
     (record s { tree = released (held s.tree n) s.caller.cwd; caller = record s.caller { cwd = n } }) 0
 
 -- a node becomes the working directory: ENOTDIR where it is no directory
-abbrev pub enters : ℕ → Scene → Row
-enters n s = if is_dir s.tree.shape n then with_cwd n s else refused s NotDir
+abbrev pub enters_dir : ℕ → Scene → Row
+enters_dir n s = if is_dir s.tree.shape n then with_cwd n s else refused s NotDir
 
 -- chdir(2), by a path from the working directory
 unfoldable pub chdir_row : List ℕ → Scene → Row
-chdir_row args s = on_path s CWD_DIRFD (argument args 0) Follow (λ n. enters n s)
+chdir_row args s = on_path s CWD_DIRFD (argument args 0) Follow (λ n. enters_dir n s)

@@ -12,7 +12,7 @@ use Rattle.dt_fds.specs.declared.desc.DescKind.{DescKind}
 use Rattle.dt_fds.specs.declared.desc.DescKind.TheVariants.{File, Dir}
 use Rattle.dt_fds.specs.declared.desc.Spot.{Spot}
 use Rattle.dt_fds.specs.declared.desc.Spot.TheVariants.{At, After}
-use Rattle.dt_fds.specs.Descriptions.{table_of, lowest_free}
+use Rattle.dt_fds.specs.Descriptions.{table_at, lowest_free}
 use Rattle.dt_fds.specs.Holding.{add_call}
 use Rattle.dt_host.specs.World.{Forest}
 use Rattle.dt_tree.specs.Calls.{Done, make_node_of, cut_of}
@@ -125,7 +125,7 @@ opens_at flags mode place (Some n) s = opens_found flags n s
 
 -- no descriptor is free
 abbrev pub is_full : Scene → Bool
-is_full s = is_none (lowest_free (table_of s.files s.caller.vpid) 0)
+is_full s = is_none (lowest_free (table_at s.files s.caller.vpid) 0)
 
 -- the place of a path that is to be opened
 unfoldable pub place_of_path : Scene → ℕ → ℕ → List ℕ → Result Place Errno

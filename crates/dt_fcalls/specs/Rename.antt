@@ -32,6 +32,7 @@ abbrev pub arrive_refusal : Forest → ℕ → Place → Option ℕ → Option E
 arrive_refusal v n to (Some replaced) = replace_refusal v n replaced
 arrive_refusal v n to None = if to.slash && not (is_dir v n) then Some NotDir else None
 
+-- a name moves from one place to another, if the tree lets it
 abbrev pub moves_name : Place → Place → Scene → Row
 moves_name from to s = by_done s (move_name_of s.tree from.parent from.name to.parent to.name (stamp s))
 

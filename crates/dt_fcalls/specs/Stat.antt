@@ -16,8 +16,8 @@ abbrev pub st_blocks : Meta → ℕ
 st_blocks meta = if meta.kind == DT_REG then (meta.size + (SECTOR_SIZE - 1)) / SECTOR_SIZE else 0
 
 -- the status of a node
-abbrev pub status_of : ℕ → Meta → Status
-status_of n meta = record {
+abbrev pub node_status : ℕ → Meta → Status
+node_status n meta = record {
   inode = n;
   mode = bit_or (type_bits meta.kind) meta.mode;
   nlink = meta.nlink;
@@ -45,8 +45,8 @@ with_identity status bytes =
     ST_MODE status.mode) ST_NLINK status.nlink
 
 -- what tells its size
-abbrev pub with_size : Status → List ℕ → List ℕ
-with_size status bytes =
+abbrev pub with_size_fields : Status → List ℕ → List ℕ
+with_size_fields status bytes =
     with_field 8 (with_field 4 (with_field 8 bytes ST_SIZE status.size) ST_BLKSIZE BLOCK_SIZE) ST_BLOCKS status.blocks
 
 -- a time: the second, and the nanosecond in it
@@ -60,18 +60,18 @@ abbrev pub with_times : ℕ → List ℕ → List ℕ
 with_times stamp bytes = with_time ST_CTIME stamp (with_time ST_MTIME stamp (with_time ST_ATIME stamp bytes))
 
 -- the bytes of a status; what no field covers is 0
-unfoldable pub status_bytes : Status → List ℕ
-status_bytes status =
-    with_times status.stamp (with_size status (with_identity status (replicate STAT_LEN 0)))
+unfoldable pub stat_bytes : Status → List ℕ
+stat_bytes status =
+    with_times status.stamp (with_size_fields status (with_identity status (replicate STAT_LEN 0)))
 
 -- the bytes of a node's status
 abbrev pub stat_of : ℕ → Meta → List ℕ
-stat_of n meta = status_bytes (status_of n meta)
+stat_of n meta = stat_bytes (node_status n meta)
 
 -- the bytes of the status of the input and of the output streams
 abbrev pub stream_stat : List ℕ
-stream_stat = status_bytes stream_status
+stream_stat = stat_bytes stream_status
 
 -- the bytes of the status of either end of a pipe
 abbrev pub pipe_stat : ℕ → List ℕ
-pipe_stat q = status_bytes (pipe_status q)
+pipe_stat q = stat_bytes (pipe_status q)

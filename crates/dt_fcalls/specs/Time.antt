@@ -46,16 +46,16 @@ abbrev pub reading : Scene → ℕ
 reading s = later s.clock READING_TICKS
 
 -- a reading came into a buffer, and has taken its time: EFAULT where the buffer may not be written
-abbrev pub told : Scene → Result (List PageView) Miss → Row
-told s (Err miss) = refused s BadAddress
-told s (Ok pages) = answers (record s { clock = reading s; space = pages }) 0
+abbrev pub time_told : Scene → Result (List PageView) Miss → Row
+time_told s (Err miss) = refused s BadAddress
+time_told s (Ok pages) = answers (record s { clock = reading s; space = pages }) 0
 
 -- clock_gettime(2): as a number that is not negative, a clock below 0 is past the last one
 unfoldable pub clock_gettime_row : List ℕ → Scene → Row
 clock_gettime_row args s =
     let clock = low_word (argument args 0) in
     if nat_lt CLOCK_BOOTTIME clock then refused s Inval
-    else told s (stored s.space (argument args 1) (timespec_bytes (time_of clock (reading s))))
+    else time_told s (stored s.space (argument args 1) (timespec_bytes (time_of clock (reading s))))
 
 -- the wall time and a time zone of zeros come into their buffers. Only a time that is told takes some
 abbrev pub tells_time_of_day : ℕ → ℕ → Scene → Row

@@ -1,6 +1,7 @@
 // The calls that look at a node, or change what is kept of one.
 ghost use Rattle.std.specs.Prelude.{◌≡◌, ◌≤◌, IfOk, OnOk, IsErrOf, false};
 ghost use Rattle.dt_base.specs.Abi.{low_word};
+ghost use Rattle.dt_base.specs.declared.abi.TheConstants.{CWD_DIRFD as FROM_CWD};
 ghost use Rattle.dt_base.specs.declared.limits.TheConstants.{MODE_LIMIT as MOST};
 ghost use Rattle.dt_host.specs.Cause.{HasCause};
 ghost use Rattle.dt_host.specs.World.{IsDir, IsLive, OnlyForest};
@@ -12,14 +13,13 @@ ghost use Rattle.dt_walk.specs.declared.place.Last.TheVariants.{Follow as follow
 ghost use Rattle.dt_walk.specs.Placed.{IsPlaceIn, IsFollowed};
 ghost use Rattle.dt_scene.specs.Arguments.{argument};
 ghost use Rattle.dt_fcalls.specs.Nodes.{umask_row, faccessat_row, chmods, fchmodat_row, with_cwd, chdir_row};
-ghost use Rattle.dt_fcalls.specs.declared.places.TheConstants.{CWD_DIRFD as FROM_CWD};
 ghost use Rattle.dt_fcalls.specs.Places.{place_at};
 ghost use Rattle.dt_scene.specs.Scene.{Scene};
 ghost use Rattle.dt_scene.specs.Sound.{Sound, Serves, Ends, stage, scene};
 
 use crate::modes::PERMISSIONS;
-use crate::places::{CWD_DIRFD, LastLink, place_at};
-use dt_base::abi::{ACCESS_ALL, low_word};
+use crate::places::{LastLink, place_at};
+use dt_base::abi::{ACCESS_ALL, CWD_DIRFD, low_word};
 use dt_base::{Answer, Caller, Errno, MODE_LIMIT};
 use dt_host::{Host, HostErr};
 use dt_scene::Fs;

@@ -10,7 +10,6 @@ ghost use Rattle.dt_fcalls.specs.Places.{last_of, place_at};
 ghost use Rattle.dt_scene.specs.Sound.{Sound, stage, scene};
 
 use crate::arguments::start_of;
-use dt_base::abi::AT_FDCWD;
 use dt_base::{Caller, Errno};
 use dt_host::{CallErr, Host, HostErr};
 use dt_scene::Fs;
@@ -18,11 +17,6 @@ use dt_space::{Space, path_argument};
 use dt_tree::Tree;
 use dt_walk::{Last, Place, ends_in_slash, walk};
 use std::alloc::Global;
-
-/// The dirfd of the working directory, as an argument: the 32 bits of AT_FDCWD, which is -100 (openat(2)).
-pub const CWD_DIRFD: u64 = 0xffff_ff9c;
-
-const _: () = prove!(CWD_DIRFD as i64 - 0x1_0000_0000 == AT_FDCWD as i64);
 
 /// What becomes of a link that is the last name of a path.
 #[derive(Clone, Copy, Debug)]

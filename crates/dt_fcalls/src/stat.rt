@@ -1,8 +1,8 @@
 //! The layout of `struct stat` on 64-bit RISC-V, and what its fields hold (asm-generic/stat.h).
 ghost use Rattle.std.specs.Prelude.{◌≡◌, ◌+◌, ◌≤◌, length};
 ghost use Rattle.dt_fcalls.specs.declared.stat.TheConstants.{STAT_LEN as LEN, NANOSECONDS as HALF};
-ghost use Rattle.dt_fcalls.specs.Stat.{type_bits, st_blocks, status_of, outer_status, stream_status, pipe_status};
-ghost use Rattle.dt_fcalls.specs.Stat.{with_identity, with_size, with_time, status_bytes};
+ghost use Rattle.dt_fcalls.specs.Stat.{type_bits, st_blocks, node_status, outer_status, stream_status, pipe_status};
+ghost use Rattle.dt_fcalls.specs.Stat.{with_identity, with_size_fields, with_time, stat_bytes};
 ghost use Rattle.dt_fcalls.specs.Stat.{stat_of, stream_stat, pipe_stat};
 
 use crate::time::{FIRST_SECOND, SECOND_TICKS};
@@ -116,7 +116,7 @@ pub struct Status {
 
 impl Status {
     fn of_node(inode: u64, meta: &Meta) -> Self
-        ensures { result ≡ status_of inode meta.now }
+        ensures { result ≡ node_status inode meta.now }
     {
         Status {
             inode,
@@ -171,7 +171,7 @@ impl Status {
     // Puts what tells its size.
     fn put_size(self, bytes: &mut [u8])
         requires { length bytes.old ≡ LEN }
-        ensures value { bytes.new ≡ with_size self bytes.old }
+        ensures value { bytes.new ≡ with_size_fields self bytes.old }
         ensures length { length bytes.new ≡ LEN }
     {
         put64(bytes, ST_SIZE, self.size);
@@ -180,9 +180,9 @@ impl Status {
     }
 
     // The bytes of struct stat.
-    #[tactic(auto, unfolding(crate::specs::Stat::status_bytes))]
+    #[tactic(auto, unfolding(crate::specs::Stat::stat_bytes))]
     fn bytes(self) -> [u8; STAT_LEN]
-        ensures { result ≡ status_bytes self }
+        ensures { result ≡ stat_bytes self }
     {
         let mut bytes = [0; STAT_LEN];
         self.put_identity(&mut bytes);

@@ -4,7 +4,7 @@ ghost use Rattle.dt_space.specs.Argument.{may_fill};
 ghost use Rattle.dt_space.specs.Write.{stored};
 ghost use Rattle.dt_scene.specs.Sound.{Sound, Serves, Ends, Reaches, stage, scene};
 ghost use Rattle.dt_fcalls.specs.Time.{is_wall, first_second, time_of, timespec_bytes, timeval_bytes, time_at};
-ghost use Rattle.dt_fcalls.specs.Time.{ticks_in, ticks_at, is_for_sleep, told};
+ghost use Rattle.dt_fcalls.specs.Time.{ticks_in, ticks_at, is_for_sleep, time_told};
 ghost use Rattle.dt_fcalls.specs.Time.{tells_time_of_day, clock_gettime_row, gettimeofday_row, nanosleep_row};
 ghost use Rattle.dt_fcalls.specs.Time.{clock_nanosleep_row};
 
@@ -166,7 +166,7 @@ fn tell<H: Host>(
     bytes: &[u8],
 ) -> Result<Answer, HostErr>
     requires { Sound (stage fs.old (H.view host.now) caller.now space.old) }
-    ensures { Reaches (told (scene (stage fs.old (H.view host.now) caller.now space.old))
+    ensures { Reaches (time_told (scene (stage fs.old (H.view host.now) caller.now space.old))
         (stored space.old buffer bytes.now))
         (stage fs.old (H.view host.now) caller.now space.old) (stage fs.new (H.view host.now) caller.now space.new)
         result (H.count host.now) (H.count host.now) }

@@ -19,9 +19,9 @@ use Rattle.dt_fds.specs.declared.desc.Desc.{Desc}
 use Rattle.dt_fds.specs.declared.desc.DescKind.{DescKind}
 use Rattle.dt_fds.specs.declared.desc.DescKind.TheVariants.{File, Dir, PipeRead, PipeWrite, Input, Stream}
 use Rattle.dt_fds.specs.declared.desc.Slot.{Slot}
-use Rattle.dt_fds.specs.Pipes.{Pipes, without_pipe}
-use Rattle.dt_fds.specs.Descriptions.{Descriptions, Table, inode_of, pipe_of, read_pipe, write_pipe, named_by, readers, writers, descriptors_of, table_of, with_slot, with_table, with_new, opened, swept, freed, gone, with_description, forgotten}
-use Rattle.dt_fds.specs.Holding.{Holding, over, with_hold, without_hold, let_go, without_end, ended, left}
+use Rattle.dt_fds.specs.Pipes.{PipesView, without_pipe}
+use Rattle.dt_fds.specs.Descriptions.{Descriptions, Table, inode_of, pipe_of, read_pipe, write_pipe, named_by, readers, writers, descriptors_of, table_at, with_slot, with_table, with_new_description, opened, swept, freed, gone, with_description, forgotten}
+use Rattle.dt_fds.specs.Holding.{Holding, over, with_hold, without_hold, let_go, without_end, pipes_after_end, left}
 use Rattle.dt_fds.specs.Backs.{descriptions_of, IsIn, AllIn, AllEnds, Backs, KeepsNodes, KeepsOthers}
 
 abbrev names_node : ℕ → Desc → ℕ
@@ -57,7 +57,7 @@ open-swept f k q P h =
     ]
 
 -- the node of a description that goes is held
-pub gone-held : {m : Pipes} (f : Descriptions) (t : FileTree) (k : ℕ) → Backs (over t m f) → IfSome (gone f k) (λ desc. IfSome (inode_of desc.kind) (λ n. 0 < holds_of t n))
+pub gone-held : {m : PipesView} (f : Descriptions) (t : FileTree) (k : ℕ) → Backs (over t m f) → IfSome (gone f k) (λ desc. IfSome (inode_of desc.kind) (λ n. 0 < holds_of t n))
 unfolding gone
 gone-held f t k h =
     elim (descriptors_of f k == 0) as (λ b. IfSome (cond b (get f.descs k) None) (λ desc. IfSome (inode_of desc.kind) (λ n. 0 < holds_of t n))) [
@@ -110,7 +110,7 @@ in-kept f t u enough kept h = λ k. by_found (get f.descs k) (named f k) (h k)
     by_found (Some desc) c is = kept desc.kind (by_node (inode_of desc.kind) c) is
 
 -- a tree that keeps what is held backs what it backed
-pub backs-held : {m : Pipes} (f : Descriptions) (t u : FileTree) → KeepsHeld t u → Backs (over t m f) → Backs (over u m f)
+pub backs-held : {m : PipesView} (f : Descriptions) (t u : FileTree) → KeepsHeld t u → Backs (over t m f) → Backs (over u m f)
 backs-held f t u held h =
     let enough : (n : ℕ) → descriptions_of f n ≤ holds_of u n = λ n. omega (arith, h.enough n, held.holds n) in
     record { enough = enough; is_in = in-kept f t u enough kept h.is_in; ends = h.ends }
@@ -150,7 +150,7 @@ end-counted f k q = by_found (get f.descs k) refl
         by_kind (Stream stream) a b = tt
 
 -- the pipe of each end is there also after one that has no ends went
-ends-without : (m : Pipes) (f : Descriptions) (q : ℕ) → AllEnds m f → AllEnds (without_end f m q) f
+ends-without : (m : PipesView) (f : Descriptions) (q : ℕ) → AllEnds m f → AllEnds (without_end f m q) f
 unfolding without_end
 ends-without m f q h = by_test (readers f q + writers f q == 0) refl
   where
@@ -170,16 +170,16 @@ ends-without m f q h = by_test (readers f q + writers f q == 0) refl
         by_found none k None counted there = tt
         by_found none k (Some desc) counted there = still none desc.kind counted there
 
-ends-left : (m : Pipes) (f : Descriptions) (lost : Option Desc) → AllEnds m f → AllEnds (left f m lost) f
+ends-left : (m : PipesView) (f : Descriptions) (lost : Option Desc) → AllEnds m f → AllEnds (left f m lost) f
 ends-left m f None h = h
 ends-left m f (Some desc) h = by_pipe (pipe_of desc.kind)
   where
-    by_pipe : (found : Option ℕ) → AllEnds (ended f m found) f
+    by_pipe : (found : Option ℕ) → AllEnds (pipes_after_end f m found) f
     by_pipe None = h
     by_pipe (Some q) = ends-without m f q h
 
 -- the tree backs descriptions also after one went and let its node go
-pub backs-swept : (m : Pipes) (f : Descriptions) (t : FileTree) (k : ℕ) → IsTree t → Backs (over t m f) → Backs (over (let_go t (gone f k)) (left (swept f k) m (gone f k)) (swept f k))
+pub backs-swept : (m : PipesView) (f : Descriptions) (t : FileTree) (k : ℕ) → IsTree t → Backs (over t m f) → Backs (over (let_go t (gone f k)) (left (swept f k) m (gone f k)) (swept f k))
 backs-swept m f t k s h =
     let held = gone-held f t k h in
     let enough : (n : ℕ) → descriptions_of (swept f k) n ≤ holds_of (let_go t (gone f k)) n = λ n. omega (arith, h.enough n, nodes-swept f k n, holds-let_go t (gone f k) n held) in
@@ -198,7 +198,7 @@ tables-swept f k = elim (descriptors_of f k == 0) as (λ b. (cond b (record f { 
 ]
 
 -- what others hold stays also then
-pub others-swept : {m n : Pipes} (p : ℕ) (f : Descriptions) (t : FileTree) (k : ℕ) → IsTree t → Backs (over t m f) → KeepsOthers p (over t m f) (over (let_go t (gone f k)) n (swept f k))
+pub others-swept : {m n : PipesView} (p : ℕ) (f : Descriptions) (t : FileTree) (k : ℕ) → IsTree t → Backs (over t m f) → KeepsOthers p (over t m f) (over (let_go t (gone f k)) n (swept f k))
 others-swept p f t k s h =
     let held = gone-held f t k h in
     let holds : (n : ℕ) → holds_of (let_go t (gone f k)) n + descriptions_of f n ≡ holds_of t n + descriptions_of (swept f k) n = λ n. omega (arith, nodes-swept f k n, holds-let_go t (gone f k) n held) in
@@ -217,7 +217,7 @@ KeepsNodes-same p f = record { tables = λ q apart. refl; counts = λ n. refl; r
 pub KeepsNodes-with_slot : (f : Descriptions) (p fd : ℕ) (slot : Option Slot) → KeepsNodes p f (with_slot f p fd slot)
 unfolding with_slot descriptions_of readers writers
 KeepsNodes-with_slot f p fd slot = record {
-  tables = λ q apart. get-insert_other nat_cmp_total nat_cmp-IsAntisymmetric f.tables p (slice_set (table_of f p) fd slot) q apart;
+  tables = λ q apart. get-insert_other nat_cmp_total nat_cmp-IsAntisymmetric f.tables p (slice_set (table_at f p) fd slot) q apart;
   counts = λ n. refl;
   reading = λ q. refl;
   writing = λ q. refl;
@@ -279,11 +279,11 @@ KeepsNodes-described p f change k same = by_found (get f.descs k) refl
     }
 
 -- with it a tree that backs the descriptions still does
-pub backs-kept : {m : Pipes} (p : ℕ) (f g : Descriptions) (t : FileTree) → KeepsNodes p f g → Backs (over t m f) → Backs (over t m g)
+pub backs-kept : {m : PipesView} (p : ℕ) (f g : Descriptions) (t : FileTree) → KeepsNodes p f g → Backs (over t m f) → Backs (over t m g)
 backs-kept {m = m} p f g t kept h = record { enough = λ n. omega (arith, h.enough n, kept.counts n); is_in = kept.all_in t.shape h.is_in; ends = kept.all_ends m h.ends }
 
 -- and what others hold stays
-pub others-kept : {m n : Pipes} (p : ℕ) (f g : Descriptions) (t : FileTree) → KeepsNodes p f g → KeepsOthers p (over t m f) (over t n g)
+pub others-kept : {m n : PipesView} (p : ℕ) (f g : Descriptions) (t : FileTree) → KeepsNodes p f g → KeepsOthers p (over t m f) (over t n g)
 others-kept p f g t kept = record {
   tables = kept.tables;
   holds = λ n. omega (arith, kept.counts n);
@@ -309,18 +309,18 @@ pub record Kept (defined good kept only : Type 0) (before now : ℕ) : Type 0 wh
   pub later : before ≤ now
 
 -- a descriptor is closed
-pub backs-freed : (m : Pipes) (f : Descriptions) (t : FileTree) (p fd k : ℕ) → IsTree t → Backs (over t m f)
+pub backs-freed : (m : PipesView) (f : Descriptions) (t : FileTree) (p fd k : ℕ) → IsTree t → Backs (over t m f)
     → (let lost = gone (with_slot f p fd None) k in Backs (over (let_go t lost) (left (freed f p fd k) m lost) (freed f p fd k)))
 unfolding freed
 backs-freed m f t p fd k s h = backs-swept m (with_slot f p fd None) t k s (backs-kept p f (with_slot f p fd None) t (KeepsNodes-with_slot f p fd None) h)
 
-pub others-freed : {m n : Pipes} (f : Descriptions) (t : FileTree) (p fd k : ℕ) → IsTree t → Backs (over t m f) → KeepsOthers p (over t m f) (over (let_go t (gone (with_slot f p fd None) k)) n (freed f p fd k))
+pub others-freed : {m n : PipesView} (f : Descriptions) (t : FileTree) (p fd k : ℕ) → IsTree t → Backs (over t m f) → KeepsOthers p (over t m f) (over (let_go t (gone (with_slot f p fd None) k)) n (freed f p fd k))
 unfolding freed
 others-freed {m = m} f t p fd k s h =
     let slot = KeepsNodes-with_slot f p fd None in
     KeepsOthers-then p (over t m f) (over t m (with_slot f p fd None)) _ (others-kept p f (with_slot f p fd None) t slot) (others-swept p (with_slot f p fd None) t k s (backs-kept p f (with_slot f p fd None) t slot h))
 
-pub both : {m n : Pipes} (f g : Descriptions) (t u : FileTree) → f ≡ g → m ≡ n → t ≡ u → ◌≡◌ {A = Holding} (over t m f) (over u n g)
+pub both : {m n : PipesView} (f g : Descriptions) (t u : FileTree) → f ≡ g → m ≡ n → t ≡ u → ◌≡◌ {A = Holding} (over t m f) (over u n g)
 both f g t u p r q = λ i. record { files = p i; pipes = r i; tree = q i }
 
 -- what is there is live
@@ -342,40 +342,40 @@ shape-with_hold t None = refl
 shape-with_hold t (Some m) = shape-held t m
 
 -- a new description is counted
-nodes-new : (f : Descriptions) (desc : Desc) (n : ℕ) → get f.descs f.next ≡ None → descriptions_of (with_new f desc) n ≡ descriptions_of f n + named_by n (inode_of desc.kind)
-unfolding with_new descriptions_of
+nodes-new : (f : Descriptions) (desc : Desc) (n : ℕ) → get f.descs f.next ≡ None → descriptions_of (with_new_description f desc) n ≡ descriptions_of f n + named_by n (inode_of desc.kind)
+unfolding with_new_description descriptions_of
 nodes-new f desc n fresh =
     let sum = total-insert nat_cmp_total (names_node n) f.descs f.next desc in
     let none = ap (weight (names_node n)) fresh in
     omega arith
 
 -- and its node is there if it is
-all_in-new : (v : Forest) (f : Descriptions) (desc : Desc) → AllIn v f → IsIn v desc.kind → AllIn v (with_new f desc)
-unfolding with_new
+all_in-new : (v : Forest) (f : Descriptions) (desc : Desc) → AllIn v f → IsIn v desc.kind → AllIn v (with_new_description f desc)
+unfolding with_new_description
 all_in-new v f desc h is = λ q. at_insert nat_cmp_total nat_cmp-IsAntisymmetric (λ found. IfSome found (λ d. IsIn v d.kind)) f.descs f.next desc q (λ _. is) (λ apart. h q)
 
 -- and so is its pipe
-pub all_ends-new : (m : Pipes) (f : Descriptions) (desc : Desc) → AllEnds m f → IfSome (pipe_of desc.kind) (λ q. IsSome (get m.contents q)) → AllEnds m (with_new f desc)
-unfolding with_new
+pub all_ends-new : (m : PipesView) (f : Descriptions) (desc : Desc) → AllEnds m f → IfSome (pipe_of desc.kind) (λ q. IsSome (get m.contents q)) → AllEnds m (with_new_description f desc)
+unfolding with_new_description
 all_ends-new m f desc h there = λ q. at_insert nat_cmp_total nat_cmp-IsAntisymmetric (λ found. IfSome found (λ d. IfSome (pipe_of d.kind) (λ r. IsSome (get m.contents r)))) f.descs f.next desc q (λ _. there) (λ apart. h q)
 
 -- a new description holds its node
-pub backs-new : {m : Pipes} (f : Descriptions) (t : FileTree) (desc : Desc) → IsTree t → Backs (over t m f) → get f.descs f.next ≡ None → IsIn t.shape desc.kind
-    → IfSome (pipe_of desc.kind) (λ q. IsSome (get m.contents q)) → Backs (over (with_hold t (inode_of desc.kind)) m (with_new f desc))
+pub backs-new : {m : PipesView} (f : Descriptions) (t : FileTree) (desc : Desc) → IsTree t → Backs (over t m f) → get f.descs f.next ≡ None → IsIn t.shape desc.kind
+    → IfSome (pipe_of desc.kind) (λ q. IsSome (get m.contents q)) → Backs (over (with_hold t (inode_of desc.kind)) m (with_new_description f desc))
 backs-new {m = m} f t desc s h fresh is there = record {
   enough = λ n. omega (arith, h.enough n, nodes-new f desc n fresh, holds-with_hold t s n (inode_of desc.kind) (live-in t.shape desc.kind is));
-  is_in = subst (λ v. AllIn v (with_new f desc)) (sym (shape-with_hold t (inode_of desc.kind))) (all_in-new t.shape f desc h.is_in is);
+  is_in = subst (λ v. AllIn v (with_new_description f desc)) (sym (shape-with_hold t (inode_of desc.kind))) (all_in-new t.shape f desc h.is_in is);
   ends = all_ends-new m f desc h.ends there;
 }
 
 -- the tables stay
-tables-new : (f : Descriptions) (desc : Desc) → (with_new f desc).tables ≡ f.tables
-unfolding with_new
+tables-new : (f : Descriptions) (desc : Desc) → (with_new_description f desc).tables ≡ f.tables
+unfolding with_new_description
 tables-new f desc = refl
 
 -- and what others hold stays
-pub others-new : {m n : Pipes} (p : ℕ) (f : Descriptions) (t : FileTree) (desc : Desc) → IsTree t → get f.descs f.next ≡ None → IsIn t.shape desc.kind
-    → KeepsOthers p (over t m f) (over (with_hold t (inode_of desc.kind)) n (with_new f desc))
+pub others-new : {m n : PipesView} (p : ℕ) (f : Descriptions) (t : FileTree) (desc : Desc) → IsTree t → get f.descs f.next ≡ None → IsIn t.shape desc.kind
+    → KeepsOthers p (over t m f) (over (with_hold t (inode_of desc.kind)) n (with_new_description f desc))
 others-new p f t desc s fresh is = record {
   tables = λ q apart. ap (λ tables. get tables q) (tables-new f desc);
   holds = λ n. omega (arith, nodes-new f desc n fresh, holds-with_hold t s n (inode_of desc.kind) (live-in t.shape desc.kind is));
@@ -384,14 +384,14 @@ others-new p f t desc s fresh is = record {
 }
 
 -- under a descriptor
-pub backs-opened : {m : Pipes} (f : Descriptions) (t : FileTree) (p fd : ℕ) (desc : Desc) (cloexec : Bool) → IsTree t → Backs (over t m f) → get f.descs f.next ≡ None → IsIn t.shape desc.kind
+pub backs-opened : {m : PipesView} (f : Descriptions) (t : FileTree) (p fd : ℕ) (desc : Desc) (cloexec : Bool) → IsTree t → Backs (over t m f) → get f.descs f.next ≡ None → IsIn t.shape desc.kind
     → IfSome (pipe_of desc.kind) (λ q. IsSome (get m.contents q)) → Backs (over (with_hold t (inode_of desc.kind)) m (opened f p fd desc cloexec))
 backs-opened f t p fd desc cloexec s h fresh is there =
-    backs-kept p (with_new f desc) _ (with_hold t (inode_of desc.kind)) (KeepsNodes-with_slot (with_new f desc) p fd (Some (record { number = f.next; cloexec = cloexec }))) (backs-new f t desc s h fresh is there)
+    backs-kept p (with_new_description f desc) _ (with_hold t (inode_of desc.kind)) (KeepsNodes-with_slot (with_new_description f desc) p fd (Some (record { number = f.next; cloexec = cloexec }))) (backs-new f t desc s h fresh is there)
 
-pub others-opened : {m n : Pipes} (f : Descriptions) (t : FileTree) (p fd : ℕ) (desc : Desc) (cloexec : Bool) → IsTree t → get f.descs f.next ≡ None → IsIn t.shape desc.kind
+pub others-opened : {m n : PipesView} (f : Descriptions) (t : FileTree) (p fd : ℕ) (desc : Desc) (cloexec : Bool) → IsTree t → get f.descs f.next ≡ None → IsIn t.shape desc.kind
     → KeepsOthers p (over t m f) (over (with_hold t (inode_of desc.kind)) n (opened f p fd desc cloexec))
 others-opened {m = m} f t p fd desc cloexec s fresh is =
     let node = inode_of desc.kind in
-    KeepsOthers-then p (over t m f) (over (with_hold t node) m (with_new f desc)) _ (others-new p f t desc s fresh is)
-    (others-kept p (with_new f desc) _ (with_hold t node) (KeepsNodes-with_slot (with_new f desc) p fd (Some (record { number = f.next; cloexec = cloexec }))))
+    KeepsOthers-then p (over t m f) (over (with_hold t node) m (with_new_description f desc)) _ (others-new p f t desc s fresh is)
+    (others-kept p (with_new_description f desc) _ (with_hold t node) (KeepsNodes-with_slot (with_new_description f desc) p fd (Some (record { number = f.next; cloexec = cloexec }))))

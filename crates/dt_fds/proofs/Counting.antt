@@ -17,7 +17,7 @@ use Rattle.dt_fds.specs.declared.desc.TheConstants.{DESCRIPTOR_LIMIT}
 use Rattle.dt_fds.specs.declared.desc.Desc.{Desc}
 use Rattle.dt_fds.specs.declared.desc.Slot.{Slot}
 use Rattle.dt_tree.specs.Shape.{one_for}
-use Rattle.dt_fds.specs.Descriptions.{IsDesc, Descriptions, Table, table_of, refers, descriptors_of, with_slot, swept, freed}
+use Rattle.dt_fds.specs.Descriptions.{IsDesc, Descriptions, Table, table_at, refers, descriptors_of, with_slot, swept, freed}
 use Rattle.dt_fds.specs.inner.Counts.{Counts}
 use Rattle.dt_fds.proofs.Slots.{flat}
 
@@ -208,14 +208,14 @@ counts-entered descs counts tables next p fd desc slot h there within free new g
 
 -- the code's way to sweep is the definition's
 pub freed-is : (f : Descriptions) (p fd n c : ℕ) → (c == 1) ≡ (descriptors_of (with_slot f p fd None) n == 0)
-    → ◌≡◌ {A = Descriptions} (record { descs = cond (c == 1) (remove f.descs n) f.descs; tables = insert f.tables p (slice_set (table_of f p) fd None); next = f.next }) (freed f p fd n)
+    → ◌≡◌ {A = Descriptions} (record { descs = cond (c == 1) (remove f.descs n) f.descs; tables = insert f.tables p (slice_set (table_at f p) fd None); next = f.next }) (freed f p fd n)
 unfolding freed with_slot swept
 freed-is f p fd n c e =
-    let new = insert f.tables p (slice_set (table_of f p) fd None) in
+    let new = insert f.tables p (slice_set (table_at f p) fd None) in
     by_test (c == 1) ∙ ap (λ b. cond b (record { descs = remove f.descs n; tables = new; next = f.next }) (record { descs = f.descs; tables = new; next = f.next })) e
   where
-    by_test : (b : Bool) → ◌≡◌ {A = Descriptions} (record { descs = cond b (remove f.descs n) f.descs; tables = insert f.tables p (slice_set (table_of f p) fd None); next = f.next })
-        (cond b (record { descs = remove f.descs n; tables = insert f.tables p (slice_set (table_of f p) fd None); next = f.next }) (record { descs = f.descs; tables = insert f.tables p (slice_set (table_of f p) fd None); next = f.next }))
+    by_test : (b : Bool) → ◌≡◌ {A = Descriptions} (record { descs = cond b (remove f.descs n) f.descs; tables = insert f.tables p (slice_set (table_at f p) fd None); next = f.next })
+        (cond b (record { descs = remove f.descs n; tables = insert f.tables p (slice_set (table_at f p) fd None); next = f.next }) (record { descs = f.descs; tables = insert f.tables p (slice_set (table_at f p) fd None); next = f.next }))
     by_test true = refl
     by_test false = refl
 

@@ -15,15 +15,15 @@ use Rattle.dt_host.specs.World.{Pipes as HostPipes}
 use Rattle.dt_pipes.specs.Table as pipes
 use Rattle.dt_pipes.specs.Table.{pipes_of, has_pipe}
 use Rattle.dt_pipes.proofs.Held.{has-pipes_of}
-use Rattle.dt_fds.specs.Pipes.{Pipes, content, without_pipe, pipe_at}
+use Rattle.dt_fds.specs.Pipes.{PipesView, pipe_content, without_pipe, pipe_at}
 use Rattle.dt_fds.specs.Descriptions.{Descriptions, pipe_of, read_pipe, write_pipe, named_by, readers, writers, descriptors_of, with_slot, swept, freed, gone}
 use Rattle.dt_fds.specs.declared.desc.Slot.{Slot}
-use Rattle.dt_fds.specs.Descriptions.{description_at, desc_of, slot_at}
-use Rattle.dt_fds.specs.Holding.{Holding, without_end, ended, left, read_of, read_from, read_by, held_by, write_to, write_by}
+use Rattle.dt_fds.specs.Descriptions.{description_at, slot_description, slot_at}
+use Rattle.dt_fds.specs.Holding.{Holding, without_end, pipes_after_end, left, read_of, read_from, read_by, held_by, write_to, write_by}
 use Rattle.dt_fds.specs.Ends.{AreCounted, is_read, is_written, one_if}
 use Rattle.dt_fds.specs.inner.Ends.{named_end, without_ends, last_end, without_last, end_by}
 use Rattle.dt_fds.specs.declared.desc.DescKind.TheVariants.{File, Dir, PipeRead, PipeWrite, Input, Stream}
-use Rattle.dt_fds.specs.Descriptions.{with_new, opened}
+use Rattle.dt_fds.specs.Descriptions.{with_new_description, opened}
 use Rattle.dt_fds.specs.Backs.{AllEnds, KeepsNodes}
 use Rattle.dt_fds.proofs.Backing.{names_read, names_written, KeepsNodes-with_slot}
 
@@ -87,12 +87,12 @@ module _ (f : Descriptions) (ends : FinMap nat_cmp Ends) (p fd k : ℕ) (counted
   }
 
 -- the pipes without the one that goes, if one does
-abbrev pub without_gone : Pipes → Option ℕ → Pipes
+abbrev pub without_gone : PipesView → Option ℕ → PipesView
 without_gone pipes None = pipes
 without_gone pipes (Some q) = without_pipe pipes q
 
 -- what a description that went leaves of the pipes
-pub left-last : (f : Descriptions) (ends : FinMap nat_cmp Ends) (m : Pipes) (lost : Option Desc) → AreCounted f ends → left f m lost ≡ without_gone m (last_end ends (option_map (λ (desc : Desc). desc.kind) lost))
+pub left-last : (f : Descriptions) (ends : FinMap nat_cmp Ends) (m : PipesView) (lost : Option Desc) → AreCounted f ends → left f m lost ≡ without_gone m (last_end ends (option_map (λ (desc : Desc). desc.kind) lost))
 unfolding without_end
 left-last f ends m None counted = refl
 left-last f ends m (Some desc) counted = by_pipe (pipe_of desc.kind)
@@ -102,7 +102,7 @@ left-last f ends m (Some desc) counted = by_pipe (pipe_of desc.kind)
     by_test q false true r w = let test : (readers f q + writers f q == 0) ≡ false = grind (arith, nat_tests) in ap (λ t. if t then without_pipe m q else m) test
     by_test q false false r w = let test : (readers f q + writers f q == 0) ≡ true = grind (arith, nat_tests) in ap (λ t. if t then without_pipe m q else m) test
 
-    by_pipe : (found : Option ℕ) → ended f m found ≡ without_gone m (without_ends ends found)
+    by_pipe : (found : Option ℕ) → pipes_after_end f m found ≡ without_gone m (without_ends ends found)
     by_pipe None = refl
     by_pipe (Some q) = by_test q (is_read (get ends q)) (is_written (get ends q)) (counted.reading q) (counted.writing q)
 
@@ -116,15 +116,15 @@ no-end Input q e = (refl, refl)
 no-end (Stream stream) q e = (refl, refl)
 
 -- a new description is counted
-reading-new : (f : Descriptions) (desc : Desc) (q : ℕ) → get f.descs f.next ≡ None → readers (with_new f desc) q ≡ readers f q + named_by q (read_pipe desc.kind)
-unfolding with_new readers
+reading-new : (f : Descriptions) (desc : Desc) (q : ℕ) → get f.descs f.next ≡ None → readers (with_new_description f desc) q ≡ readers f q + named_by q (read_pipe desc.kind)
+unfolding with_new_description readers
 reading-new f desc q fresh =
     let sum = total-insert nat_cmp_total (names_read q) f.descs f.next desc in
     let none = ap (weight (names_read q)) fresh in
     omega arith
 
-writing-new : (f : Descriptions) (desc : Desc) (q : ℕ) → get f.descs f.next ≡ None → writers (with_new f desc) q ≡ writers f q + named_by q (write_pipe desc.kind)
-unfolding with_new writers
+writing-new : (f : Descriptions) (desc : Desc) (q : ℕ) → get f.descs f.next ≡ None → writers (with_new_description f desc) q ≡ writers f q + named_by q (write_pipe desc.kind)
+unfolding with_new_description writers
 writing-new f desc q fresh =
     let sum = total-insert nat_cmp_total (names_written q) f.descs f.next desc in
     let none = ap (weight (names_written q)) fresh in
@@ -132,12 +132,12 @@ writing-new f desc q fresh =
 
 pub reading-opened : (f : Descriptions) (p fd : ℕ) (desc : Desc) (cloexec : Bool) (q : ℕ) → get f.descs f.next ≡ None → readers (opened f p fd desc cloexec) q ≡ readers f q + named_by q (read_pipe desc.kind)
 reading-opened f p fd desc cloexec q fresh =
-    let kept = KeepsNodes-with_slot (with_new f desc) p fd (Some (record { number = f.next; cloexec = cloexec })) in
+    let kept = KeepsNodes-with_slot (with_new_description f desc) p fd (Some (record { number = f.next; cloexec = cloexec })) in
     kept.reading q ∙ reading-new f desc q fresh
 
 pub writing-opened : (f : Descriptions) (p fd : ℕ) (desc : Desc) (cloexec : Bool) (q : ℕ) → get f.descs f.next ≡ None → writers (opened f p fd desc cloexec) q ≡ writers f q + named_by q (write_pipe desc.kind)
 writing-opened f p fd desc cloexec q fresh =
-    let kept = KeepsNodes-with_slot (with_new f desc) p fd (Some (record { number = f.next; cloexec = cloexec })) in
+    let kept = KeepsNodes-with_slot (with_new_description f desc) p fd (Some (record { number = f.next; cloexec = cloexec })) in
     kept.writing q ∙ writing-new f desc q fresh
 
 -- the ends are counted also with a new description that is none
@@ -155,7 +155,7 @@ counted-kept p f g ends kept counted = record {
 }
 
 -- the pipe of a description that goes is there
-pub gone-ends : (m : Pipes) (f : Descriptions) (k : ℕ) → AllEnds m f → IfSome (gone f k) (λ desc. IfSome (pipe_of desc.kind) (λ q. IsSome (get m.contents q)))
+pub gone-ends : (m : PipesView) (f : Descriptions) (k : ℕ) → AllEnds m f → IfSome (gone f k) (λ desc. IfSome (pipe_of desc.kind) (λ q. IsSome (get m.contents q)))
 unfolding gone
 gone-ends m f k h =
     elim (descriptors_of f k == 0) as (λ b. IfSome (cond b (get f.descs k) None) (λ desc. IfSome (pipe_of desc.kind) (λ q. IsSome (get m.contents q)))) [
@@ -177,7 +177,7 @@ last-there ends (Some desc) P h = by_pipe (pipe_of desc.kind) h
     by_pipe (Some q) h = by_test q (is_read (get ends q) || is_written (get ends q)) h
 
 -- the pipes without it
-pub gone-pipes : (m : Pipes) (contents : FinMap nat_cmp (List ℕ)) (next : ℕ) (last : Option ℕ) → contents ≡ without_last m.contents last → next ≡ m.next → ◌≡◌ {A = Pipes} (record { contents = contents; next = next }) (without_gone m last)
+pub gone-pipes : (m : PipesView) (contents : FinMap nat_cmp (List ℕ)) (next : ℕ) (last : Option ℕ) → contents ≡ without_last m.contents last → next ≡ m.next → ◌≡◌ {A = PipesView} (record { contents = contents; next = next }) (without_gone m last)
 gone-pipes m contents next None is same = λ i. record { contents = is i; next = same i }
 gone-pipes m contents next (Some q) is same = λ i. record { contents = is i; next = same i }
 
@@ -195,7 +195,7 @@ pub of-described : (f : Descriptions) (p fd : ℕ) (P : ℕ → Type 0) → ((k 
 unfolding description_at
 of-described f p fd P h = by_slot (slot_at f p fd)
   where
-    by_slot : (found : Option Slot) → IfSome (option_and_then (desc_of f) found) (λ desc. IfSome (pipe_of desc.kind) P)
+    by_slot : (found : Option Slot) → IfSome (option_and_then (slot_description f) found) (λ desc. IfSome (pipe_of desc.kind) P)
     by_slot None = tt
     by_slot (Some slot) = h slot.number
 
@@ -246,17 +246,17 @@ write-there found q nonblock P h e =
     write-named end.desc.kind q P (subst (λ found. IfSome found (λ desc. IfSome (pipe_of desc.kind) P)) end.is h) end.pipe
 
 -- the calls by what was looked up
-pub read-by : (h : Holding) (most : ℕ) (found : Option Desc) (q : ℕ) (nonblock : Bool) → end_by read_pipe found ≡ Some (q, nonblock) → read_by h most found ≡ read_of h q nonblock most (content h.pipes q)
+pub read-by : (h : Holding) (most : ℕ) (found : Option Desc) (q : ℕ) (nonblock : Bool) → end_by read_pipe found ≡ Some (q, nonblock) → read_by h most found ≡ read_of h q nonblock most (pipe_content h.pipes q)
 read-by h most found q nonblock e =
     let end = end-found read_pipe found q nonblock e in
     ap (read_by h most) end.is
     ∙ ap (read_from h end.desc.nonblock most) end.pipe
-    ∙ ap (λ b. read_of h q b most (content h.pipes q)) end.waits
+    ∙ ap (λ b. read_of h q b most (pipe_content h.pipes q)) end.waits
 
-pub held-by : (h : Holding) (found : Option Desc) (q : ℕ) (nonblock : Bool) → end_by read_pipe found ≡ Some (q, nonblock) → held_by h found ≡ content h.pipes q
+pub held-by : (h : Holding) (found : Option Desc) (q : ℕ) (nonblock : Bool) → end_by read_pipe found ≡ Some (q, nonblock) → held_by h found ≡ pipe_content h.pipes q
 held-by h found q nonblock e =
     let end = end-found read_pipe found q nonblock e in
-    ap (held_by h) end.is ∙ ap (λ named. unwrap_or (option_map (content h.pipes) named) []) end.pipe
+    ap (held_by h) end.is ∙ ap (λ named. unwrap_or (option_map (pipe_content h.pipes) named) []) end.pipe
 
 pub write-by : (h : Holding) (bytes : List ℕ) (count : ℕ) (found : Option Desc) (q : ℕ) (nonblock : Bool) → end_by write_pipe found ≡ Some (q, nonblock)
     → write_by h bytes count found ≡ write_to h nonblock bytes count (Some q)

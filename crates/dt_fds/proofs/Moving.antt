@@ -16,7 +16,7 @@ use Rattle.dt_fds.specs.Descriptions.{Descriptions, description_at, pipe_of, rea
 use Rattle.dt_fds.specs.Ends.{is_read}
 use Rattle.dt_fds.specs.Holding.{goes_to, goes_by, pipe_moves}
 use Rattle.dt_fds.specs.OpenFiles.{pipes_at}
-use Rattle.dt_fds.specs.Pipes.{Pipes, content, goes}
+use Rattle.dt_fds.specs.Pipes.{PipesView, pipe_content, goes}
 use Rattle.dt_fds.specs.inner.Ends.{end_by}
 use Rattle.dt_fds.proofs.Ending.{end-found, none-if}
 
@@ -52,12 +52,12 @@ pub goes-room : (count whole done : ℕ) → count ≤ PIPE_LIMIT → count + go
 goes-room count whole done within = grind (arith, nat_tests)
 
 -- how much it moves, by what was looked up
-goes-found : (f : Descriptions) (m : Pipes) (whole count : ℕ) (found : Option Desc) (q : ℕ) (nonblock : Bool) → end_by write_pipe found ≡ Some (q, nonblock) → goes_by f m whole count found ≡ goes_to f m whole count (Some q)
+goes-found : (f : Descriptions) (m : PipesView) (whole count : ℕ) (found : Option Desc) (q : ℕ) (nonblock : Bool) → end_by write_pipe found ≡ Some (q, nonblock) → goes_by f m whole count found ≡ goes_to f m whole count (Some q)
 goes-found f m whole count found q nonblock e =
     let end = end-found write_pipe found q nonblock e in
     ap (goes_by f m whole count) end.is ∙ ap (goes_to f m whole count) end.pipe
 
-goes-nowhere : (f : Descriptions) (m : Pipes) (whole count : ℕ) (found : Option Desc) → end_by write_pipe found ≡ None → goes_by f m whole count found ≡ 0
+goes-nowhere : (f : Descriptions) (m : PipesView) (whole count : ℕ) (found : Option Desc) → end_by write_pipe found ≡ None → goes_by f m whole count found ≡ 0
 goes-nowhere f m whole count None e = refl
 goes-nowhere f m whole count (Some desc) e = by-pipe (write_pipe desc.kind) e
   where
@@ -71,15 +71,15 @@ module _ (f : Files) (host : HostPipes) (p fd whole count : ℕ) where
   moves-nowhere e = goes-nowhere f.descriptors (pipes_at f host) whole count (description_at f.descriptors p fd) e
 
   module _ (q : ℕ) (nonblock : Bool) (piped : IsPiped f host) (e : end_by write_pipe (description_at f.descriptors p fd) ≡ Some (q, nonblock)) where
-    moves-if : (noted : Bool) → is_read (get f.ends q) ≡ noted → pipe_moves p fd whole count f.descriptors (pipes_at f host) ≡ (if not noted then 0 else goes (length (content (pipes_at f host) q)) whole count)
+    moves-if : (noted : Bool) → is_read (get f.ends q) ≡ noted → pipe_moves p fd whole count f.descriptors (pipes_at f host) ≡ (if not noted then 0 else goes (length (pipe_content (pipes_at f host) q)) whole count)
     unfolding pipe_moves
     moves-if noted is =
         goes-found f.descriptors (pipes_at f host) whole count (description_at f.descriptors p fd) q nonblock e
-        ∙ ap (λ b. if b then 0 else goes (length (content (pipes_at f host) q)) whole count)
+        ∙ ap (λ b. if b then 0 else goes (length (pipe_content (pipes_at f host) q)) whole count)
         (none-if (readers f.descriptors q) (is_read (get f.ends q)) (piped.counted.reading q) ∙ ap not is)
 
     pub moves-unread : is_read (get f.ends q) ≡ false → pipe_moves p fd whole count f.descriptors (pipes_at f host) ≡ 0
     moves-unread is = moves-if false is
 
-    pub moves-read : is_read (get f.ends q) ≡ true → pipe_moves p fd whole count f.descriptors (pipes_at f host) ≡ goes (length (content (pipes_at f host) q)) whole count
+    pub moves-read : is_read (get f.ends q) ≡ true → pipe_moves p fd whole count f.descriptors (pipes_at f host) ≡ goes (length (pipe_content (pipes_at f host) q)) whole count
     moves-read is = moves-if true is

@@ -17,7 +17,7 @@ use Rattle.dt_host.specs.declared.error.CallErr.{CallErr}
 use Rattle.dt_tree.specs.Calls.{UnlessFailed}
 use Rattle.dt_fds.specs.inner.Ends.{as_call}
 use Rattle.dt_fds.specs.Holding.{Holding, Outcome, over}
-use Rattle.dt_fds.specs.Backs.{IsBacked, AllIn, KeepsOthers, Does, HasFailed, descriptions_of, at, holding}
+use Rattle.dt_fds.specs.Backs.{IsBacked, AllIn, KeepsOthers, Does, HasFailed, descriptions_of, at, holding_at}
 use Rattle.dt_fds.proofs.Backing.{KeepsNodes-same, others-kept}
 use Rattle.dt_fds.proofs.Ending.{ends-same}
 
@@ -38,9 +38,9 @@ module _ (f : Files) (t : pipes.Table) (w v : World) (table : Table) (backed : I
     };
   }
 
-  pub others-piped : (p : ℕ) → KeepsOthers p (holding (at f table w)) (holding (at (with_pipes f t) table v))
+  pub others-piped : (p : ℕ) → KeepsOthers p (holding_at (at f table w)) (holding_at (at (with_pipes f t) table v))
   others-piped p =
-      subst (λ (u : FileTree). KeepsOthers p (holding (at f table w)) (over u (pipes_at (with_pipes f t) v.pipes) f.descriptors)) (ap (tree_of table) (sym rest.forest))
+      subst (λ (u : FileTree). KeepsOthers p (holding_at (at f table w)) (over u (pipes_at (with_pipes f t) v.pipes) f.descriptors)) (ap (tree_of table) (sym rest.forest))
       (others-kept p f.descriptors f.descriptors (tree_of table w.forest) (KeepsNodes-same p f.descriptors))
 
 -- what is said of no answer in particular

@@ -14,7 +14,7 @@ use Rattle.dt_tree.specs.FileTree.{FileTree, IsTree}
 use Rattle.dt_fds.specs.declared.desc.Desc.{Desc}
 use Rattle.dt_fds.specs.declared.ends.Ends.{Ends}
 use Rattle.dt_fds.specs.Ends.{AreCounted, is_read, is_written, one_if}
-use Rattle.dt_fds.specs.Pipes.{Pipes, with_new_pipe}
+use Rattle.dt_fds.specs.Pipes.{PipesView, with_new_pipe}
 use Rattle.dt_fds.specs.Descriptions.{Descriptions, pipe_of, named_by, readers, writers, opened}
 use Rattle.dt_fds.specs.Holding.{over, read_end, write_end}
 use Rattle.dt_fds.specs.Backs.{AllEnds, Backs, KeepsOthers}
@@ -23,7 +23,7 @@ use Rattle.dt_fds.proofs.Ending.{reading-opened, writing-opened}
 use Rattle.dt_fds.proofs.Unnamed.{no-readers, no-writers}
 
 -- the pipe of each end is there also with a new pipe
-ends-more : (m : Pipes) (f : Descriptions) → AllEnds m f → AllEnds (with_new_pipe m) f
+ends-more : (m : PipesView) (f : Descriptions) → AllEnds m f → AllEnds (with_new_pipe m) f
 ends-more m f h = λ k. by_found (get f.descs k) (h k)
   where
     by_pipe : (named : Option ℕ) → IfSome named (λ q. IsSome (get m.contents q)) → IfSome named (λ q. IsSome (get (insert m.contents m.next []) q))
@@ -34,7 +34,7 @@ ends-more m f h = λ k. by_found (get f.descs k) (h k)
     by_found None h = tt
     by_found (Some desc) h = by_pipe (pipe_of desc.kind) h
 
-module _ (m : Pipes) (f : Descriptions) (p read write flags : ℕ) (cloexec : Bool) (none : get m.contents m.next ≡ None) (fresh : get f.descs f.next ≡ None) where
+module _ (m : PipesView) (f : Descriptions) (p read write flags : ℕ) (cloexec : Bool) (none : get m.contents m.next ≡ None) (fresh : get f.descs f.next ≡ None) where
   abbrev pub one : Descriptions
   one = opened f p read (read_end m.next flags) cloexec
 

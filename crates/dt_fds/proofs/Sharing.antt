@@ -7,7 +7,7 @@ use Rattle.std.specs.FinMap.{get, insert, nat_cmp-IsAntisymmetric}
 use Rattle.dt_host.proofs.Maps.{get-insert_same, get-insert_other, insert_same}
 use Rattle.dt_fds.specs.declared.desc.TheConstants.{DESCRIPTOR_LIMIT}
 use Rattle.dt_fds.specs.declared.desc.Slot.{Slot}
-use Rattle.dt_fds.specs.Descriptions.{Descriptions, Table, table_of, slot_at, with_slot, with_copy, with_table, given_table, shared_all}
+use Rattle.dt_fds.specs.Descriptions.{Descriptions, Table, table_at, slot_at, with_slot, with_copy, with_table, given_table, shared_all}
 
 -- a table with the slots below a descriptor of another, and the rest free
 abbrev pub partial : Table → ℕ → Table
@@ -50,15 +50,15 @@ others-apart f p q there none is =
 pub table-here : (f : Descriptions) (p : ℕ) (table : Table) → get (with_table f p table).tables p ≡ Some table
 table-here f p table = get-insert_same nat_cmp_total nat_cmp-IsAntisymmetric f.tables p table
 
-table_here : (f : Descriptions) (p : ℕ) (table : Table) → table_of (with_table f p table) p ≡ table
+table_here : (f : Descriptions) (p : ℕ) (table : Table) → table_at (with_table f p table) p ≡ table
 table_here f p table = ap (λ found. unwrap_or found []) (table-here f p table)
 
-table_other : (f : Descriptions) (p q : ℕ) (table : Table) → q ≢ p → table_of (with_table f p table) q ≡ table_of f q
+table_other : (f : Descriptions) (p q : ℕ) (table : Table) → q ≢ p → table_at (with_table f p table) q ≡ table_at f q
 table_other f p q table apart = ap (λ found. unwrap_or found []) (get-insert_other nat_cmp_total nat_cmp-IsAntisymmetric f.tables p table q apart)
 
 -- what a child begins with
-pub with-none : (f : Descriptions) (parent child : ℕ) → length (table_of f parent) ≡ DESCRIPTOR_LIMIT → with_table f child (replicate DESCRIPTOR_LIMIT None) ≡ with_table f child (partial (table_of f parent) 0)
-with-none f parent child size = ap (λ n. with_table f child (replicate n None)) (sym size) ∙ ap (with_table f child) (partial-none (table_of f parent))
+pub with-none : (f : Descriptions) (parent child : ℕ) → length (table_at f parent) ≡ DESCRIPTOR_LIMIT → with_table f child (replicate DESCRIPTOR_LIMIT None) ≡ with_table f child (partial (table_at f parent) 0)
+with-none f parent child size = ap (λ n. with_table f child (replicate n None)) (sym size) ∙ ap (with_table f child) (partial-none (table_at f parent))
 
 -- the next descriptor is free
 pub next-free : (f : Descriptions) (child fd : ℕ) (table : Table) → slot_at (with_table f child (partial table fd)) child fd ≡ None
@@ -66,11 +66,11 @@ unfolding slot_at
 next-free f child fd table = ap (λ t. option_flatten (slice_get t fd)) (table_here f child (partial table fd)) ∙ partial-free table fd
 
 -- one more slot is copied
-pub copied-next : (f g h : Descriptions) (parent child fd : ℕ) → parent ≢ child → g ≡ with_table f child (partial (table_of f parent) fd) → h ≡ with_copy g child fd (slot_at g parent fd)
-    → h ≡ with_table f child (partial (table_of f parent) (fd + 1))
+pub copied-next : (f g h : Descriptions) (parent child fd : ℕ) → parent ≢ child → g ≡ with_table f child (partial (table_at f parent) fd) → h ≡ with_copy g child fd (slot_at g parent fd)
+    → h ≡ with_table f child (partial (table_at f parent) (fd + 1))
 unfolding slot_at with_slot
 copied-next f g h parent child fd apart same next =
-    let table = table_of f parent in
+    let table = table_at f parent in
     let base : Descriptions = with_table f child (partial table fd) in
     let more : suc fd ≡ fd + 1 = omega arith in
     next ∙ ap (λ g. with_copy g child fd (slot_at g parent fd)) same
@@ -78,25 +78,25 @@ copied-next f g h parent child fd apart same next =
     ∙ by_slot (option_flatten (slice_get table fd)) refl
     ∙ ap (λ n. with_table f child (partial table n)) more
   where
-    by_slot : (found : Option Slot) → option_flatten (slice_get (table_of f parent) fd) ≡ found
-        → with_copy (with_table f child (partial (table_of f parent) fd)) child fd found ≡ with_table f child (partial (table_of f parent) (suc fd))
-    by_slot None e = ap (with_table f child) (partial-skip (table_of f parent) fd e)
+    by_slot : (found : Option Slot) → option_flatten (slice_get (table_at f parent) fd) ≡ found
+        → with_copy (with_table f child (partial (table_at f parent) fd)) child fd found ≡ with_table f child (partial (table_at f parent) (suc fd))
+    by_slot None e = ap (with_table f child) (partial-skip (table_at f parent) fd e)
     by_slot (Some slot) e =
         ap (λ m. record f { tables = m })
-        (insert_same nat_cmp_total nat_cmp-IsAntisymmetric f.tables child (partial (table_of f parent) fd) _
-        ∙ ap (λ t. insert f.tables child (slice_set t fd (Some slot))) (table_here f child (partial (table_of f parent) fd))
-        ∙ ap (insert f.tables child) (partial-next (table_of f parent) fd slot e))
+        (insert_same nat_cmp_total nat_cmp-IsAntisymmetric f.tables child (partial (table_at f parent) fd) _
+        ∙ ap (λ t. insert f.tables child (slice_set t fd (Some slot))) (table_here f child (partial (table_at f parent) fd))
+        ∙ ap (insert f.tables child) (partial-next (table_at f parent) fd slot e))
 
 -- all slots are copied
-pub copied-all : (f : Descriptions) (parent child n : ℕ) → length (table_of f parent) ≡ n → with_table f child (partial (table_of f parent) n) ≡ with_table f child (table_of f parent)
-copied-all f parent child n size = ap (with_table f child) (partial-all (table_of f parent) n size)
+pub copied-all : (f : Descriptions) (parent child n : ℕ) → length (table_at f parent) ≡ n → with_table f child (partial (table_at f parent) n) ≡ with_table f child (table_at f parent)
+copied-all f parent child n size = ap (with_table f child) (partial-all (table_at f parent) n size)
 
 there_is : (found : Option Table) → IsSome found → found ≡ Some (unwrap_or found [])
 there_is None h = cc
 there_is (Some table) h = refl
 
 -- the child has its parent's table
-pub shared_all-there : (parent child : ℕ) (f : Descriptions) → IsSome (get f.tables parent) → shared_all parent child f ≡ with_table f child (table_of f parent)
+pub shared_all-there : (parent child : ℕ) (f : Descriptions) → IsSome (get f.tables parent) → shared_all parent child f ≡ with_table f child (table_at f parent)
 unfolding shared_all
 shared_all-there parent child f there = ap (given_table f child) (there_is (get f.tables parent) there)
 

@@ -14,9 +14,9 @@ use Rattle.dt_fds.specs.declared.desc.Desc.{Desc}
 use Rattle.dt_fds.specs.declared.desc.Slot.{Slot}
 use Rattle.dt_fds.specs.declared.desc.DescKind.{DescKind}
 use Rattle.dt_fds.specs.declared.desc.DescKind.TheVariants.{Input, Stream}
-use Rattle.dt_fds.specs.Descriptions.{Descriptions, IsDesc, Table, refers, inode_of, first_desc, table_of, lowest_free, with_slot, with_new, none_open, opened_at, opened_lowest, first_files}
+use Rattle.dt_fds.specs.Descriptions.{Descriptions, IsDesc, Table, refers, inode_of, first_desc, table_at, lowest_free, with_slot, with_new_description, none_open, opened_at, opened_lowest, first_files}
 use Rattle.dt_fds.specs.Descriptions.{pipe_of, read_pipe, write_pipe, named_by, readers, writers}
-use Rattle.dt_fds.specs.Pipes.{Pipes}
+use Rattle.dt_fds.specs.Pipes.{PipesView}
 use Rattle.dt_fds.specs.Backs.{descriptions_of, IsIn, AllIn, AllEnds}
 use Rattle.dt_fds.specs.inner.Counts.{Counts}
 
@@ -77,8 +77,8 @@ names-none number p = λ n. total-empty nat_cmp_total (λ (desc : Desc). named_b
 
 -- one that names none more
 names-lowest : (number : DescKind → Option ℕ) (p : ℕ) (desc : Desc) (f : Descriptions) → number desc.kind ≡ None → NamesNone number f → NamesNone number (opened_lowest p desc f)
-unfolding opened_lowest with_slot with_new
-names-lowest number p desc f of_none h n = by_free (lowest_free (table_of f p) 0)
+unfolding opened_lowest with_slot with_new_description
+names-lowest number p desc f of_none h n = by_free (lowest_free (table_at f p) 0)
   where
     by_free : (free : Option ℕ) → (let g = opened_at f p desc free in total (λ (desc : Desc). named_by n (number desc.kind)) g.descs ≡ 0)
     by_free None = h n
@@ -104,18 +104,18 @@ pub writing-first_files : (p q : ℕ) → writers (first_files p) q ≡ 0
 unfolding writers
 writing-first_files p q = names-first_files write_pipe p refl refl refl q
 
-ends-none : (pipes : Pipes) (p : ℕ) → AllEnds pipes (none_open p)
+ends-none : (pipes : PipesView) (p : ℕ) → AllEnds pipes (none_open p)
 ends-none pipes p k = subst (λ (found : Option Desc). IfSome found (λ desc. IfSome (pipe_of desc.kind) (λ q. IsSome (get pipes.contents q)))) (sym (get-empty nat_cmp k)) tt
 
-ends-lowest : (pipes : Pipes) (p : ℕ) (desc : Desc) (f : Descriptions) → IfSome (pipe_of desc.kind) (λ q. IsSome (get pipes.contents q)) → AllEnds pipes f → AllEnds pipes (opened_lowest p desc f)
-unfolding opened_lowest with_slot with_new
-ends-lowest pipes p desc f there h = by_free (lowest_free (table_of f p) 0)
+ends-lowest : (pipes : PipesView) (p : ℕ) (desc : Desc) (f : Descriptions) → IfSome (pipe_of desc.kind) (λ q. IsSome (get pipes.contents q)) → AllEnds pipes f → AllEnds pipes (opened_lowest p desc f)
+unfolding opened_lowest with_slot with_new_description
+ends-lowest pipes p desc f there h = by_free (lowest_free (table_at f p) 0)
   where
     by_free : (free : Option ℕ) → AllEnds pipes (opened_at f p desc free)
     by_free None = h
     by_free (Some fd) = λ k. at_insert nat_cmp_total nat_cmp-IsAntisymmetric (λ found. IfSome found (λ desc. IfSome (pipe_of desc.kind) (λ q. IsSome (get pipes.contents q)))) f.descs f.next desc k (λ _. there) (λ apart. h k)
 
-pub ends-first_files : (pipes : Pipes) (p : ℕ) → AllEnds pipes (first_files p)
+pub ends-first_files : (pipes : PipesView) (p : ℕ) → AllEnds pipes (first_files p)
 unfolding first_files
 ends-first_files pipes p = ends-lowest pipes p _ _ tt (ends-lowest pipes p _ _ tt (ends-lowest pipes p _ _ tt (ends-none pipes p)))
 
@@ -123,8 +123,8 @@ in-none : (v : Forest) (p : ℕ) → AllIn v (none_open p)
 in-none v p k = subst (λ (found : Option Desc). IfSome found (λ desc. IsIn v desc.kind)) (sym (get-empty nat_cmp k)) tt
 
 in-lowest : (v : Forest) (p : ℕ) (desc : Desc) (f : Descriptions) → IsIn v desc.kind → AllIn v f → AllIn v (opened_lowest p desc f)
-unfolding opened_lowest with_slot with_new
-in-lowest v p desc f is h = by_free (lowest_free (table_of f p) 0)
+unfolding opened_lowest with_slot with_new_description
+in-lowest v p desc f is h = by_free (lowest_free (table_at f p) 0)
   where
     by_free : (free : Option ℕ) → AllIn v (opened_at f p desc free)
     by_free None = h

@@ -11,8 +11,8 @@ use Rattle.dt_tree.specs.Calls.{UnlessFailed}
 use Rattle.dt_fds.specs.declared.desc.TheConstants.{DESCRIPTOR_LIMIT}
 use Rattle.dt_fds.specs.declared.desc.Desc.{Desc}
 use Rattle.dt_fds.specs.declared.desc.Slot.{Slot}
-use Rattle.dt_fds.specs.Descriptions.{Descriptions, table_of, slot_at, lowest_free, with_slot, with_new, freed, with_description, changed, marked}
-use Rattle.dt_fds.specs.Holding.{Holding, Outcome, added, add_call, without, closed, close_call, dup_of, dup_call, dup_over, dup_within, dup_at_call, refused, closed_below, dropped, without_marked, marked_closed_below, closed_on_exec}
+use Rattle.dt_fds.specs.Descriptions.{Descriptions, table_at, slot_at, lowest_free, with_slot, with_new_description, freed, with_description, with_slot_description, marked}
+use Rattle.dt_fds.specs.Holding.{Holding, Outcome, added_descriptor, add_call, without_descriptor, closed, close_call, dup_of, dup_call, dup_over, dup_within, dup_at_call, refused, closed_below, without_process, without_marked, marked_closed_below, closed_on_exec}
 use Rattle.dt_fds.specs.Backs.{Does}
 use Rattle.dt_fds.proofs.Backing.{tables-swept}
 
@@ -21,20 +21,20 @@ abbrev pub HasTable : ℕ → Descriptions → Type 0
 HasTable p f = IsSome (get f.tables p)
 
 -- a process that is gone has none
-pub none-dropped : (p : ℕ) (h : Holding) → (let left = dropped p h in get left.files.tables p ≡ None)
-unfolding dropped
+pub none-dropped : (p : ℕ) (h : Holding) → (let left = without_process p h in get left.files.tables p ≡ None)
+unfolding without_process
 none-dropped p h = let left = closed_below p DESCRIPTOR_LIMIT h in get-remove_same nat_cmp_total nat_cmp-IsAntisymmetric left.files.tables p
 
 pub there-with_slot : (f : Descriptions) (p fd : ℕ) (slot : Option Slot) → HasTable p (with_slot f p fd slot)
 unfolding with_slot
-there-with_slot f p fd slot = ap is_some (get-insert_same nat_cmp_total nat_cmp-IsAntisymmetric f.tables p (slice_set (table_of f p) fd slot))
+there-with_slot f p fd slot = ap is_some (get-insert_same nat_cmp_total nat_cmp-IsAntisymmetric f.tables p (slice_set (table_at f p) fd slot))
 
 there-freed : (f : Descriptions) (p fd k : ℕ) → HasTable p (freed f p fd k)
 unfolding freed
 there-freed f p fd k = ap (λ tables. is_some (get tables p)) (tables-swept (with_slot f p fd None) k) ∙ there-with_slot f p fd None
 
 -- a change of a description
-pub there-changed : (f : Descriptions) (p : ℕ) (change : Desc → Desc) (slot : Option Slot) → HasTable p f → HasTable p (changed f change slot)
+pub there-changed : (f : Descriptions) (p : ℕ) (change : Desc → Desc) (slot : Option Slot) → HasTable p f → HasTable p (with_slot_description f change slot)
 unfolding with_description
 there-changed f p change None there = there
 there-changed f p change (Some slot) there = there
@@ -47,13 +47,13 @@ there-marked f p fd cloexec (Some slot) there = there-with_slot f p fd (Some (re
 -- open(2)
 pub there-add : (p : ℕ) (desc : Desc) (cloexec : Bool) (h : Holding) → HasTable p h.files → (let call = add_call p desc cloexec h in HasTable p call.next.files)
 unfolding add_call
-there-add p desc cloexec h there = by_free (lowest_free (table_of h.files p) 0)
+there-add p desc cloexec h there = by_free (lowest_free (table_at h.files p) 0)
   where
-    by_free : (free : Option ℕ) → (let call = added h p desc cloexec free in HasTable p call.next.files)
+    by_free : (free : Option ℕ) → (let call = added_descriptor h p desc cloexec free in HasTable p call.next.files)
     by_free None = there
-    by_free (Some fd) = there-with_slot (with_new h.files desc) p fd (Some (record { number = h.files.next; cloexec = cloexec }))
+    by_free (Some fd) = there-with_slot (with_new_description h.files desc) p fd (Some (record { number = h.files.next; cloexec = cloexec }))
 
-pub there-without : (h : Holding) (p fd : ℕ) (found : Option Slot) → HasTable p h.files → (let left = without h p fd found in HasTable p left.files)
+pub there-without : (h : Holding) (p fd : ℕ) (found : Option Slot) → HasTable p h.files → (let left = without_descriptor h p fd found in HasTable p left.files)
 there-without h p fd None there = there
 there-without h p fd (Some slot) there = there-freed h.files p fd slot.number
 
@@ -69,7 +69,7 @@ there-close p fd h there = by_slot (slot_at h.files p fd)
 -- dup(2)
 pub there-dup : (p fd from : ℕ) (cloexec : Bool) (h : Holding) → HasTable p h.files → (let call = dup_call p fd from cloexec h in HasTable p call.next.files)
 unfolding dup_call
-there-dup p fd from cloexec h there = by_slot (lowest_free (table_of h.files p) from) (slot_at h.files p fd)
+there-dup p fd from cloexec h there = by_slot (lowest_free (table_at h.files p) from) (slot_at h.files p fd)
   where
     by_slot : (free : Option ℕ) (found : Option Slot) → (let call = dup_of h p cloexec free found in HasTable p call.next.files)
     by_slot free None = there
@@ -82,7 +82,7 @@ there-dup_within p old new cloexec h there = by_slot (slot_at h.files p old)
   where
     by_slot : (found : Option Slot) → (let call = dup_over h p new cloexec found in HasTable p call.next.files)
     by_slot None = there
-    by_slot (Some slot) = let left = without h p new (slot_at h.files p new) in there-with_slot left.files p new (Some (record { number = slot.number; cloexec = cloexec }))
+    by_slot (Some slot) = let left = without_descriptor h p new (slot_at h.files p new) in there-with_slot left.files p new (Some (record { number = slot.number; cloexec = cloexec }))
 
 -- dup3(2)
 pub there-dup_at : (p old new : ℕ) (cloexec : Bool) (h : Holding) → HasTable p h.files → (let call = dup_at_call p old new cloexec h in HasTable p call.next.files)
@@ -98,7 +98,7 @@ unfolding marked_closed_below
 there-marked_closed p zero h there = there
 there-marked_closed p (suc count) h there = let rest = marked_closed_below p count h in by_slot rest (slot_at rest.files p count) (there-marked_closed p count h there)
   where
-    by_bit : (b : Bool) (h : Holding) (slot : Slot) → HasTable p h.files → (let left = cond b (without h p count (Some slot)) h in HasTable p left.files)
+    by_bit : (b : Bool) (h : Holding) (slot : Slot) → HasTable p h.files → (let left = cond b (without_descriptor h p count (Some slot)) h in HasTable p left.files)
     by_bit true h slot there = there-without h p count (Some slot) there
     by_bit false h slot there = there
 

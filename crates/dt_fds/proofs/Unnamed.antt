@@ -14,7 +14,7 @@ use Rattle.dt_host.specs.Total.{total_in, total, weight}
 use Rattle.dt_fds.specs.declared.desc.Desc.{Desc}
 use Rattle.dt_fds.specs.declared.desc.DescKind.{DescKind}
 use Rattle.dt_fds.specs.declared.desc.DescKind.TheVariants.{File, Dir, PipeRead, PipeWrite, Input, Stream}
-use Rattle.dt_fds.specs.Pipes.{Pipes}
+use Rattle.dt_fds.specs.Pipes.{PipesView}
 use Rattle.dt_fds.specs.Descriptions.{Descriptions, pipe_of, read_pipe, write_pipe, named_by, readers, writers}
 use Rattle.dt_fds.specs.Backs.{AllEnds}
 
@@ -41,7 +41,7 @@ module _ {K X : Type 0} {R : K → K → Ordering} (o : IsTotalOrder R) (g : X �
   total-none m h = none_in (entries m) (entries_sorted m) (λ k. sym (ap (weight g) (get-entries m k)) ∙ h k)
 
 -- where a pipe is not there, no open description is of an end of it
-unnamed : (number : DescKind → Option ℕ) → ((kind : DescKind) (q : ℕ) → number kind ≡ Some q → pipe_of kind ≡ Some q) → (m : Pipes) (f : Descriptions) (q : ℕ) → AllEnds m f → get m.contents q ≡ None
+unnamed : (number : DescKind → Option ℕ) → ((kind : DescKind) (q : ℕ) → number kind ≡ Some q → pipe_of kind ≡ Some q) → (m : PipesView) (f : Descriptions) (q : ℕ) → AllEnds m f → get m.contents q ≡ None
     → total (λ (desc : Desc). named_by q (number desc.kind)) f.descs ≡ 0
 unnamed number its m f q h none = total-none nat_cmp_total (λ (desc : Desc). named_by q (number desc.kind)) f.descs (λ k. by_found (get f.descs k) (h k))
   where
@@ -77,10 +77,10 @@ write-its (Dir n) q e = cc
 write-its Input q e = cc
 write-its (Stream stream) q e = cc
 
-pub no-readers : (m : Pipes) (f : Descriptions) (q : ℕ) → AllEnds m f → get m.contents q ≡ None → readers f q ≡ 0
+pub no-readers : (m : PipesView) (f : Descriptions) (q : ℕ) → AllEnds m f → get m.contents q ≡ None → readers f q ≡ 0
 unfolding readers
 no-readers m f q h none = unnamed read_pipe read-its m f q h none
 
-pub no-writers : (m : Pipes) (f : Descriptions) (q : ℕ) → AllEnds m f → get m.contents q ≡ None → writers f q ≡ 0
+pub no-writers : (m : PipesView) (f : Descriptions) (q : ℕ) → AllEnds m f → get m.contents q ≡ None → writers f q ≡ 0
 unfolding writers
 no-writers m f q h none = unnamed write_pipe write-its m f q h none

@@ -18,7 +18,7 @@ use Rattle.dt_fds.specs.Descriptions.{Descriptions, inode_of, pipe_of, named_by,
 use Rattle.dt_fds.specs.declared.files.Files.{Files}
 use Rattle.dt_fds.specs.Ends.{AreCounted}
 use Rattle.dt_fds.specs.OpenFiles.{pipes_at}
-use Rattle.dt_fds.specs.Pipes.{Pipes}
+use Rattle.dt_fds.specs.Pipes.{PipesView}
 use Rattle.dt_fds.specs.Holding.{Holding, Outcome, over}
 use Rattle.dt_pipes.specs.Table as pipes
 
@@ -40,7 +40,7 @@ abbrev pub AllIn : Forest → Descriptions → Type 0
 AllIn v f = (k : ℕ) → IfSome (get f.descs k) (λ desc. IsIn v desc.kind)
 
 -- the pipe of each open description that is an end of one is there
-abbrev pub AllEnds : Pipes → Descriptions → Type 0
+abbrev pub AllEnds : PipesView → Descriptions → Type 0
 AllEnds pipes f = (k : ℕ) → IfSome (get f.descs k) (λ desc. IfSome (pipe_of desc.kind) (λ q. IsSome (get pipes.contents q)))
 
 -- each node is held at least once for each description of it, and each description's node is there and of its kind, or its
@@ -62,7 +62,7 @@ pub record KeepsNodes (p : ℕ) (old new : Descriptions) : Type 0 where
   pub reading : (q : ℕ) → readers new q ≡ readers old q
   pub writing : (q : ℕ) → writers new q ≡ writers old q
   pub all_in : (v : Forest) → AllIn v old → AllIn v new
-  pub all_ends : (pipes : Pipes) → AllEnds pipes old → AllEnds pipes new
+  pub all_ends : (pipes : PipesView) → AllEnds pipes old → AllEnds pipes new
 
 -- what others hold stays: the holds of a node that are of no description are as many as before, and where there are such,
 -- a file stays a file and a directory a directory; and the tables of other processes stay
@@ -83,8 +83,8 @@ abbrev pub at : Files → Table → World → At
 at files table world = record { files = files; table = table; world = world }
 
 -- the descriptions, the pipes and the tree of code that stands there
-abbrev pub holding : At → Holding
-holding a = over (tree_of a.table a.world.forest) (pipes_at a.files a.world.pipes) a.files.descriptors
+abbrev pub holding_at : At → Holding
+holding_at a = over (tree_of a.table a.world.forest) (pipes_at a.files a.world.pipes) a.files.descriptors
 
 -- nothing but nodes and pipes may have changed
 abbrev pub OnlyFiles : World → World → Type 0
@@ -105,13 +105,13 @@ pub record IsBacked (a : At) : Type 0 where
   pub stands : Stands a.table a.world.forest
   pub pipes : pipes.Stands a.files.pipes a.world.pipes
   pub ends : AreCounted a.files.descriptors a.files.ends
-  pub backs : Backs (holding a)
+  pub backs : Backs (holding_at a)
 
 -- descriptions, pipes and tree came to this, unless the host failed or memory was wanting
 pub record Leaves {A : Type 0} (p : ℕ) (defined : Holding) (old new : At) (result : Result A HostErr) (before now : ℕ) : Type 0 where
-  pub made : OnOk result (holding new ≡ defined)
+  pub made : OnOk result (holding_at new ≡ defined)
   pub backed : OnOk result (IsBacked new)
-  pub others : OnOk result (KeepsOthers p (holding old) (holding new))
+  pub others : OnOk result (KeepsOthers p (holding_at old) (holding_at new))
   pub rest : OnlyFiles old.world new.world
   pub cause : HasCause before now (IsErrOf result Failed)
 
@@ -129,9 +129,9 @@ Does (Err (is_refused errno)) new defined = defined ≡ record { answer = Err er
 Does (Err (has_failed error)) new defined = Unit {0}
 
 -- a call is made as it is defined
-pub record Makes {A : Type 0} (p : ℕ) (call : Holding → Outcome A) (old new : At) (result : Result A CallErr) (before now : ℕ) : Type 0 where
-  pub made : Does result (holding new) (call (holding old))
+pub record MakesCall {A : Type 0} (p : ℕ) (call : Holding → Outcome A) (old new : At) (result : Result A CallErr) (before now : ℕ) : Type 0 where
+  pub made : Does result (holding_at new) (call (holding_at old))
   pub backed : UnlessFailed result (IsBacked new)
-  pub others : UnlessFailed result (KeepsOthers p (holding old) (holding new))
+  pub others : UnlessFailed result (KeepsOthers p (holding_at old) (holding_at new))
   pub rest : OnlyFiles old.world new.world
   pub cause : HasCause before now (HasFailed result)

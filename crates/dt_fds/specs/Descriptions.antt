@@ -97,20 +97,20 @@ pub record Descriptions : Type 0 where
   pub next : ℕ
 
 -- the table of a process; one that is not there has no descriptors
-abbrev pub table_of : Descriptions → ℕ → Table
-table_of f p = unwrap_or (get f.tables p) []
+abbrev pub table_at : Descriptions → ℕ → Table
+table_at f p = unwrap_or (get f.tables p) []
 
 -- the slot of a descriptor, if it is open
 unfoldable pub slot_at : Descriptions → ℕ → ℕ → Option Slot
-slot_at f p fd = option_flatten (slice_get (table_of f p) fd)
+slot_at f p fd = option_flatten (slice_get (table_at f p) fd)
 
 -- the description that a slot refers to
-abbrev pub desc_of : Descriptions → Slot → Option Desc
-desc_of f slot = get f.descs slot.number
+abbrev pub slot_description : Descriptions → Slot → Option Desc
+slot_description f slot = get f.descs slot.number
 
 -- the description that a descriptor refers to, if it is open
 unfoldable pub description_at : Descriptions → ℕ → ℕ → Option Desc
-description_at f p fd = option_and_then (desc_of f) (slot_at f p fd)
+description_at f p fd = option_and_then (slot_description f) (slot_at f p fd)
 
 -- the lowest free descriptor from a given one on
 unfoldable pub lowest_free : Table → ℕ → Option ℕ
@@ -142,16 +142,16 @@ writers f q = total (λ desc. named_by q (write_pipe desc.kind)) f.descs
 
 -- with this at a descriptor of a process
 unfoldable pub with_slot : Descriptions → ℕ → ℕ → Option Slot → Descriptions
-with_slot f p fd slot = record f { tables = insert f.tables p (slice_set (table_of f p) fd slot) }
+with_slot f p fd slot = record f { tables = insert f.tables p (slice_set (table_at f p) fd slot) }
 
 -- with a new description, under the next number
-unfoldable pub with_new : Descriptions → Desc → Descriptions
-with_new f desc = record f { descs = insert f.descs f.next desc; next = f.next + 1 }
+unfoldable pub with_new_description : Descriptions → Desc → Descriptions
+with_new_description f desc = record f { descs = insert f.descs f.next desc; next = f.next + 1 }
 
 -- a new description, to which a descriptor refers
 abbrev pub opened : Descriptions → ℕ → ℕ → Desc → Bool → Descriptions
 opened f p fd desc cloexec =
-    with_slot (with_new f desc) p fd (Some (record { number = f.next; cloexec = cloexec }))
+    with_slot (with_new_description f desc) p fd (Some (record { number = f.next; cloexec = cloexec }))
 
 -- a descriptor refers to what that slot refers to
 abbrev pub duplicated : Descriptions → ℕ → ℕ → Slot → Bool → Descriptions
@@ -173,10 +173,10 @@ freed f p fd k = swept (with_slot f p fd None) k
 unfoldable pub with_description : Descriptions → ℕ → (Desc → Desc) → Descriptions
 with_description f k change = record f { descs = put_back f.descs k (option_map change (get f.descs k)) }
 
--- the same for what a slot refers to, if there is one
-abbrev pub changed : Descriptions → (Desc → Desc) → Option Slot → Descriptions
-changed f change None = f
-changed f change (Some slot) = with_description f slot.number change
+-- another value for the description that a slot refers to, if there is one
+abbrev pub with_slot_description : Descriptions → (Desc → Desc) → Option Slot → Descriptions
+with_slot_description f change None = f
+with_slot_description f change (Some slot) = with_description f slot.number change
 
 -- a description with another offset, or at another point in its listing
 abbrev pub at_spot : Spot → Desc → Desc
@@ -229,7 +229,7 @@ opened_at f p desc (Some fd) = opened f p fd desc false
 
 -- a new description under the lowest free descriptor
 unfoldable pub opened_lowest : ℕ → Desc → Descriptions → Descriptions
-opened_lowest p desc f = opened_at f p desc (lowest_free (table_of f p) 0)
+opened_lowest p desc f = opened_at f p desc (lowest_free (table_at f p) 0)
 
 -- a description of the input or of a stream, as a process begins with it
 abbrev pub first_desc : DescKind → ℕ → Desc

@@ -15,6 +15,7 @@ abbrev pub is_written : Option Ends → Bool
 is_written None = false
 is_written (Some ends) = ends.write
 
+-- 1 where it holds, to count by
 abbrev pub one_if : Bool → ℕ
 one_if b = if b then 1 else 0
 

@@ -16,18 +16,18 @@ use Rattle.dt_fds.specs.declared.desc.DescKind.TheVariants.{PipeRead, PipeWrite}
 use Rattle.dt_fds.specs.declared.desc.Spot.TheVariants.{At}
 use Rattle.dt_fds.specs.declared.flow.Flow.{Flow}
 use Rattle.dt_fds.specs.declared.flow.Flow.TheVariants.{Broken, Moved}
-use Rattle.dt_fds.specs.Descriptions.{Descriptions, inode_of, pipe_of, read_pipe, write_pipe, readers, writers, table_of, slot_at}
+use Rattle.dt_fds.specs.Descriptions.{Descriptions, inode_of, pipe_of, read_pipe, write_pipe, readers, writers, table_at, slot_at}
 use Rattle.dt_fds.specs.Descriptions.{description_at, lowest_free, two_free, with_slot, opened, duplicated, freed, gone, forgotten}
-use Rattle.dt_fds.specs.Pipes.{Pipes, content, holds, with_new_pipe, without_pipe, none_held, goes, write_flow}
+use Rattle.dt_fds.specs.Pipes.{PipesView, pipe_content, with_pipe_content, with_new_pipe, without_pipe, none_held, goes, write_flow}
 
 -- the descriptions, the pipes of which they are ends, and the tree whose nodes they hold
 pub record Holding : Type 0 where
   pub files : Descriptions
-  pub pipes : Pipes
+  pub pipes : PipesView
   pub tree : FileTree
 
 -- these descriptions over these pipes and that tree
-abbrev pub over : FileTree → Pipes → Descriptions → Holding
+abbrev pub over : FileTree → PipesView → Descriptions → Holding
 over t pipes f = record { files = f; pipes = pipes; tree = t }
 
 -- what a call answers, and what it leaves
@@ -59,34 +59,34 @@ let_go t None = t
 let_go t (Some desc) = without_hold t (inode_of desc.kind)
 
 -- a pipe goes where no description is of an end of it
-unfoldable pub without_end : Descriptions → Pipes → ℕ → Pipes
+unfoldable pub without_end : Descriptions → PipesView → ℕ → PipesView
 without_end f pipes q = if readers f q + writers f q == 0 then without_pipe pipes q else pipes
 
--- an end that went takes its pipe along, if it was the last of that; where it was one
-abbrev pub ended : Descriptions → Pipes → Option ℕ → Pipes
-ended f pipes None = pipes
-ended f pipes (Some q) = without_end f pipes q
+-- the pipes after a description went: where it was of an end of a pipe, that goes too if it was the last end
+abbrev pub pipes_after_end : Descriptions → PipesView → Option ℕ → PipesView
+pipes_after_end f pipes None = pipes
+pipes_after_end f pipes (Some q) = without_end f pipes q
 
 -- a description that went, if one did, takes its pipe along, if it was the last end of one
-abbrev pub left : Descriptions → Pipes → Option Desc → Pipes
+abbrev pub left : Descriptions → PipesView → Option Desc → PipesView
 left f pipes None = pipes
-left f pipes (Some desc) = ended f pipes (pipe_of desc.kind)
+left f pipes (Some desc) = pipes_after_end f pipes (pipe_of desc.kind)
 
 -- a new description under this descriptor, if there is one
-abbrev pub added : Holding → ℕ → Desc → Bool → Option ℕ → Outcome ℕ
-added h p desc cloexec None = refused h MFile
-added h p desc cloexec (Some fd) =
+abbrev pub added_descriptor : Holding → ℕ → Desc → Bool → Option ℕ → Outcome ℕ
+added_descriptor h p desc cloexec None = refused h MFile
+added_descriptor h p desc cloexec (Some fd) =
     done (record h { files = opened h.files p fd desc cloexec; tree = with_hold h.tree (inode_of desc.kind) }) fd
 
 -- a new description, under the lowest free descriptor; EMFILE where none is free
 unfoldable pub add_call : ℕ → Desc → Bool → Holding → Outcome ℕ
-add_call p desc cloexec h = added h p desc cloexec (lowest_free (table_of h.files p) 0)
+add_call p desc cloexec h = added_descriptor h p desc cloexec (lowest_free (table_at h.files p) 0)
 
 -- a descriptor is free, and if it was open and the last of its description, that goes and lets its node go, and its pipe, if
 -- it was the last end of one
-abbrev pub without : Holding → ℕ → ℕ → Option Slot → Holding
-without h p fd None = h
-without h p fd (Some slot) =
+abbrev pub without_descriptor : Holding → ℕ → ℕ → Option Slot → Holding
+without_descriptor h p fd None = h
+without_descriptor h p fd (Some slot) =
     let lost = gone (with_slot h.files p fd None) slot.number in
     let files = freed h.files p fd slot.number in
     record { files = files; pipes = left files h.pipes lost; tree = let_go h.tree lost }
@@ -94,7 +94,7 @@ without h p fd (Some slot) =
 -- a descriptor, if it is open, is closed
 abbrev pub closed : Holding → ℕ → ℕ → Option Slot → Outcome (Unit {0})
 closed h p fd None = refused h BadF
-closed h p fd (Some slot) = done (without h p fd (Some slot)) tt
+closed h p fd (Some slot) = done (without_descriptor h p fd (Some slot)) tt
 
 -- close(2): EBADF where the descriptor is not open
 unfoldable pub close_call : ℕ → ℕ → Holding → Outcome (Unit {0})
@@ -113,13 +113,13 @@ dup_of h p cloexec free (Some slot) = dup_under h p slot cloexec free
 -- dup(2), and fcntl(2) with F_DUPFD and F_DUPFD_CLOEXEC: the lowest free descriptor from a given one on refers to the same
 -- description; EBADF where the old one is not open, then EMFILE where none is free
 unfoldable pub dup_call : ℕ → ℕ → ℕ → Bool → Holding → Outcome ℕ
-dup_call p fd from cloexec h = dup_of h p cloexec (lowest_free (table_of h.files p) from) (slot_at h.files p fd)
+dup_call p fd from cloexec h = dup_of h p cloexec (lowest_free (table_at h.files p) from) (slot_at h.files p fd)
 
 -- a new descriptor for what a slot refers to, instead of one that may be open
 abbrev pub dup_over : Holding → ℕ → ℕ → Bool → Option Slot → Outcome (Unit {0})
 dup_over h p new cloexec None = refused h BadF
 dup_over h p new cloexec (Some slot) =
-    let free = without h p new (slot_at h.files p new) in
+    let free = without_descriptor h p new (slot_at h.files p new) in
     done (record free { files = duplicated free.files p new slot cloexec }) tt
 
 -- the same for a descriptor that may be open
@@ -135,12 +135,12 @@ dup_at_call p old new cloexec h =
 -- the descriptors below a number are closed, in order, those that are open
 unfoldable pub closed_below : ℕ → ℕ → Holding → Holding
 closed_below p zero h = h
-closed_below p (suc fd) h = let rest = closed_below p fd h in without rest p fd (slot_at rest.files p fd)
+closed_below p (suc fd) h = let rest = closed_below p fd h in without_descriptor rest p fd (slot_at rest.files p fd)
 
 -- a descriptor, if it is open and its close-on-exec bit is set, is closed
 abbrev pub without_marked : Holding → ℕ → ℕ → Option Slot → Holding
 without_marked h p fd None = h
-without_marked h p fd (Some slot) = if slot.cloexec then without h p fd (Some slot) else h
+without_marked h p fd (Some slot) = if slot.cloexec then without_descriptor h p fd (Some slot) else h
 
 -- the descriptors below a number are closed, in order, those that are open and whose close-on-exec bit is set
 unfoldable pub marked_closed_below : ℕ → ℕ → Holding → Holding
@@ -154,8 +154,8 @@ unfoldable pub closed_on_exec : ℕ → Holding → Holding
 closed_on_exec p h = marked_closed_below p DESCRIPTOR_LIMIT h
 
 -- a process is gone: its descriptors are closed, and it has no table
-unfoldable pub dropped : ℕ → Holding → Holding
-dropped p h =
+unfoldable pub without_process : ℕ → Holding → Holding
+without_process p h =
     let none = closed_below p DESCRIPTOR_LIMIT h in
     record none { files = forgotten none.files p }
 
@@ -169,8 +169,8 @@ write_end q flags =
     record { kind = PipeWrite q; spot = At 0; access = 1; append = false; nonblock = has flags O_NONBLOCK }
 
 -- a new pipe, whose ends stand under these descriptors
-abbrev pub with_pipe : Holding → ℕ → ℕ → ℕ → ℕ → Holding
-with_pipe h p flags fd other =
+abbrev pub with_pipe_opened : Holding → ℕ → ℕ → ℕ → ℕ → Holding
+with_pipe_opened h p flags fd other =
     let q = h.pipes.next in
     let cloexec = has flags O_CLOEXEC in
     let one = opened h.files p fd (read_end q flags) cloexec in
@@ -179,12 +179,12 @@ with_pipe h p flags fd other =
 -- the same, if there are two descriptors for them
 abbrev pub with_ends : Holding → ℕ → ℕ → Option (ℕ × ℕ) → Outcome (ℕ × ℕ)
 with_ends h p flags None = refused h MFile
-with_ends h p flags (Some ends) = done (with_pipe h p flags ends.0 ends.1) ends
+with_ends h p flags (Some ends) = done (with_pipe_opened h p flags ends.0 ends.1) ends
 
 -- pipe(2): a new pipe, whose ends stand under the two lowest free descriptors, the one that is read from under the lower;
 -- EMFILE where not two are free
 unfoldable pub pipe_call : ℕ → ℕ → Holding → Outcome (ℕ × ℕ)
-pipe_call p flags h = with_ends h p flags (two_free (table_of h.files p))
+pipe_call p flags h = with_ends h p flags (two_free (table_at h.files p))
 
 -- a read of at most so many bytes from a pipe that holds these: those that it answers are gone from the pipe
 abbrev pub read_of : Holding → ℕ → Bool → ℕ → List ℕ → Outcome Flow
@@ -192,12 +192,12 @@ read_of h q nonblock most bytes =
     let count = min most (length bytes) in
     if length bytes == 0
     then record { answer = none_held (writers h.files q) nonblock; next = h }
-    else done (record h { pipes = holds h.pipes q (drop count bytes) }) (Moved count)
+    else done (record h { pipes = with_pipe_content h.pipes q (drop count bytes) }) (Moved count)
 
 -- the same of a pipe, if there is one
 abbrev pub read_from : Holding → Bool → ℕ → Option ℕ → Outcome Flow
 read_from h nonblock most None = refused h BadF
-read_from h nonblock most (Some q) = read_of h q nonblock most (content h.pipes q)
+read_from h nonblock most (Some q) = read_of h q nonblock most (pipe_content h.pipes q)
 
 -- the same by what a descriptor refers to
 abbrev pub read_by : Holding → ℕ → Option Desc → Outcome Flow
@@ -211,7 +211,7 @@ pipe_read_call p fd most h = read_by h most (description_at h.files p fd)
 -- what the pipe holds that a descriptor reads from; nothing where it reads from none
 abbrev pub held_by : Holding → Option Desc → List ℕ
 held_by h None = []
-held_by h (Some desc) = unwrap_or (option_map (content h.pipes) (read_pipe desc.kind)) []
+held_by h (Some desc) = unwrap_or (option_map (pipe_content h.pipes) (read_pipe desc.kind)) []
 
 -- the bytes that a read of at most so many brings
 unfoldable pub bytes_read : ℕ → ℕ → ℕ → Holding → List ℕ
@@ -220,11 +220,11 @@ bytes_read p fd most h = take most (held_by h (description_at h.files p fd))
 -- a write to a pipe that is read, if there is one, of which so many bytes are done: those that it moves now stand at the end
 abbrev pub write_on : Holding → Bool → List ℕ → ℕ → ℕ → Outcome Flow
 write_on h nonblock bytes count q =
-    let old = content h.pipes q in
+    let old = pipe_content h.pipes q in
     let moved = goes (length old) (length bytes) count in
     record {
       answer = write_flow (length bytes) count moved nonblock;
-      next = record h { pipes = holds h.pipes q (old ++ take moved (drop count bytes)) };
+      next = record h { pipes = with_pipe_content h.pipes q (old ++ take moved (drop count bytes)) };
     }
 
 -- the same for a pipe that may have no readers: the write is over then
@@ -243,17 +243,17 @@ unfoldable pub pipe_write_call : ℕ → ℕ → List ℕ → ℕ → Holding �
 pipe_write_call p fd bytes count h = write_by h bytes count (description_at h.files p fd)
 
 -- how many bytes a write to a pipe moves now, if there is one, of so many of which some are done; none where nobody reads it
-abbrev pub goes_to : Descriptions → Pipes → ℕ → ℕ → Option ℕ → ℕ
+abbrev pub goes_to : Descriptions → PipesView → ℕ → ℕ → Option ℕ → ℕ
 goes_to f pipes whole count None = 0
 goes_to f pipes whole count (Some q) =
-    if readers f q == 0 then 0 else goes (length (content pipes q)) whole count
+    if readers f q == 0 then 0 else goes (length (pipe_content pipes q)) whole count
 
 -- the same by what a descriptor refers to
-abbrev pub goes_by : Descriptions → Pipes → ℕ → ℕ → Option Desc → ℕ
+abbrev pub goes_by : Descriptions → PipesView → ℕ → ℕ → Option Desc → ℕ
 goes_by f pipes whole count None = 0
 goes_by f pipes whole count (Some desc) = goes_to f pipes whole count (write_pipe desc.kind)
 
 -- how many bytes write(2) of so many, of which some are done, moves now to a pipe; none where the descriptor is not of an
 -- end that is written to
-unfoldable pub pipe_moves : ℕ → ℕ → ℕ → ℕ → Descriptions → Pipes → ℕ
+unfoldable pub pipe_moves : ℕ → ℕ → ℕ → ℕ → Descriptions → PipesView → ℕ
 pipe_moves p fd whole count f pipes = goes_by f pipes whole count (description_at f p fd)

@@ -11,13 +11,13 @@ use Rattle.dt_fds.specs.declared.flow.Flow.{Flow}
 use Rattle.dt_fds.specs.declared.flow.Flow.TheVariants.{Moved, Part, Wait}
 
 -- what each pipe holds, the oldest byte first, by the pipe's number; and the number of the next new pipe
-pub record Pipes : Type 0 where
+pub record PipesView : Type 0 where
   pub contents : FinMap nat_cmp (List ℕ)
   pub next : ℕ
 
 -- what a pipe holds; nothing where there is no such pipe
-abbrev pub content : Pipes → ℕ → List ℕ
-content pipes q = unwrap_or (get pipes.contents q) []
+abbrev pub pipe_content : PipesView → ℕ → List ℕ
+pipe_content pipes q = unwrap_or (get pipes.contents q) []
 
 -- the pipe of which a description is an end, if there is one that is
 abbrev pub pipe_at : Option Desc → Option ℕ
@@ -25,18 +25,19 @@ pipe_at None = None
 pipe_at (Some desc) = pipe_of desc.kind
 
 -- what that pipe holds; nothing where there is none
-abbrev pub held_at : Pipes → Option Desc → List ℕ
-held_at pipes found = unwrap_or (option_map (content pipes) (pipe_at found)) []
+abbrev pub held_at : PipesView → Option Desc → List ℕ
+held_at pipes found = unwrap_or (option_map (pipe_content pipes) (pipe_at found)) []
 
 -- a pipe holds these bytes
-abbrev pub holds : Pipes → ℕ → List ℕ → Pipes
-holds pipes q bytes = record pipes { contents = insert pipes.contents q bytes }
+abbrev pub with_pipe_content : PipesView → ℕ → List ℕ → PipesView
+with_pipe_content pipes q bytes = record pipes { contents = insert pipes.contents q bytes }
 
 -- with a new pipe, which holds nothing
-abbrev pub with_new_pipe : Pipes → Pipes
+abbrev pub with_new_pipe : PipesView → PipesView
 with_new_pipe pipes = record { contents = insert pipes.contents pipes.next []; next = pipes.next + 1 }
 
-abbrev pub without_pipe : Pipes → ℕ → Pipes
+-- without a pipe, and without what it held
+abbrev pub without_pipe : PipesView → ℕ → PipesView
 without_pipe pipes q = record pipes { contents = remove pipes.contents q }
 
 -- a read of a pipe that holds nothing is at the end where nobody writes; else it is refused where calls don't wait, and waits

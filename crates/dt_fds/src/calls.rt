@@ -8,10 +8,10 @@ ghost use Rattle.dt_tree.specs.Table.{Stands, shape_of, tree_of};
 ghost use Rattle.dt_fds.specs.declared.desc.TheConstants.{DESCRIPTOR_LIMIT};
 ghost use Rattle.dt_fds.specs.Descriptions.{IsDesc, inode_of, pipe_of, slot_at, opened};
 ghost use Rattle.dt_fds.specs.OpenFiles.{pipes_at};
-ghost use Rattle.dt_fds.specs.Holding.{over, with_hold, without_hold, let_go, without, add_call, close_call};
-ghost use Rattle.dt_fds.specs.Holding.{dup_within, dup_at_call, closed_below, dropped, without_marked};
+ghost use Rattle.dt_fds.specs.Holding.{over, with_hold, without_hold, let_go, without_descriptor, add_call, close_call};
+ghost use Rattle.dt_fds.specs.Holding.{dup_within, dup_at_call, closed_below, without_process, without_marked};
 ghost use Rattle.dt_fds.specs.Holding.{marked_closed_below, closed_on_exec};
-ghost use Rattle.dt_fds.specs.Backs.{IsIn, IsBacked, at, holding, Leaves, Makes};
+ghost use Rattle.dt_fds.specs.Backs.{IsIn, IsBacked, at, holding_at, Leaves, MakesCall};
 
 use crate::desc::{DESCRIPTOR_LIMIT, Desc, Slot};
 use crate::ends::{close_end, kind_of, remove_pipe};
@@ -35,7 +35,7 @@ impl Files {
         requires good { IsDesc desc }
         requires there { IsIn (shape_of tree.old (H.view host.now).forest) desc.kind }
         requires no_end { pipe_of desc.kind ≡ None }
-        ensures { Makes pid (add_call pid desc cloexec) (at self.old tree.old (H.view host.now))
+        ensures { MakesCall pid (add_call pid desc cloexec) (at self.old tree.old (H.view host.now))
             (at self.new tree.new (H.view host.now)) result (H.count host.now) (H.count host.now) }
     {
         match self.descriptors.free(pid, 0) {
@@ -59,7 +59,7 @@ impl Files {
         fd: u32,
     ) -> Result<(), CallErr>
         requires { IsBacked (at self.old tree.old (H.view host.old)) }
-        ensures { Makes pid (close_call pid fd) (at self.old tree.old (H.view host.old))
+        ensures { MakesCall pid (close_call pid fd) (at self.old tree.old (H.view host.old))
             (at self.new tree.new (H.view host.new)) result (H.count host.old) (H.count host.new) }
     {
         let _before = host.faults();
@@ -83,7 +83,7 @@ impl Files {
     ) -> Result<(), CallErr>
         requires backed { IsBacked (at self.old tree.old (H.view host.old)) }
         requires apart { old ≢ new }
-        ensures { Makes pid (dup_at_call pid old new cloexec) (at self.old tree.old (H.view host.old))
+        ensures { MakesCall pid (dup_at_call pid old new cloexec) (at self.old tree.old (H.view host.old))
             (at self.new tree.new (H.view host.new)) result (H.count host.old) (H.count host.new) }
     {
         let _before = host.faults();
@@ -107,7 +107,7 @@ impl Files {
         requires backed { IsBacked (at self.old tree.old (H.view host.old)) }
         requires apart { old ≢ new }
         requires within { new < DESCRIPTOR_LIMIT }
-        ensures { Makes pid (dup_within pid old new cloexec) (at self.old tree.old (H.view host.old))
+        ensures { MakesCall pid (dup_within pid old new cloexec) (at self.old tree.old (H.view host.old))
             (at self.new tree.new (H.view host.new)) result (H.count host.old) (H.count host.new) }
     {
         let _before = host.faults();
@@ -123,7 +123,7 @@ impl Files {
     }
 
     /// Closes all descriptors of a process that ends; its table goes (_exit(2)).
-    #[tactic(auto, unfolding(crate::specs::Holding::dropped))]
+    #[tactic(auto, unfolding(crate::specs::Holding::without_process))]
     pub fn drop_all<H: Host>(
         &mut self,
         host: &mut H,
@@ -131,7 +131,7 @@ impl Files {
         pid: u32,
     ) -> Result<(), HostErr>
         requires { IsBacked (at self.old tree.old (H.view host.old)) }
-        ensures { Leaves pid (dropped pid (holding (at self.old tree.old (H.view host.old))))
+        ensures { Leaves pid (without_process pid (holding_at (at self.old tree.old (H.view host.old))))
             (at self.old tree.old (H.view host.old)) (at self.new tree.new (H.view host.new))
             result (H.count host.old) (H.count host.new) }
     {
@@ -149,7 +149,7 @@ impl Files {
         pid: u32,
     ) -> Result<(), HostErr>
         requires { IsBacked (at self.old tree.old (H.view host.old)) }
-        ensures { Leaves pid (closed_on_exec pid (holding (at self.old tree.old (H.view host.old))))
+        ensures { Leaves pid (closed_on_exec pid (holding_at (at self.old tree.old (H.view host.old))))
             (at self.old tree.old (H.view host.old)) (at self.new tree.new (H.view host.new))
             result (H.count host.old) (H.count host.new) }
     {
@@ -165,7 +165,7 @@ impl Files {
     fn close_all<H: Host>(&mut self, host: &mut H, tree: &mut Tree, pid: u32) -> Result<(), HostErr>
         requires { IsBacked (at self.old tree.old (H.view host.old)) }
         ensures { Leaves pid (closed_below pid DESCRIPTOR_LIMIT
-            (holding (at self.old tree.old (H.view host.old))))
+            (holding_at (at self.old tree.old (H.view host.old))))
             (at self.old tree.old (H.view host.old)) (at self.new tree.new (H.view host.new))
             result (H.count host.old) (H.count host.new) }
     {
@@ -212,7 +212,7 @@ impl Files {
         fd: u32,
     ) -> Result<(), HostErr>
         requires { IsBacked (at self.old tree.old (H.view host.old)) }
-        ensures { Leaves pid (without (holding (at self.old tree.old (H.view host.old))) pid fd
+        ensures { Leaves pid (without_descriptor (holding_at (at self.old tree.old (H.view host.old))) pid fd
             (slot_at self.old.descriptors pid fd))
             (at self.old tree.old (H.view host.old)) (at self.new tree.new (H.view host.new))
             result (H.count host.old) (H.count host.new) }
@@ -233,7 +233,7 @@ impl Files {
         fd: u32,
     ) -> Result<(), HostErr>
         requires { IsBacked (at self.old tree.old (H.view host.old)) }
-        ensures { Leaves pid (without_marked (holding (at self.old tree.old (H.view host.old))) pid fd
+        ensures { Leaves pid (without_marked (holding_at (at self.old tree.old (H.view host.old))) pid fd
             (slot_at self.old.descriptors pid fd))
             (at self.old tree.old (H.view host.old)) (at self.new tree.new (H.view host.new))
             result (H.count host.old) (H.count host.new) }
@@ -256,7 +256,7 @@ impl Files {
     ) -> Result<(), HostErr>
         requires backed { IsBacked (at self.old tree.old (H.view host.old)) }
         requires here { slot_at self.old.descriptors pid fd ≡ Some slot }
-        ensures { Leaves pid (without (holding (at self.old tree.old (H.view host.old))) pid fd
+        ensures { Leaves pid (without_descriptor (holding_at (at self.old tree.old (H.view host.old))) pid fd
             (Some slot))
             (at self.old tree.old (H.view host.old)) (at self.new tree.new (H.view host.new))
             result (H.count host.old) (H.count host.new) }

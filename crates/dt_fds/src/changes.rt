@@ -4,10 +4,11 @@ ghost use Rattle.std.specs.FinMap.{get};
 ghost use Rattle.dt_tree.specs.FileTree.{FileTree};
 ghost use Rattle.dt_tree.specs.Calls.{UnlessFailed};
 ghost use Rattle.dt_fds.specs.declared.desc.TheConstants.{DESCRIPTOR_LIMIT};
-ghost use Rattle.dt_fds.specs.Descriptions.{slot_at, description_at, is_after, is_of_dir, changed, at_spot};
-ghost use Rattle.dt_fds.specs.Descriptions.{with_flags, marked, duplicated, with_copy, table_of, with_table};
+ghost use Rattle.dt_fds.specs.Descriptions.{slot_at, description_at, is_after, is_of_dir, with_slot_description};
+ghost use Rattle.dt_fds.specs.Descriptions.{at_spot};
+ghost use Rattle.dt_fds.specs.Descriptions.{with_flags, marked, duplicated, with_copy, table_at, with_table};
 ghost use Rattle.dt_fds.specs.Descriptions.{shared_all};
-ghost use Rattle.dt_fds.specs.Pipes.{Pipes};
+ghost use Rattle.dt_fds.specs.Pipes.{PipesView};
 ghost use Rattle.dt_fds.specs.Holding.{over, dup_call};
 ghost use Rattle.dt_fds.specs.Backs.{KeepsNodes, Does, HasFailed};
 
@@ -28,7 +29,7 @@ impl Descriptors {
         cloexec: bool,
     ) -> Result<u32, CallErr>
         requires { from ≤ DESCRIPTOR_LIMIT }
-        ensures call { (t : FileTree) (pipes : Pipes) → Does result (over t pipes self.new)
+        ensures call { (t : FileTree) (pipes : PipesView) → Does result (over t pipes self.new)
             (dup_call pid fd from cloexec (over t pipes self.old)) }
         ensures nodes { UnlessFailed result (KeepsNodes pid self.old self.new) }
         ensures quiet { HasFailed result → ⊥ }
@@ -51,7 +52,7 @@ impl Descriptors {
     pub(crate) fn set_spot(&mut self, pid: u32, fd: u32, spot: Spot)
         requires { IfSome (description_at self.old pid fd)
             (λ desc. is_after spot ≡ is_of_dir desc.kind) }
-        ensures files { self.new ≡ changed self.old (at_spot spot) (slot_at self.old pid fd) }
+        ensures files { self.new ≡ with_slot_description self.old (at_spot spot) (slot_at self.old pid fd) }
         ensures nodes { KeepsNodes pid self.old self.new }
     {
         match self.slot(pid, fd) {
@@ -67,7 +68,7 @@ impl Descriptors {
     /// Nothing is done where the descriptor is not open.
     pub(crate) fn set_flags(&mut self, pid: u32, fd: u32, append: bool, nonblock: bool)
         ensures files { self.new
-            ≡ changed self.old (with_flags append nonblock) (slot_at self.old pid fd) }
+            ≡ with_slot_description self.old (with_flags append nonblock) (slot_at self.old pid fd) }
         ensures nodes { KeepsNodes pid self.old self.new }
     {
         match self.slot(pid, fd) {
@@ -110,7 +111,7 @@ impl Descriptors {
     fn copy_table(&mut self, parent: u32, child: u32) -> Result<(), NoMemory>
         requires parent { IsSome (get self.old.tables parent) }
         requires child { get self.old.tables child ≡ None }
-        ensures files { OnOk result (self.new ≡ with_table self.old child (table_of self.old parent)) }
+        ensures files { OnOk result (self.new ≡ with_table self.old child (table_at self.old parent)) }
         ensures nodes { KeepsNodes child self.old self.new }
     {
         self.sized(parent);

@@ -6,8 +6,9 @@ ghost use Rattle.std.specs.List.{position};
 ghost use Rattle.std.specs.FinMap.{get, insert, remove};
 ghost use Rattle.dt_fds.specs.Backs.{KeepsNodes};
 ghost use Rattle.dt_fds.specs.declared.desc.TheConstants.{DESCRIPTOR_LIMIT};
-ghost use Rattle.dt_fds.specs.Descriptions.{IsDesc, none_open, table_of, slot_at, description_at, cloexec_at};
-ghost use Rattle.dt_fds.specs.Descriptions.{lowest_free, with_slot, with_table, with_new, opened, duplicated, freed};
+ghost use Rattle.dt_fds.specs.Descriptions.{IsDesc, none_open, table_at, slot_at, description_at, cloexec_at};
+ghost use Rattle.dt_fds.specs.Descriptions.{lowest_free, with_slot, with_table, with_new_description, opened};
+ghost use Rattle.dt_fds.specs.Descriptions.{duplicated, freed};
 ghost use Rattle.dt_fds.specs.Descriptions.{swept, gone, with_description, at_spot, with_flags, is_after, is_of_dir};
 ghost use Rattle.dt_fds.specs.Descriptions.{forgotten};
 
@@ -60,7 +61,7 @@ impl Descriptors {
 
     /// Whether no descriptor of a process is free.
     pub(crate) fn is_full(&self, pid: u32) -> bool
-        ensures { result ≡ is_none (lowest_free (table_of self.now pid) 0) }
+        ensures { result ≡ is_none (lowest_free (table_at self.now pid) 0) }
     {
         self.free(pid, 0).is_none()
     }
@@ -117,7 +118,7 @@ impl Descriptors {
     // A table has a slot for each descriptor that may be open: nothing is done.
     pub(crate) fn sized(&self, pid: u32)
         requires { IsSome (get self.now.tables pid) }
-        ensures { length (table_of self.now pid) ≡ DESCRIPTOR_LIMIT }
+        ensures { length (table_at self.now pid) ≡ DESCRIPTOR_LIMIT }
     {
         let _ = &self.tables;
     }
@@ -126,7 +127,7 @@ impl Descriptors {
     #[tactic(auto, unfolding(crate::specs::Descriptions::lowest_free))]
     pub(crate) fn free(&self, pid: u32, from: u32) -> Option<u32>
         requires { from ≤ DESCRIPTOR_LIMIT }
-        ensures value { result ≡ lowest_free (table_of self.now pid) from }
+        ensures value { result ≡ lowest_free (table_at self.now pid) from }
         ensures there { IfSome result (λ _. IsSome (get self.now.tables pid)) }
         ensures within { IfSome result (λ fd. fd < DESCRIPTOR_LIMIT) }
         ensures free { IfSome result (λ fd. slot_at self.now pid fd ≡ None) }
@@ -179,7 +180,7 @@ impl Descriptors {
     }
 
     // Lets a free descriptor refer to a new description. Want of memory is the answer where the numbers are used up.
-    #[tactic(auto, unfolding(crate::specs::Descriptions::with_slot, crate::specs::Descriptions::with_new))]
+    #[tactic(auto, unfolding(crate::specs::Descriptions::with_slot, crate::specs::Descriptions::with_new_description))]
     pub(crate) fn enter(
         &mut self,
         pid: u32,

@@ -5,9 +5,10 @@ ghost use Rattle.std.specs.FinMap.{get};
 ghost use Rattle.dt_tree.specs.FileTree.{FileTree};
 ghost use Rattle.dt_tree.specs.Calls.{UnlessFailed};
 ghost use Rattle.dt_fds.specs.declared.desc.TheConstants.{DESCRIPTOR_LIMIT};
-ghost use Rattle.dt_fds.specs.Descriptions.{IsDesc, table_of, slot_at, description_at, cloexec_at, lowest_free};
-ghost use Rattle.dt_fds.specs.Descriptions.{changed, at_spot, with_flags, marked, is_after, is_of_dir, shared_all};
-ghost use Rattle.dt_fds.specs.Pipes.{Pipes as PipesView};
+ghost use Rattle.dt_fds.specs.Descriptions.{IsDesc, table_at, slot_at, description_at, cloexec_at, lowest_free};
+ghost use Rattle.dt_fds.specs.Descriptions.{with_slot_description, at_spot, with_flags, marked, is_after, is_of_dir};
+ghost use Rattle.dt_fds.specs.Descriptions.{shared_all};
+ghost use Rattle.dt_fds.specs.Pipes.{PipesView};
 ghost use Rattle.dt_fds.specs.Holding.{over, dup_call};
 ghost use Rattle.dt_fds.specs.Backs.{KeepsNodes, Does, HasFailed};
 ghost use Rattle.dt_fds.specs.OpenFiles.{with_descriptors};
@@ -43,7 +44,7 @@ impl Files {
 
     /// Whether no descriptor of a process is free.
     pub fn is_full(&self, pid: u32) -> bool
-        ensures { result ≡ is_none (lowest_free (table_of self.now.descriptors pid) 0) }
+        ensures { result ≡ is_none (lowest_free (table_at self.now.descriptors pid) 0) }
     {
         self.descriptors.is_full(pid)
     }
@@ -75,7 +76,7 @@ impl Files {
         requires { IfSome (description_at self.old.descriptors pid fd)
             (λ desc. is_after spot ≡ is_of_dir desc.kind) }
         ensures files { self.new ≡ with_descriptors self.old
-            (changed self.old.descriptors (at_spot spot) (slot_at self.old.descriptors pid fd)) }
+            (with_slot_description self.old.descriptors (at_spot spot) (slot_at self.old.descriptors pid fd)) }
         ensures nodes { KeepsNodes pid self.old.descriptors self.new.descriptors }
     {
         self.descriptors.set_spot(pid, fd, spot);
@@ -85,7 +86,8 @@ impl Files {
     /// Nothing is done where the descriptor is not open.
     pub fn set_flags(&mut self, pid: u32, fd: u32, append: bool, nonblock: bool)
         ensures files { self.new ≡ with_descriptors self.old
-            (changed self.old.descriptors (with_flags append nonblock) (slot_at self.old.descriptors pid fd)) }
+            (with_slot_description self.old.descriptors (with_flags append nonblock)
+            (slot_at self.old.descriptors pid fd)) }
         ensures nodes { KeepsNodes pid self.old.descriptors self.new.descriptors }
     {
         self.descriptors.set_flags(pid, fd, append, nonblock);

@@ -6,7 +6,7 @@ ghost use Rattle.dt_host.specs.World.{Pipes as HostPipes};
 ghost use Rattle.dt_pipes.specs.Table.{Stands};
 ghost use Rattle.dt_pipes.specs.declared.pipe.TheConstants.{FIRST_PIPE};
 ghost use Rattle.dt_fds.specs.Ends.{AreCounted};
-ghost use Rattle.dt_fds.specs.Pipes.{Pipes as PipesView};
+ghost use Rattle.dt_fds.specs.Pipes.{PipesView};
 ghost use Rattle.dt_fds.specs.Backs.{AllIn, AllEnds, descriptions_of};
 ghost use Rattle.dt_fds.specs.Descriptions.{IsDesc, first_desc, first_files, opened_lowest, readers, writers};
 

@@ -11,13 +11,13 @@ ghost use Rattle.dt_pipes.specs.Changes.{OnlyPipes};
 ghost use Rattle.dt_pipes.specs.declared.pipe.TheConstants.{PIPE_NUMBER_LIMIT};
 ghost use Rattle.dt_host.specs.World.{Pipes as HostPipes};
 ghost use Rattle.dt_fds.specs.declared.desc.TheConstants.{DESCRIPTOR_LIMIT};
-ghost use Rattle.dt_fds.specs.Descriptions.{description_at, slot_at, table_of, two_free, read_pipe, write_pipe};
+ghost use Rattle.dt_fds.specs.Descriptions.{description_at, slot_at, table_at, two_free, read_pipe, write_pipe};
 ghost use Rattle.dt_fds.specs.Ends.{is_read, is_written, one_if};
 ghost use Rattle.dt_fds.specs.OpenFiles.{pipes_at};
 ghost use Rattle.dt_fds.specs.Pipes.{none_held, goes, write_flow, pipe_at, held_at};
-ghost use Rattle.dt_fds.specs.Holding.{pipe_call, pipe_read_call, pipe_write_call, bytes_read, with_pipe};
+ghost use Rattle.dt_fds.specs.Holding.{pipe_call, pipe_read_call, pipe_write_call, bytes_read, with_pipe_opened};
 ghost use Rattle.dt_fds.specs.Holding.{pipe_moves, read_end, write_end};
-ghost use Rattle.dt_fds.specs.Backs.{HasEnds, HasFailed, IsBacked, IsPiped, Leaves, Makes, at, holding};
+ghost use Rattle.dt_fds.specs.Backs.{HasEnds, HasFailed, IsBacked, IsPiped, Leaves, MakesCall, at, holding_at};
 ghost use Rattle.dt_fds.specs.inner.Ends.{end_by, as_call};
 
 use crate::desc::{DESCRIPTOR_LIMIT, Desc, DescKind, Spot};
@@ -41,7 +41,7 @@ impl Files {
         requires piped { IsPiped self.old (H.view host.old).pipes }
         requires fits { self.old.pipes.next < PIPE_NUMBER_LIMIT }
         ensures makes { (table : Table) → IsBacked (at self.old table (H.view host.old))
-            → Makes pid (pipe_call pid flags) (at self.old table (H.view host.old))
+            → MakesCall pid (pipe_call pid flags) (at self.old table (H.view host.old))
             (at self.new table (H.view host.new)) result (H.count host.old) (H.count host.new) }
         ensures only { OnlyPipes (H.view host.old) (H.view host.new) }
         ensures cause { HasCause (H.count host.old) (H.count host.new) (HasFailed result) }
@@ -57,7 +57,7 @@ impl Files {
     /// The two lowest free descriptors of a process, the lower one first; none where not two are free.
     #[tactic(auto, unfolding(crate::specs::Descriptions::two_free))]
     pub fn two_free(&self, pid: u32) -> Option<(u32, u32)>
-        ensures value { result ≡ two_free (table_of self.now.descriptors pid) }
+        ensures value { result ≡ two_free (table_at self.now.descriptors pid) }
         ensures table { IfSome result (λ _. IsSome (get self.now.descriptors.tables pid)) }
         ensures within { IfSome result (λ ends. ends.0 < DESCRIPTOR_LIMIT) }
         ensures within_too { IfSome result (λ ends. ends.1 < DESCRIPTOR_LIMIT) }
@@ -92,7 +92,7 @@ impl Files {
         requires free_too { slot_at self.old.descriptors pid write ≡ None }
         requires apart { read < write }
         ensures leaves { (table : Table) → IsBacked (at self.old table (H.view host.old))
-            → Leaves pid (with_pipe (holding (at self.old table (H.view host.old))) pid flags read write)
+            → Leaves pid (with_pipe_opened (holding_at (at self.old table (H.view host.old))) pid flags read write)
             (at self.old table (H.view host.old)) (at self.new table (H.view host.new)) result
             (H.count host.old) (H.count host.new) }
         ensures only { OnlyPipes (H.view host.old) (H.view host.new) }
@@ -125,10 +125,10 @@ impl Files {
     ) -> Result<Flow, CallErr>
         requires { IsPiped self.old (H.view host.old).pipes }
         ensures makes { (table : Table) → IsBacked (at self.old table (H.view host.old))
-            → Makes pid (pipe_read_call pid fd (length buf.old)) (at self.old table (H.view host.old))
+            → MakesCall pid (pipe_read_call pid fd (length buf.old)) (at self.old table (H.view host.old))
             (at self.new table (H.view host.new)) result (H.count host.old) (H.count host.new) }
         ensures bytes { (table : Table) → IfOk result (λ _.
-            let came = bytes_read pid fd (length buf.old) (holding (at self.old table (H.view host.old))) in
+            let came = bytes_read pid fd (length buf.old) (holding_at (at self.old table (H.view host.old))) in
             buf.new ≡ came ++ drop (length came) buf.old) }
         ensures kept { (errno : Errno) → result ≡ Err (is_refused errno) → buf.new ≡ buf.old }
         ensures only { OnlyPipes (H.view host.old) (H.view host.new) }
@@ -160,7 +160,7 @@ impl Files {
         requires piped { IsPiped self.old (H.view host.old).pipes }
         requires within { done ≤ length bytes.now }
         ensures makes { (table : Table) → IsBacked (at self.old table (H.view host.old))
-            → Makes pid (pipe_write_call pid fd bytes.now done) (at self.old table (H.view host.old))
+            → MakesCall pid (pipe_write_call pid fd bytes.now done) (at self.old table (H.view host.old))
             (at self.new table (H.view host.new)) result (H.count host.old) (H.count host.new) }
         ensures only { OnlyPipes (H.view host.old) (H.view host.new) }
         ensures cause { HasCause (H.count host.old) (H.count host.new) (HasFailed result) }
@@ -210,7 +210,7 @@ impl Files {
             (pipes_at self.old (H.view host.old).pipes) }
         ensures makes { (table : Table) → (bytes : List ℕ) → IsBacked (at self.old table (H.view host.old))
             → length bytes ≡ whole → take (length piece.now) (drop done bytes) ≡ piece.now
-            → Makes pid (pipe_write_call pid fd bytes done) (at self.old table (H.view host.old))
+            → MakesCall pid (pipe_write_call pid fd bytes done) (at self.old table (H.view host.old))
             (at self.new table (H.view host.new)) result (H.count host.old) (H.count host.new) }
         ensures only { OnlyPipes (H.view host.old) (H.view host.new) }
         ensures cause { HasCause (H.count host.old) (H.count host.new) (HasFailed result) }

@@ -9,7 +9,7 @@ use Rattle.dt_host.specs.declared.kind.NodeKind.{NodeKind}
 use Rattle.dt_host.specs.declared.kind.NodeKind.TheVariants.{File, Dir, Pipe, Link}
 use Rattle.dt_host.specs.Sink.{MovesSome}
 use Rattle.dt_host.specs.World.{World, Forest, file, dir, link, node_at, with_node, with_forest, with_pids, with_pipe}
-use Rattle.dt_host.specs.World.{without_pipe, with_entry, without_entry, without_node, with_bytes, content, held}
+use Rattle.dt_host.specs.World.{without_pipe, with_entry, without_entry, without_node, with_bytes, content, pipe_bytes}
 use Rattle.dt_host.specs.World.{IsLive, IsNameless, IsBare}
 use Rattle.dt_base.specs.Bytes.{overwritten, resized}
 
@@ -114,9 +114,9 @@ with_size w n len = with_forest w (with_bytes w.forest n (resized (content w.for
 
 -- so many of the oldest bytes that a pipe holds came into the start of a buffer, and are gone from it
 pub record TakesSome (old : World) (n : ℕ) (before after : List ℕ) (new : World) (count : ℕ) : Type 0 where
-  pub moved : MovesSome (min (length before) (length (held old n))) count
-  pub prefix : after ≡ take count (held old n) ++ drop count before
-  pub left : new ≡ with_pipe old n (drop count (held old n))
+  pub moved : MovesSome (min (length before) (length (pipe_bytes old n))) count
+  pub prefix : after ≡ take count (pipe_bytes old n) ++ drop count before
+  pub left : new ≡ with_pipe old n (drop count (pipe_bytes old n))
 
 -- the answers of `pipe_take`
 abbrev pub Takes : {E : Type 0} → World → ℕ → List ℕ → List ℕ → Result ℕ E → World → Type 0
@@ -125,7 +125,7 @@ Takes old n before after result new =
 
 -- the world with these bytes behind those that a pipe holds
 abbrev pub with_put : World → ℕ → List ℕ → World
-with_put w n bytes = with_pipe w n (held w n ++ bytes)
+with_put w n bytes = with_pipe w n (pipe_bytes w n ++ bytes)
 
 -- so many of the bytes were put into a pipe
 pub record PutsSome (old : World) (n : ℕ) (bytes : List ℕ) (new : World) (count : ℕ) : Type 0 where
@@ -148,16 +148,16 @@ PutsAll old n bytes result new = MatchResult result (λ _. new ≡ with_put old 
 
 -- so many of the oldest bytes that a pipe holds came into the start of a buffer: as many as there are, or as fit
 pub record TakesMost (old : World) (n : ℕ) (before after : List ℕ) (new : World) (count : ℕ) : Type 0 where
-  pub most : count ≡ min (length before) (length (held old n))
-  pub prefix : after ≡ take count (held old n) ++ drop count before
-  pub left : new ≡ with_pipe old n (drop count (held old n))
+  pub most : count ≡ min (length before) (length (pipe_bytes old n))
+  pub prefix : after ≡ take count (pipe_bytes old n) ++ drop count before
+  pub left : new ≡ with_pipe old n (drop count (pipe_bytes old n))
 
 -- so many of the oldest bytes that a pipe holds are gone from it, maybe none, and no more than a buffer takes
 pub record LosesPart (old : World) (n : ℕ) (before : List ℕ) (new : World) : Type 0 where
   pub count : ℕ
-  pub there : count ≤ length (held old n)
+  pub there : count ≤ length (pipe_bytes old n)
   pub fits : count ≤ length before
-  pub left : new ≡ with_pipe old n (drop count (held old n))
+  pub left : new ≡ with_pipe old n (drop count (pipe_bytes old n))
 
 -- the answers of a transfer out of a pipe that goes on until the buffer is full or the pipe is empty
 abbrev pub TakesAll : {E : Type 0} → World → ℕ → List ℕ → List ℕ → Result ℕ E → World → Type 0

@@ -1,10 +1,10 @@
 -- What a host keeps: the nodes of a tree by number, which of them is the root, what each pipe holds, and the pids that are live.
-use Rattle.std.specs.Prelude.{◌≡◌, ◌≢◌, ℕ, ◌^◌, ◌<◌, List, [], length, Option, None, Some, option_and_then, unwrap_or, IsSome}
+use Rattle.std.specs.Prelude.{◌≡◌, ◌≢◌, ℕ, ◌^◌, ◌<◌, List, [], length, Option, None, Some, option_and_then, unwrap_or, IsSome, true}
 use Rattle.std.specs.Ordering.{nat_cmp}
 use Rattle.std.specs.Cmp.Lexicographic.{slice_cmp}
 use Rattle.std.specs.FinMap.{FinMap, empty, get, insert, remove}
 use Rattle.std.specs.FinSet as set
-use Rattle.std.specs.FinSet.{FinSet}
+use Rattle.std.specs.FinSet.{FinSet, contains}
 
 -- the entries of a directory: a node's number by the bytes of its name
 abbrev pub Names : Type 0
@@ -100,13 +100,17 @@ abbrev pub IsPipe : World → ℕ → Type 0
 IsPipe w n = IsSome (get w.pipes n)
 
 -- what a pipe holds; none where there is no pipe
-abbrev pub held : World → ℕ → List ℕ
-held w n = unwrap_or (get w.pipes n) []
+abbrev pub pipe_bytes : World → ℕ → List ℕ
+pipe_bytes w n = unwrap_or (get w.pipes n) []
 
 -- the numbers of pipes have 64 bits, and none of them is a node's
 pub record ArePipes (w : World) : Type 0 where
   pub numbers : (n : ℕ) → IsPipe w n → n < 2 ^ 64
   pub apart : (n : ℕ) → IsLive w.forest n → get w.pipes n ≡ None
+
+-- the live pids have 64 bits
+abbrev pub ArePids : Pids → Type 0
+ArePids pids = (p : ℕ) → contains pids p ≡ true → p < 2 ^ 64
 
 -- the entries of a directory; none where there is no directory
 unfoldable pub names_at : Forest → ℕ → Names

@@ -5,8 +5,8 @@ ghost use Rattle.std.specs.List.Sorted.{IsPermutation};
 ghost use Rattle.std.specs.FinMap.{entries};
 ghost use Rattle.std.specs.FinSet.{contains};
 ghost use Rattle.dt_host.specs.Cause.{HasCause};
-ghost use Rattle.dt_host.specs.World.{World, IsLive, IsFile, IsDir, IsLink, IsPipe, IsSized, ArePipes, file_at};
-ghost use Rattle.dt_host.specs.World.{target_at, names_at, entry, content, held};
+ghost use Rattle.dt_host.specs.World.{World, IsLive, IsFile, IsDir, IsLink, IsPipe, IsSized, ArePipes, ArePids};
+ghost use Rattle.dt_host.specs.World.{file_at, target_at, names_at, entry, content, pipe_bytes};
 ghost use Rattle.dt_host.specs.Legal.{Makes, Binds, Unbinds, MayGo, Forgets, named, Reads, Writes, Cuts, Takes, Puts};
 ghost use Rattle.dt_host.specs.Legal.{MakesPid, DropsPid};
 
@@ -28,7 +28,8 @@ pub trait Host {
         ensures value { result ≡ count self.now }
         ensures small { count self.now < 2 ^ 64 }
         ensures sized { IsSized (view self.now).forest }
-        ensures pipes { ArePipes (view self.now) };
+        ensures pipes { ArePipes (view self.now) }
+        ensures pids { ArePids (view self.now).pids };
 
     /// The number of the root directory.
     fn root(&mut self) -> Result<u64, HostErr>
@@ -144,7 +145,7 @@ pub trait Host {
     fn pipe_put(&mut self, ino: u64, bytes: &[u8]) -> Result<usize, HostErr>
         requires pipe { IsPipe (view self.old) ino }
         requires some { 0 < length bytes.now }
-        requires fits { length (held (view self.old) ino) + length bytes.now ≤ PIPE_LIMIT }
+        requires fits { length (pipe_bytes (view self.old) ino) + length bytes.now ≤ PIPE_LIMIT }
         ensures legal { Puts (view self.old) ino bytes.now result (view self.new) }
         ensures cause { HasCause (count self.old) (count self.new)
             (IsErrOf result HostErr.Failed) };

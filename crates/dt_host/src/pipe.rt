@@ -1,7 +1,7 @@
 // One transfer of everything out of a pipe or into one, whatever part each call moves.
 ghost use Rattle.std.specs.Prelude.{◌+◌, ◌≤◌, length, IsErrOf};
 ghost use Rattle.dt_host.specs.Cause.{HasCause};
-ghost use Rattle.dt_host.specs.World.{IsPipe, held};
+ghost use Rattle.dt_host.specs.World.{IsPipe, pipe_bytes};
 ghost use Rattle.dt_host.specs.Legal.{TakesAll, PutsAll};
 
 use crate::error::HostErr;
@@ -31,7 +31,7 @@ pub fn take_whole<H: Host>(host: &mut H, ino: u64, buf: &mut [u8]) -> Result<usi
 /// Puts all of `bytes` into a pipe. After an error a prefix of them may have been put there.
 pub fn put_whole<H: Host>(host: &mut H, ino: u64, bytes: &[u8]) -> Result<(), HostErr>
     requires pipe { IsPipe (H.view host.old) ino }
-    requires fits { length (held (H.view host.old) ino) + length bytes.now ≤ PIPE_LIMIT }
+    requires fits { length (pipe_bytes (H.view host.old) ino) + length bytes.now ≤ PIPE_LIMIT }
     ensures legal { PutsAll (H.view host.old) ino bytes.now result (H.view host.new) }
     ensures cause { HasCause (H.count host.old) (H.count host.new) (IsErrOf result HostErr.Failed) }
 {

@@ -10,7 +10,7 @@ use Rattle.dt_base.specs.declared.limits.TheConstants.{INDEX_LIMIT}
 use Rattle.dt_base.specs.declared.refusal.Refusal.TheVariants.{BadIndex}
 use Rattle.dt_base.specs.declared.refusal.Refusal.{Refusal}
 use Rattle.dt_host.specs.Store.{Files, size_of}
-use Rattle.dt_image.specs.ImageOf.{value_of, image_by, image_of, name_in}
+use Rattle.dt_image.specs.ImageOf.{value_of, image_by, image_of, name_below}
 
 pub value_of_text : (bytes : List ℕ) → length bytes ≤ INDEX_LIMIT → IsUtf8 bytes → value_of bytes ≡ read bytes
 unfolding value_of
@@ -39,7 +39,7 @@ pub too_long : (told : Option Files) (name : List ℕ) (size : ℕ) → IfSome t
 too_long None name size h long = tt
 too_long (Some files) name size h long = λ folder. long_index files folder (get files name) size h long
 
-pub by_name : (told : Option Files) (name folder : List ℕ) (r : Refusal) → name ≡ name_in folder (codes "image.json")
+pub by_name : (told : Option Files) (name folder : List ℕ) (r : Refusal) → name ≡ name_below folder (codes "image.json")
     → IfSome told (λ files. (any : List ℕ) → image_by files any (get files name) ≡ Err r) → IfSome told (λ files. image_of files folder ≡ Err r)
 by_name None name folder r e h = tt
 by_name (Some files) name folder r e h = rw e at (h folder)

@@ -11,7 +11,7 @@ use Rattle.dt_base.specs.declared.refusal.Refusal.TheVariants.{BadPath, Twice, N
 use Rattle.dt_base.specs.Path.{is_path, is_top, parent_of}
 use Rattle.dt_host.specs.Store.{Files}
 use Rattle.dt_image.specs.Index.{IndexEntry, is_good, is_good_source, index_of}
-use Rattle.dt_image.specs.ImageOf.{has_twice, lists_dir, lists_parent, sorted, with_blobs, image_from, image_listed, image_by, image_of, value_of, name_in}
+use Rattle.dt_image.specs.ImageOf.{has_twice, lists_dir, lists_parent, sorted, with_blobs, image_from, image_listed, image_by, image_of, value_of, name_below}
 use Rattle.dt_image.specs.inner.IndexView.{has_mode, is_listed, is_sound, in_dirs}
 use Rattle.dt_image.proofs.Sorting.{list_any-sorted, list_all-sorted}
 
@@ -108,7 +108,7 @@ is_twice false e = cc
 
 -- the image of a folder whose index lists these entries
 pub told_index : (told now : Option Files) (folder bytes : List ℕ) (value : Data) (entries : List IndexEntry) (answer : Result (List Entry) Refusal) → now ≡ told
-    → IfSome told (λ held. get held (name_in folder (codes "image.json")) ≡ Some bytes) → value_of bytes ≡ Some value → Some entries ≡ index_of value
+    → IfSome told (λ held. get held (name_below folder (codes "image.json")) ≡ Some bytes) → value_of bytes ≡ Some value → Some entries ≡ index_of value
     → IfSome now (λ held. image_from held folder entries ≡ answer) → IfSome told (λ held. image_of held folder ≡ answer)
 told_index None now folder bytes value entries answer stays at read lists made = tt
 told_index (Some held) now folder bytes value entries answer stays at read lists made =

@@ -14,7 +14,7 @@ use Rattle.dt_host.specs.Store.{Files}
 use Rattle.dt_image.specs.declared.index.EntryRef.{EntryRef}
 use Rattle.dt_image.specs.declared.blobs.Measured.{Measured}
 use Rattle.dt_image.specs.Index.{Source, file, dir, link, IndexEntry}
-use Rattle.dt_image.specs.ImageOf.{has_blob, fits, entry_with, with_blobs}
+use Rattle.dt_image.specs.ImageOf.{has_blob, fits_limit, entry_with, with_blobs}
 use Rattle.dt_image.specs.inner.IndexView.{source_in, entry_in, blob_size, is_sound, HasSize}
 
 -- what the code counts of a blob
@@ -39,7 +39,7 @@ module _ (held : Files) (folder : List ℕ) where
   has_by (dir mode) size e = refl
   has_by (link target) size e = refl
 
-  fits_by : (source : Source) (size : ℕ) → blob_size held folder source ≡ Some size → fits held folder source ≡ nat_le size FILE_LIMIT
+  fits_by : (source : Source) (size : ℕ) → blob_size held folder source ≡ Some size → fits_limit held folder source ≡ nat_le size FILE_LIMIT
   fits_by (file mode blob) size e = ap (λ n. nat_le n FILE_LIMIT) (as_long _ size e)
   fits_by (dir mode) size e = let same : 0 ≡ size = cc in ap (λ n. nat_le n FILE_LIMIT) same
   fits_by (link target) size e = let same : 0 ≡ size = cc in ap (λ n. nat_le n FILE_LIMIT) same
@@ -48,7 +48,7 @@ module _ (held : Files) (folder : List ℕ) where
   has entry = has_blob held folder entry.source
 
   abbrev fit : IndexEntry → Bool
-  fit entry = fits held folder entry.source
+  fit entry = fits_limit held folder entry.source
 
   all_there : (blobs : List Measured) → All (HasSize held folder) blobs → list_all has (map entry_in (entries_of blobs)) ≡ true
   all_there [] sizes = refl

@@ -6,7 +6,7 @@ use Rattle.dt_host.specs.World.{Node, file, dir, link, node_at, file_bytes, dir_
 use Rattle.dt_tree.specs.declared.meta.Meta.{Meta}
 use Rattle.dt_tree.specs.FileTree.{Attributes, FileTree}
 use Rattle.dt_tree.specs.Listing.{type_of}
-use Rattle.dt_tree.specs.Meta.{size_of, nlink_of, meta_of}
+use Rattle.dt_tree.specs.Meta.{node_size, nlink_of, meta_of}
 use Rattle.dt_tree.specs.Shape.{is_dir, is_link}
 use Rattle.dt_image.specs.Report.{file_line, dir_line, link_line, line_of, path_line}
 
@@ -15,7 +15,7 @@ same_meta a b e = cc
 
 -- what is told of what may be there
 abbrev told : ℕ → Option Node → Option Attributes → Option Meta
-told links found attributes = option_and_then (λ node. option_map (λ a. record { kind = type_of node; mode = a.mode; nlink = links; size = size_of node; stamp = a.stamp }) attributes) found
+told links found attributes = option_and_then (λ node. option_map (λ a. record { kind = type_of node; mode = a.mode; nlink = links; size = node_size node; stamp = a.stamp }) attributes) found
 
 dir_by : (links : ℕ) (at : List ℕ × ℕ) (found : Option Node) (attributes : Option Attributes) (meta : Meta) → told links found attributes ≡ Some meta → is_some (option_and_then dir_names found) ≡ true → line_of at found attributes ≡ dir_line at.1 meta.mode meta.stamp at.0
 dir_by links at None attributes meta e is = absurd (cc)

@@ -18,17 +18,18 @@ use Rattle.dt_host.specs.Store.{Files, bytes_of}
 use Rattle.dt_image.specs.Index.{Source, file, dir, link, IndexEntry, index_of, is_good}
 
 -- a store's name of a file in a folder
-abbrev pub name_in : List ℕ → List ℕ → List ℕ
-name_in folder name = folder ++ (codes "/" ++ name)
+abbrev pub name_below : List ℕ → List ℕ → List ℕ
+name_below folder name = folder ++ (codes "/" ++ name)
 
 -- the JSON value that the bytes of an index are, if they are one within the limit; bytes that are no UTF-8 are none
 unfoldable pub value_of : List ℕ → Option Data
 value_of bytes = if nat_le (length bytes) INDEX_LIMIT && is_utf8 bytes then read bytes else None
 
 -- the entries that the bytes of an index list
-abbrev pub listed : List ℕ → Option (List IndexEntry)
-listed bytes = option_and_then index_of (value_of bytes)
+abbrev pub index_entries : List ℕ → Option (List IndexEntry)
+index_entries bytes = option_and_then index_of (value_of bytes)
 
+-- the entry is of this path
 abbrev pub has_path : List ℕ → IndexEntry → Bool
 has_path path entry = bytes_eq path entry.path
 
@@ -62,25 +63,25 @@ sorted entries = fold placed [] entries
 
 -- the bytes of a blob of the folder
 abbrev pub blob_of : Files → List ℕ → List ℕ → List ℕ
-blob_of files folder blob = bytes_of files (name_in folder blob)
+blob_of files folder blob = bytes_of files (name_below folder blob)
 
 -- the folder has the blob that a file is made from
 abbrev pub has_blob : Files → List ℕ → Source → Bool
-has_blob files folder (file mode blob) = is_some (get files (name_in folder blob))
+has_blob files folder (file mode blob) = is_some (get files (name_below folder blob))
 has_blob files folder (dir mode) = true
 has_blob files folder (link target) = true
 
 -- that blob is no longer than a file may be
-abbrev pub fits : Files → List ℕ → Source → Bool
-fits files folder (file mode blob) = nat_le (length (blob_of files folder blob)) FILE_LIMIT
-fits files folder (dir mode) = true
-fits files folder (link target) = true
+abbrev pub fits_limit : Files → List ℕ → Source → Bool
+fits_limit files folder (file mode blob) = nat_le (length (blob_of files folder blob)) FILE_LIMIT
+fits_limit files folder (dir mode) = true
+fits_limit files folder (link target) = true
 
 -- what is made, with the bytes of its blob
-abbrev pub made : Files → List ℕ → Source → What
-made files folder (file mode blob) = File (blob_of files folder blob)
-made files folder (dir mode) = Dir
-made files folder (link target) = Link target
+abbrev pub what_made : Files → List ℕ → Source → What
+what_made files folder (file mode blob) = File (blob_of files folder blob)
+what_made files folder (dir mode) = Dir
+what_made files folder (link target) = Link target
 
 -- its mode, which is the same for all links
 abbrev pub mode_made : Source → ℕ
@@ -90,14 +91,14 @@ mode_made (link target) = LINK_MODE
 
 -- the image's entry
 abbrev pub entry_with : Files → List ℕ → IndexEntry → Entry
-entry_with files folder entry = record { path = entry.path; mode = mode_made entry.source; what = made files folder entry.source }
+entry_with files folder entry = record { path = entry.path; mode = mode_made entry.source; what = what_made files folder entry.source }
 
 -- the image of entries in order, with the bytes of their blobs; or the first of these that holds: a blob is missing,
 -- one is too long, there are too many entries
 unfoldable pub with_blobs : Files → List ℕ → List IndexEntry → Result (List Entry) Refusal
 with_blobs files folder order =
     if not (list_all (λ entry. has_blob files folder entry.source) order) then Err NoBlob
-    else (if not (list_all (λ entry. fits files folder entry.source) order) then Err TooBig
+    else (if not (list_all (λ entry. fits_limit files folder entry.source) order) then Err TooBig
     else (if nat_le (length order) ENTRY_LIMIT then Ok (map (entry_with files folder) order) else Err TooMany))
 
 -- the image of the entries of an index; or the first of these that holds: a path, target or blob's name is not good, a
@@ -117,8 +118,8 @@ image_listed files folder (Some index) = image_from files folder index
 -- the image of a folder with or without an index
 abbrev pub image_by : Files → List ℕ → Option (List ℕ) → Result (List Entry) Refusal
 image_by files folder None = Err NoIndex
-image_by files folder (Some bytes) = image_listed files folder (listed bytes)
+image_by files folder (Some bytes) = image_listed files folder (index_entries bytes)
 
 -- the image of a folder, or why it has none
 abbrev pub image_of : Files → List ℕ → Result (List Entry) Refusal
-image_of files folder = image_by files folder (get files (name_in folder (codes "image.json")))
+image_of files folder = image_by files folder (get files (name_below folder (codes "image.json")))

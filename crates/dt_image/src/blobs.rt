@@ -8,12 +8,12 @@ ghost use Rattle.dt_base.specs.Image.{is_dir, is_good_what, is_good_entry};
 ghost use Rattle.dt_base.specs.declared.refusal.Refusal.{Refusal};
 ghost use Rattle.dt_host.specs.Asks.{AsksOr};
 ghost use Rattle.dt_host.specs.Store.{Files, size_of};
-ghost use Rattle.dt_image.specs.ImageOf.{name_in, lists_parent, has_blob, makes_dir, made, mode_made, entry_with};
-ghost use Rattle.dt_image.specs.ImageOf.{with_blobs};
+ghost use Rattle.dt_image.specs.ImageOf.{name_below, lists_parent, has_blob, makes_dir, what_made, mode_made};
+ghost use Rattle.dt_image.specs.ImageOf.{entry_with, with_blobs};
 ghost use Rattle.dt_image.specs.inner.IndexView.{source_in, entry_in, path_cmp, blob_size, HasSize, is_good_made};
 ghost use Rattle.dt_image.specs.inner.IndexView.{is_sound, spot, spot_of};
 
-use crate::folder::{bytes_in, name_in, size_in};
+use crate::folder::{bytes_in, name_below, size_in};
 use crate::index::{EntryRef, SourceRef};
 use dt_base::{
     Blob, ENTRY_LIMIT, Entry, FILE_LIMIT, Image, ImageErr, LINK_MODE, NoMemory, Refusal, What,
@@ -120,12 +120,12 @@ fn size_of<S: Store>(
     blob: &str,
 ) -> Result<u64, ImageErr>
     ensures ok { IfSome (S.told store.old) (λ held.
-        IfOk result (λ size. size_of held (name_in folder.now blob.now) ≡ Some size)) }
+        IfOk result (λ size. size_of held (name_below folder.now blob.now) ≡ Some size)) }
     ensures refused { (r : Refusal) → result ≡ Err (ImageErr.Refused r) → (r ≡ Refusal.NoBlob)
-        × IfSome (S.told store.old) (λ held. is_some (get held (name_in folder.now blob.now)) ≡ false) }
+        × IfSome (S.told store.old) (λ held. is_some (get held (name_below folder.now blob.now)) ≡ false) }
     ensures asks { AsksOr S.told S.count ImageErr.Store store.old store.new result }
 {
-    let name = name_in(alloc, folder, blob)?;
+    let name = name_below(alloc, folder, blob)?;
     match size_in(store, name.as_str())? {
         Some(size) => Ok(size),
         None => Err(ImageErr::Refused(Refusal::NoBlob)),
@@ -209,7 +209,7 @@ fn make<S: Store>(
     requires fits { size ≤ FILE_LIMIT }
     requires sound { IsTrue (is_good_made (source_in source)) }
     ensures ok { IfSome (S.told store.old) (λ held.
-        IfOk result (λ what. what ≡ made held folder.now (source_in source.entry))) }
+        IfOk result (λ what. what ≡ what_made held folder.now (source_in source.entry))) }
     ensures kind { IfOk result (λ what. is_dir what ≡ makes_dir (source_in source.entry)) }
     ensures good { IfOk result (λ what. IsTrue (is_good_what what (mode_made (source_in source.entry)))) }
     ensures answered { (r : Refusal) → result ≡ Err (ImageErr.Refused r) → ⊥ }
@@ -217,7 +217,7 @@ fn make<S: Store>(
 {
     match source {
         SourceRef::File(_, blob) => {
-            let name = name_in(alloc, folder, blob)?;
+            let name = name_below(alloc, folder, blob)?;
             let bytes = bytes_in(alloc, store, name.as_str(), size)?;
             Ok(What::File(Blob::new(bytes)))
         }

@@ -4,7 +4,7 @@ ghost use Rattle.std.specs.FinMap.{get};
 ghost use Rattle.dt_base.specs.declared.refusal.Refusal.{Refusal};
 ghost use Rattle.dt_host.specs.Asks.{AsksOr};
 ghost use Rattle.dt_host.specs.Store.{size_of};
-ghost use Rattle.dt_image.specs.ImageOf.{name_in};
+ghost use Rattle.dt_image.specs.ImageOf.{name_below};
 ghost use Rattle.dt_image.specs.inner.StoreFault.{image_err};
 
 use dt_base::{FILE_LIMIT, ImageErr, Refusal};
@@ -12,8 +12,8 @@ use dt_host::{Store, StoreErr, store_whole};
 use std::alloc::{AllocError, Global};
 
 /// The store's name of a file in a folder.
-pub fn name_in(alloc: Global, folder: &str, file: &str) -> Result<String, AllocError>
-    ensures { IfOk result (λ name. string_bytes name ≡ name_in folder.now file.now) }
+pub fn name_below(alloc: Global, folder: &str, file: &str) -> Result<String, AllocError>
+    ensures { IfOk result (λ name. string_bytes name ≡ name_below folder.now file.now) }
 {
     format!(in alloc; "{folder}/{file}")
 }

@@ -10,10 +10,10 @@ ghost use Rattle.dt_base.specs.declared.refusal.Refusal.{Refusal};
 ghost use Rattle.dt_host.specs.Asks.{AsksOr};
 ghost use Rattle.dt_image.specs.Index.{is_good};
 ghost use Rattle.dt_image.specs.inner.IndexView.{entry_in, path_cmp, is_listed, is_sound, in_dirs};
-ghost use Rattle.dt_image.specs.ImageOf.{name_in, value_of, image_by, image_of, image_from};
+ghost use Rattle.dt_image.specs.ImageOf.{name_below, value_of, image_by, image_of, image_from};
 
 use crate::blobs::with_blobs;
-use crate::folder::{bytes_in, name_in, size_in};
+use crate::folder::{bytes_in, name_below, size_in};
 use crate::index::{EntryRef, index_of, is_good};
 use crate::order::sorted;
 use crate::parents::have_parents;
@@ -40,13 +40,13 @@ pub fn read_image<S: Store>(alloc: Global, store: &mut S, folder: &str) -> Resul
 // The bytes of a folder's index, within the limit.
 fn read_index<S: Store>(alloc: Global, store: &mut S, folder: &str) -> Result<Vec<u8>, ImageErr>
     ensures ok { IfSome (S.told store.old) (λ files.
-        IfOk result (λ bytes. get files (name_in folder.now (codes "image.json")) ≡ Some bytes.items)) }
+        IfOk result (λ bytes. get files (name_below folder.now (codes "image.json")) ≡ Some bytes.items)) }
     ensures within { IfOk result (λ bytes. vec_len bytes ≤ INDEX_LIMIT) }
     ensures refused { (r : Refusal) → result ≡ Err (ImageErr.Refused r) →
         IfSome (S.told store.old) (λ files. image_of files folder.now ≡ Err r) }
     ensures asks { AsksOr S.told S.count ImageErr.Store store.old store.new result }
 {
-    let name = name_in(alloc, folder, "image.json")?;
+    let name = name_below(alloc, folder, "image.json")?;
     index_bytes(alloc, store, name.as_str())
 }
 

@@ -13,7 +13,7 @@ pub fn header() -> &'static [u8]
     b"dettrace 1\n"
 }
 
-/// The text of one event.
+/// The lines of a report that tell of an event.
 pub fn event_text(alloc: Global, event: &Event) -> Result<Blob, NoMemory>
     ensures { IfOk result (λ text. text ≡ event_text event.now) }
 {

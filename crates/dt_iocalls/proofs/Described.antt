@@ -7,7 +7,7 @@ use Rattle.dt_fds.specs.declared.desc.DescKind.TheVariants.{File, Dir}
 use Rattle.dt_fds.specs.declared.desc.Slot.{Slot}
 use Rattle.dt_fds.specs.declared.desc.Spot.TheVariants.{At}
 use Rattle.dt_fds.specs.Backs.{IsIn, AllIn}
-use Rattle.dt_fds.specs.Descriptions.{Descriptions, desc_of, slot_at, description_at, is_after, is_of_dir}
+use Rattle.dt_fds.specs.Descriptions.{Descriptions, slot_description, slot_at, description_at, is_after, is_of_dir}
 use Rattle.dt_host.specs.World.{Forest, IsFile, IsDir}
 use Rattle.dt_scene.proofs.Kept.{sound_nodes, others_nodes}
 
@@ -15,7 +15,7 @@ pub kind_in : (v : Forest) (f : Descriptions) (p fd : ℕ) (desc : Desc) → All
 unfolding description_at
 kind_in v f p fd desc all is = by-slot (slot_at f p fd) is
   where
-    by-slot : (slot : Option Slot) → option_and_then (desc_of f) slot ≡ Some desc → IsIn v desc.kind
+    by-slot : (slot : Option Slot) → option_and_then (slot_description f) slot ≡ Some desc → IsIn v desc.kind
     by-slot None is = absurd cc
     by-slot (Some slot) is = subst (λ found. IfSome found (λ d. IsIn v d.kind)) is (all slot.number)
 

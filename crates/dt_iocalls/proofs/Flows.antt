@@ -1,5 +1,5 @@
 -- Reads and writes of pipes, as the calls serve them.
-use Rattle.std.proofs.Common.{arith, ◌≡◌, ℕ, zero, suc, ◌≤◌, ◌==◌, ◌++◌, false, List, [], ◌∷◌, length, take, drop, Option, None, Some, Result, Ok, Err, refl, sym, ap, subst, ◌∙◌}
+use Rattle.std.proofs.Common.{arith, ◌≡◌, ℕ, ◌≤◌, ◌==◌, ◌++◌, false, List, [], ◌∷◌, length, take, drop, Option, None, Some, Result, Ok, Err, refl, sym, ap, subst, ◌∙◌}
 use Rattle.std.specs.Prelude.{Bool, IfOk, IfSome, IsOk, min, option_map, unwrap_or, if◌then◌else◌}
 use Rattle.std.proofs.lemmas.List.{take_min, length-take, drop_all, append-nil}
 use Rattle.dt_base.proofs.Lists.{none-taken}
@@ -14,11 +14,11 @@ use Rattle.dt_fds.specs.declared.files.Files.{Files}
 use Rattle.dt_fds.specs.declared.flow.Flow.{Flow}
 use Rattle.dt_fds.specs.declared.flow.Flow.TheVariants.{Moved}
 use Rattle.dt_fds.specs.Backs as holds
-use Rattle.dt_fds.specs.Backs.{Does, IsBacked, KeepsOthers as KeepsHolds, Makes, OnlyFiles, at}
-use Rattle.dt_fds.specs.Descriptions.{description_at, pipe_of, read_pipe, table_of, two_free, write_pipe, writers}
-use Rattle.dt_fds.specs.Holding.{Holding, Outcome, done, read_of, read_from, read_by, held_by, pipe_read_call, bytes_read, with_ends, with_pipe, pipe_call}
+use Rattle.dt_fds.specs.Backs.{Does, IsBacked, KeepsOthers as KeepsHolds, MakesCall, OnlyFiles, at}
+use Rattle.dt_fds.specs.Descriptions.{description_at, pipe_of, read_pipe, table_at, two_free, write_pipe, writers}
+use Rattle.dt_fds.specs.Holding.{Holding, Outcome, done, read_of, read_from, read_by, held_by, pipe_read_call, bytes_read, with_ends, with_pipe_opened, pipe_call}
 use Rattle.dt_fds.proofs.Piped.{no_zero}
-use Rattle.dt_fds.specs.Pipes.{Pipes, content, held_at, holds as now_holds, none_held}
+use Rattle.dt_fds.specs.Pipes.{PipesView, pipe_content, held_at, with_pipe_content as now_holds, none_held}
 use Rattle.dt_host.specs.World.{World}
 use Rattle.dt_host.specs.declared.error.HostErr.{HostErr}
 use Rattle.dt_host.specs.declared.error.HostErr.TheVariants.{Failed, NoMemory}
@@ -41,8 +41,8 @@ use Rattle.dt_iocalls.specs.inner.Answered.{answered}
 
 -- a call changed open files, pipes and pages, and left what others hold
 pub reaches_backed : (defined : Row) (old : Fs) (tree : Table) (files : Files) (w v : World) (caller : Caller) (space pages : List PageView) (answer : Answer) (before now : ℕ)
-    → Sound (stage old w caller space) → IsBacked (at files tree v) → KeepsHolds caller.vpid (holds.holding (at old.files old.tree w)) (holds.holding (at files tree v)) → OnlyFiles w v → before ≤ now
-    → defined ≡ record { next = with_holding (holds.holding (at files tree v)) (record (scene (stage old w caller space)) { space = pages }); answer = answer }
+    → Sound (stage old w caller space) → IsBacked (at files tree v) → KeepsHolds caller.vpid (holds.holding_at (at old.files old.tree w)) (holds.holding_at (at files tree v)) → OnlyFiles w v → before ≤ now
+    → defined ≡ record { next = with_holding (holds.holding_at (at files tree v)) (record (scene (stage old w caller space)) { space = pages }); answer = answer }
     → Reaches defined (stage old w caller space) (stage (record { tree = tree; files = files; clock = old.clock; rand = old.rand }) v caller pages) (Ok answer) before now
 reaches_backed defined old tree files w v caller space pages answer before now sound backed kept rest later is =
     let new : Fs = record { tree = tree; files = files; clock = old.clock; rand = old.rand } in
@@ -65,7 +65,7 @@ reaches_still defined g answer before now sound later is = record {
 }
 
 -- how much the pipe holds of which a description is an end that is read from
-held-kind : (pipes : Pipes) (kind : DescKind) → write_pipe kind ≡ None → length (unwrap_or (option_map (content pipes) (pipe_of kind)) []) ≡ length (unwrap_or (option_map (content pipes) (read_pipe kind)) [])
+held-kind : (pipes : PipesView) (kind : DescKind) → write_pipe kind ≡ None → length (unwrap_or (option_map (pipe_content pipes) (pipe_of kind)) []) ≡ length (unwrap_or (option_map (pipe_content pipes) (read_pipe kind)) [])
 held-kind pipes (File n) reads = refl
 held-kind pipes (Dir n) reads = refl
 held-kind pipes (PipeRead q) reads = refl
@@ -81,10 +81,10 @@ held-same h (Some desc) held reads count = count ∙ held-kind h.pipes desc.kind
 fewer : (most held : ℕ) (bytes : List ℕ) → held ≡ length bytes → min (min held most) (length bytes) ≡ min most (length bytes)
 fewer most held bytes count = omega (arith, count)
 
-read-fewer : (h : Holding) (nonblock : Bool) (most held : ℕ) (pipe : Option ℕ) → held ≡ length (unwrap_or (option_map (content h.pipes) pipe) []) → read_from h nonblock (min held most) pipe ≡ read_from h nonblock most pipe
+read-fewer : (h : Holding) (nonblock : Bool) (most held : ℕ) (pipe : Option ℕ) → held ≡ length (unwrap_or (option_map (pipe_content h.pipes) pipe) []) → read_from h nonblock (min held most) pipe ≡ read_from h nonblock most pipe
 read-fewer h nonblock most held None count = refl
 read-fewer h nonblock most held (Some q) count =
-    let bytes = content h.pipes q in
+    let bytes = pipe_content h.pipes q in
     ap (λ n. if length bytes == 0 then record { answer = none_held (writers h.files q) nonblock; next = h } else done (record h { pipes = now_holds h.pipes q (drop n bytes) }) (Moved n)) (fewer most held bytes count)
 
 by-fewer : (h : Holding) (most held : ℕ) (found : Option Desc) → held ≡ length (held_by h found) → read_by h (min held most) found ≡ read_by h most found
@@ -127,9 +127,9 @@ refused-of h q nonblock most n (b ∷ bytes) errno next is =
     let answer = sym (ap (λ none. (if none then record { answer = none_held (writers h.files q) nonblock; next = h } else done (record h { pipes = now_holds h.pipes q (drop (min most count) (b ∷ bytes)) }) (Moved (min most count))).answer) some) ∙ ap (λ (o : Outcome Flow). o.answer) is in
     absurd cc
 
-refused-from : (h : Holding) (nonblock : Bool) (most n : ℕ) (pipe : Option ℕ) (errno : Errno) (next : Holding) → read_from h nonblock most pipe ≡ record { answer = Err errno; next = next } → take n (unwrap_or (option_map (content h.pipes) pipe) []) ≡ []
+refused-from : (h : Holding) (nonblock : Bool) (most n : ℕ) (pipe : Option ℕ) (errno : Errno) (next : Holding) → read_from h nonblock most pipe ≡ record { answer = Err errno; next = next } → take n (unwrap_or (option_map (pipe_content h.pipes) pipe) []) ≡ []
 refused-from h nonblock most n None errno next is = none-taken n
-refused-from h nonblock most n (Some q) errno next is = refused-of h q nonblock most n (content h.pipes q) errno next is
+refused-from h nonblock most n (Some q) errno next is = refused-of h q nonblock most n (pipe_content h.pipes q) errno next is
 
 refused-by : (h : Holding) (most n : ℕ) (found : Option Desc) (errno : Errno) (next : Holding) → read_by h most found ≡ record { answer = Err errno; next = next } → take n (held_by h found) ≡ []
 refused-by h most n None errno next is = none-taken n
@@ -164,38 +164,38 @@ no-refusal-by : (h : Holding) (p flags : ℕ) (ends : ℕ × ℕ) (found : Optio
 no-refusal-by h p flags ends None errno next free is = cc
 no-refusal-by h p flags ends (Some others) errno next free is = let answer = ap (λ o. o.answer) is in cc
 
-pub no-refusal : (p flags : ℕ) (h : Holding) (ends : ℕ × ℕ) (new : Holding) (r : Result (ℕ × ℕ) CallErr) (errno : Errno) → two_free (table_of h.files p) ≡ Some ends → Does r new (pipe_call p flags h) → r ≡ Err (is_refused errno) → ⊥
+pub no-refusal : (p flags : ℕ) (h : Holding) (ends : ℕ × ℕ) (new : Holding) (r : Result (ℕ × ℕ) CallErr) (errno : Errno) → two_free (table_at h.files p) ≡ Some ends → Does r new (pipe_call p flags h) → r ≡ Err (is_refused errno) → ⊥
 unfolding pipe_call
 no-refusal p flags h ends new (Ok value) errno free does is = cc
-no-refusal p flags h ends new (Err (is_refused other)) errno free does is = no-refusal-by h p flags ends (two_free (table_of h.files p)) other new free does
+no-refusal p flags h ends new (Err (is_refused other)) errno free does is = no-refusal-by h p flags ends (two_free (table_at h.files p)) other new free does
 no-refusal p flags h ends new (Err (has_failed error)) errno free does is = cc
 
-made-by : (h : Holding) (p flags : ℕ) (ends value : ℕ × ℕ) (found : Option (ℕ × ℕ)) (next : Holding) → found ≡ Some ends → with_ends h p flags found ≡ record { answer = Ok value; next = next } → with_pipe h p flags ends.0 ends.1 ≡ next
+made-by : (h : Holding) (p flags : ℕ) (ends value : ℕ × ℕ) (found : Option (ℕ × ℕ)) (next : Holding) → found ≡ Some ends → with_ends h p flags found ≡ record { answer = Ok value; next = next } → with_pipe_opened h p flags ends.0 ends.1 ≡ next
 made-by h p flags ends value None next free is = absurd cc
 made-by h p flags ends value (Some others) next free is =
     let same : others ≡ ends = cc in
-    ap (λ (e : ℕ × ℕ). with_pipe h p flags e.0 e.1) (sym same) ∙ ap (λ o. o.next) is
+    ap (λ (e : ℕ × ℕ). with_pipe_opened h p flags e.0 e.1) (sym same) ∙ ap (λ o. o.next) is
 
-pub made-pipe : (p flags : ℕ) (h : Holding) (ends : ℕ × ℕ) (new : Holding) (r : Result (ℕ × ℕ) CallErr) (value : ℕ × ℕ) → two_free (table_of h.files p) ≡ Some ends → Does r new (pipe_call p flags h) → r ≡ Ok value → with_pipe h p flags ends.0 ends.1 ≡ new
+pub made-pipe : (p flags : ℕ) (h : Holding) (ends : ℕ × ℕ) (new : Holding) (r : Result (ℕ × ℕ) CallErr) (value : ℕ × ℕ) → two_free (table_at h.files p) ≡ Some ends → Does r new (pipe_call p flags h) → r ≡ Ok value → with_pipe_opened h p flags ends.0 ends.1 ≡ new
 unfolding pipe_call
-made-pipe p flags h ends new (Ok other) value free does is = made-by h p flags ends other (two_free (table_of h.files p)) new free does
+made-pipe p flags h ends new (Ok other) value free does is = made-by h p flags ends other (two_free (table_at h.files p)) new free does
 made-pipe p flags h ends new (Err error) value free does is = absurd cc
 
 -- a read or a write of a pipe was made, and the process has these pages then
 pub reaches_made : (old : Fs) (files : Files) (w v : World) (caller : Caller) (space pages : List PageView) (call : Holding → Outcome Flow) (r : Result Flow CallErr) (answer : Answer) (before now : ℕ)
-    → Sound (stage old w caller space) → Makes caller.vpid call (at old.files old.tree w) (at files old.tree v) r before now → answered r ≡ Ok answer
-    → Reaches (by_flow (record (scene (stage old w caller space)) { space = pages }) (call (holds.holding (at old.files old.tree w)))) (stage old w caller space) (stage (record { tree = old.tree; files = files; clock = old.clock; rand = old.rand }) v caller pages) (Ok answer) before now
+    → Sound (stage old w caller space) → MakesCall caller.vpid call (at old.files old.tree w) (at files old.tree v) r before now → answered r ≡ Ok answer
+    → Reaches (by_flow (record (scene (stage old w caller space)) { space = pages }) (call (holds.holding_at (at old.files old.tree w)))) (stage old w caller space) (stage (record { tree = old.tree; files = files; clock = old.clock; rand = old.rand }) v caller pages) (Ok answer) before now
 reaches_made old files w v caller space pages call (Ok flow) answer before now sound makes is =
     let s = record (scene (stage old w caller space)) { space = pages } in
-    let h = holds.holding (at old.files old.tree w) in
-    let new = holds.holding (at files old.tree v) in
+    let h = holds.holding_at (at old.files old.tree w) in
+    let new = holds.holding_at (at files old.tree v) in
     let same : flow_answer (Ok flow) ≡ answer = cc in
     reaches_backed (by_flow s (call h)) old old.tree files w v caller space pages answer before now sound makes.backed makes.others makes.rest makes.cause.later
     (ap (by_flow s) makes.made ∙ ap (λ a. record { next = with_holding new s; answer = a }) same)
 reaches_made old files w v caller space pages call (Err (is_refused errno)) answer before now sound makes is =
     let s = record (scene (stage old w caller space)) { space = pages } in
-    let h = holds.holding (at old.files old.tree w) in
-    let new = holds.holding (at files old.tree v) in
+    let h = holds.holding_at (at old.files old.tree w) in
+    let new = holds.holding_at (at files old.tree v) in
     let same : flow_answer (Err errno) ≡ answer = cc in
     reaches_backed (by_flow s (call h)) old old.tree files w v caller space pages answer before now sound makes.backed makes.others makes.rest makes.cause.later
     (ap (by_flow s) makes.made ∙ ap (λ a. record { next = with_holding new s; answer = a }) same)
@@ -204,15 +204,15 @@ reaches_made old files w v caller space pages call (Err (has_failed error)) answ
 -- the same, also where the host failed
 module _ (old : Fs) (files : Files) (w v : World) (caller : Caller) (space : List PageView) (call : Holding → Outcome Flow) (before now : ℕ) (sound : Sound (stage old w caller space)) where
   abbrev FlowsTo : Result Answer HostErr → Type 0
-  FlowsTo result = Reaches (by_flow (scene (stage old w caller space)) (call (holds.holding (at old.files old.tree w)))) (stage old w caller space) (stage (record { tree = old.tree; files = files; clock = old.clock; rand = old.rand }) v caller space) result before now
+  FlowsTo result = Reaches (by_flow (scene (stage old w caller space)) (call (holds.holding_at (at old.files old.tree w)))) (stage old w caller space) (stage (record { tree = old.tree; files = files; clock = old.clock; rand = old.rand }) v caller space) result before now
 
-  by-result : (r : Result Flow CallErr) → Makes caller.vpid call (at old.files old.tree w) (at files old.tree v) r before now → FlowsTo (answered r)
+  by-result : (r : Result Flow CallErr) → MakesCall caller.vpid call (at old.files old.tree w) (at files old.tree v) r before now → FlowsTo (answered r)
   by-result (Ok flow) makes = reaches_made old files w v caller space space call (Ok flow) (flow_answer (Ok flow)) before now sound makes refl
   by-result (Err (is_refused errno)) makes = reaches_made old files w v caller space space call (Err (is_refused errno)) (flow_answer (Err errno)) before now sound makes refl
   by-result (Err (has_failed Failed)) makes = record { served = tt; sound = tt; others = tt; rest = makes.rest; cause = record { later = makes.cause.later; rose = λ failed. makes.cause.rose tt } }
   by-result (Err (has_failed NoMemory)) makes = record { served = tt; sound = tt; others = tt; rest = makes.rest; cause = record { later = makes.cause.later; rose = λ failed. absurd cc } }
 
-  pub reaches_flow : (r : Result Flow CallErr) (result : Result Answer HostErr) → Makes caller.vpid call (at old.files old.tree w) (at files old.tree v) r before now → result ≡ answered r → FlowsTo result
+  pub reaches_flow : (r : Result Flow CallErr) (result : Result Answer HostErr) → MakesCall caller.vpid call (at old.files old.tree w) (at files old.tree v) r before now → result ≡ answered r → FlowsTo result
   reaches_flow r result makes is = subst FlowsTo (sym is) (by-result r makes)
 
 -- a row for the bytes of ranges that may be read

@@ -9,7 +9,7 @@ use Rattle.dt_tree.specs.Shape.{names_of, LeadsUp, IsShaped, is_removed}
 use Rattle.dt_tree.specs.Table.{Table, Stands, shape_of}
 use Rattle.dt_tree.specs.declared.list.Listed.{Listed}
 use Rattle.dt_tree.proofs.Aboves.{parent_is, no_parent}
-use Rattle.dt_iocalls.specs.Entries.{record_len, dirents, fitting, last_name, told, tells, tells_left}
+use Rattle.dt_iocalls.specs.Entries.{record_len, dirents, fitting_entries, last_listed, entries_told, tells, tells_left}
 use Rattle.dt_scene.specs.Scene.{Scene}
 use Rattle.dt_space.specs.Write.{stored}
 
@@ -47,14 +47,14 @@ least_record : (name : List ℕ) → 24 ≤ record_len name
 least_record name = omega arith
 
 -- so many of a listing are as many as fit
-fitting-take : (most room : ℕ) (entries : List Listed) → room < 24 * most → fitting room (take most entries) ≡ fitting room entries
-unfolding fitting
+fitting-take : (most room : ℕ) (entries : List Listed) → room < 24 * most → fitting_entries room (take most entries) ≡ fitting_entries room entries
+unfolding fitting_entries
 fitting-take zero room entries few = absurd (omega arith)
 fitting-take (suc most) room [] few = refl
 fitting-take (suc most) room (entry ∷ entries) few =
     by_test (nat_le (record_len entry.name) room) refl (λ lower. fitting-take most (room - record_len entry.name) entries lower)
   where
-    by_test : (b : Bool) → nat_le (record_len entry.name) room ≡ b → (room - record_len entry.name < 24 * most → fitting (room - record_len entry.name) (take most entries) ≡ fitting (room - record_len entry.name) entries) → cond b (entry ∷ fitting (room - record_len entry.name) (take most entries)) [] ≡ cond b (entry ∷ fitting (room - record_len entry.name) entries) []
+    by_test : (b : Bool) → nat_le (record_len entry.name) room ≡ b → (room - record_len entry.name < 24 * most → fitting_entries (room - record_len entry.name) (take most entries) ≡ fitting_entries (room - record_len entry.name) entries) → cond b (entry ∷ fitting_entries (room - record_len entry.name) (take most entries)) [] ≡ cond b (entry ∷ fitting_entries (room - record_len entry.name) entries) []
     by_test false e rest = refl
     by_test true e rest =
         let fits : record_len entry.name ≤ room = grind (arith, nat_tests) in
@@ -62,7 +62,7 @@ fitting-take (suc most) room (entry ∷ entries) few =
         ap (λ more. entry ∷ more) (rest (omega arith))
 
 -- the listing goes on after the last name
-last_name-end : (entries : List Listed) (last : Listed) → last_name (entries ++ (last ∷ [])) ≡ Some last.name
+last_name-end : (entries : List Listed) (last : Listed) → last_listed (entries ++ (last ∷ [])) ≡ Some last.name
 last_name-end entries last =
     let all : length (entries ++ (last ∷ [])) - 1 ≡ length entries = omega (arith, length-append entries (last ∷ [])) in
     ap (λ i. option_map (λ entry. entry.name) (slice_get (entries ++ (last ∷ [])) i)) all ∙ at_end entries
@@ -71,14 +71,14 @@ last_name-end entries last =
     at_end [] = refl
     at_end (entry ∷ entries) = at_end entries
 
-pub tells_last : (fd buffer : ℕ) (s : Scene) (entries rest : List Listed) (last : Listed) → entries ≡ rest ++ (last ∷ []) → tells fd buffer s entries ≡ told s fd (Some last.name) (length (dirents entries)) (stored s.space buffer (dirents entries))
+pub tells_last : (fd buffer : ℕ) (s : Scene) (entries rest : List Listed) (last : Listed) → entries ≡ rest ++ (last ∷ []) → tells fd buffer s entries ≡ entries_told s fd (Some last.name) (length (dirents entries)) (stored s.space buffer (dirents entries))
 tells_last fd buffer s [] rest last is = absurd (by_length (ap length is))
   where
     by_length : 0 ≡ length (rest ++ (last ∷ [])) → ⊥
     by_length e = omega (arith, length-append rest (last ∷ []))
 tells_last fd buffer s (entry ∷ entries) rest last is =
-    ap (λ name. told s fd name (length (dirents (entry ∷ entries))) (stored s.space buffer (dirents (entry ∷ entries))))
-    (ap last_name is ∙ last_name-end rest last)
+    ap (λ name. entries_told s fd name (length (dirents (entry ∷ entries))) (stored s.space buffer (dirents (entry ∷ entries))))
+    (ap last_listed is ∙ last_name-end rest last)
 
 pub tells_take : (fd buffer count most : ℕ) (s : Scene) (left : List Listed) → count < 24 * most → tells_left fd buffer count s left ≡ tells_left fd buffer count s (take most left)
 tells_take fd buffer count zero s left few = absurd (omega arith)

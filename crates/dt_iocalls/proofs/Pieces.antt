@@ -10,7 +10,7 @@ use Rattle.dt_space.specs.declared.access.TheConstants.{READ}
 use Rattle.dt_space.specs.Space.{PageView, byte_at, low_byte, load}
 use Rattle.dt_space.proofs.Loads.{load-more, joined as loaded_before}
 use Rattle.dt_iocalls.specs.declared.ranges.Range.{Range}
-use Rattle.dt_iocalls.specs.Ranges.{total_len, joined, gathered}
+use Rattle.dt_iocalls.specs.Ranges.{total_len, joined_bytes, gathered}
 use Rattle.dt_iocalls.proofs.Scattering.{from-index}
 
 -- the first bytes of what was loaded
@@ -108,7 +108,7 @@ record Both (first rest : Result (List ℕ) Miss) : Type 0 where
   first_is : first ≡ Ok bytes
   rest_is : rest ≡ Ok more
 
-both : (first rest : Result (List ℕ) Miss) → IsOk (joined first rest) → Both first rest
+both : (first rest : Result (List ℕ) Miss) → IsOk (joined_bytes first rest) → Both first rest
 both (Ok bytes) (Ok more) ok = record { bytes = bytes; more = more; first_is = refl; rest_is = refl }
 both (Ok bytes) (Err miss) ok = absurd cc
 both (Err miss) rest ok = absurd cc
@@ -119,7 +119,7 @@ opened pages range rest ok = both (load pages READ range.address range.len) (gat
 
 gathered-both : (pages : List PageView) (range : Range) (rest : List Range) (bytes more : List ℕ) → load pages READ range.address range.len ≡ Ok bytes → gathered pages rest ≡ Ok more → gathered pages (range ∷ rest) ≡ Ok (bytes ++ more)
 unfolding gathered
-gathered-both pages range rest bytes more first_is rest_is = (λ i. joined (first_is i) (rest_is i))
+gathered-both pages range rest bytes more first_is rest_is = (λ i. joined_bytes (first_is i) (rest_is i))
 
 gathered-none : (pages : List PageView) → gathered pages [] ≡ Ok []
 unfolding gathered
@@ -171,13 +171,13 @@ pub record FollowsRest (pages : List PageView) (ranges rest : List Range) : Type
   pub readable : IsOk (gathered pages rest) → IsOk (gathered pages ranges)
   pub missed : (miss : Miss) → gathered pages rest ≡ Err miss → gathered pages ranges ≡ Err miss
 
-joined-ok : (first rest : Result (List ℕ) Miss) → IsOk first → IsOk rest → IsOk (joined first rest)
+joined-ok : (first rest : Result (List ℕ) Miss) → IsOk first → IsOk rest → IsOk (joined_bytes first rest)
 joined-ok (Ok bytes) (Ok more) ok also = refl
 joined-ok (Ok bytes) (Err miss) ok also = absurd cc
 joined-ok (Err miss) rest ok also = absurd cc
 
-joined-missed : (first rest : Result (List ℕ) Miss) (miss : Miss) → IsOk first → rest ≡ Err miss → joined first rest ≡ Err miss
-joined-missed (Ok bytes) rest miss ok is = ap (joined (Ok bytes)) is
+joined-missed : (first rest : Result (List ℕ) Miss) (miss : Miss) → IsOk first → rest ≡ Err miss → joined_bytes first rest ≡ Err miss
+joined-missed (Ok bytes) rest miss ok is = ap (joined_bytes (Ok bytes)) is
 joined-missed (Err other) rest miss ok is = absurd cc
 
 module _ (pages : List PageView) (ranges : List Range) (i : ℕ) (d : Range) (within : i < length ranges) (h : FollowsRest pages ranges (drop i ranges)) where
@@ -190,7 +190,7 @@ module _ (pages : List PageView) (ranges : List Range) (i : ℕ) (d : Range) (wi
 
   pub readable-missed : (miss : Miss) → load pages READ (get_or ranges i d).address (get_or ranges i d).len ≡ Err miss → gathered pages ranges ≡ Err miss
   unfolding gathered
-  readable-missed miss is = h.missed miss (ap (gathered pages) (from-index ranges i d within) ∙ ap (λ r. joined r (gathered pages (drop (i + 1) ranges))) is)
+  readable-missed miss is = h.missed miss (ap (gathered pages) (from-index ranges i d within) ∙ ap (λ r. joined_bytes r (gathered pages (drop (i + 1) ranges))) is)
 
 pub readable-end : (pages : List PageView) (ranges : List Range) (i : ℕ) → length ranges ≤ i → FollowsRest pages ranges (drop i ranges) → IsOk (gathered pages ranges)
 readable-end pages ranges i end h = h.readable (subst IsOk (sym (ap (gathered pages) (drop_all i ranges end) ∙ gathered-none pages)) refl)

@@ -3,16 +3,15 @@ use Rattle.std.proofs.Common.{◌≡◌, ℕ, zero, suc, ◌<◌, ◌≤◌, ◌
 use Rattle.std.proofs.lemmas.List.{take_more_set, drop-set-lt}
 use Rattle.std.proofs.lemmas.List.Sums.{sum_by-cons}
 use Rattle.std.specs.Prelude.{nat_lt, if◌then◌else◌}
-use Rattle.dt_base.specs.declared.abi.TheConstants.{IOV_MAX}
+use Rattle.dt_base.specs.declared.abi.TheConstants.{IOV_MAX, TRANSFER_LIMIT}
 use Rattle.dt_base.specs.declared.errno.Errno.{Errno}
 use Rattle.dt_base.specs.declared.errno.Errno.TheVariants.{Inval}
-use Rattle.dt_base.specs.declared.limits.TheConstants.{TRANSFER_LIMIT}
 use Rattle.dt_space.specs.declared.access.Miss.{Miss}
 use Rattle.dt_space.specs.declared.access.TheConstants.{READ}
 use Rattle.dt_space.specs.Space.{PageView, load}
 use Rattle.dt_iocalls.specs.declared.ranges.Range.{Range}
 use Rattle.dt_iocalls.specs.declared.ranges.TheConstants.{IOVEC_LEN}
-use Rattle.dt_iocalls.specs.Ranges.{total_len, cut_to, joined, gathered, before, iovec_at, iovecs_at, cut_ranges, ranges_at}
+use Rattle.dt_iocalls.specs.Ranges.{total_len, cut_to, joined_bytes, gathered, range_before, iovec_at, iovecs_at, cut_ranges, ranges_at}
 
 -- what came so far before what comes, unless that is an error
 abbrev pub after : {A E : Type 0} → List A → Result (List A) E → Result (List A) E
@@ -23,16 +22,16 @@ pub after_none : {A E : Type 0} → (r : Result (List A) E) → after [] r ≡ r
 after_none (Ok ys) = refl
 after_none (Err e) = refl
 
-after-before : (ranges : List Range) (range : Range) (rest : Result (List Range) Errno) → after ranges (before (Ok range) rest) ≡ after (ranges ++ range ∷ []) rest
+after-before : (ranges : List Range) (range : Range) (rest : Result (List Range) Errno) → after ranges (range_before (Ok range) rest) ≡ after (ranges ++ range ∷ []) rest
 after-before ranges range (Ok more) = ap Ok (sym (append_assoc ranges (range ∷ []) more))
 after-before ranges range (Err errno) = refl
 
-after-joined : (bytes part : List ℕ) (rest : Result (List ℕ) Miss) → after bytes (joined (Ok part) rest) ≡ after (bytes ++ part) rest
+after-joined : (bytes part : List ℕ) (rest : Result (List ℕ) Miss) → after bytes (joined_bytes (Ok part) rest) ≡ after (bytes ++ part) rest
 after-joined bytes part (Ok more) = ap Ok (sym (append_assoc bytes part more))
 after-joined bytes part (Err miss) = refl
 
 -- one range of a list
-iovecs-step : (pages : List PageView) (at left : ℕ) → 0 < left → iovecs_at pages at left ≡ before (iovec_at pages at) (iovecs_at pages ((at + IOVEC_LEN) % 2 ^ 64) (left - 1))
+iovecs-step : (pages : List PageView) (at left : ℕ) → 0 < left → iovecs_at pages at left ≡ range_before (iovec_at pages at) (iovecs_at pages ((at + IOVEC_LEN) % 2 ^ 64) (left - 1))
 unfolding iovecs_at
 iovecs-step pages at zero some = absurd (omega arith)
 iovecs-step pages at (suc left) some = let less : suc left - 1 ≡ left = omega arith in rw less refl
@@ -42,13 +41,13 @@ iovecs-more pages all next count index ranges new range within found more so_far
     let rest = iovecs_at pages ((next + IOVEC_LEN) % 2 ^ 64) (count - index - 1) in
     let less : count - (index + 1) ≡ count - index - 1 = omega arith in
     rw (more, less)
-    (so_far ∙ ap (after ranges) (iovecs-step pages next (count - index) (omega arith)) ∙ ap (λ r. after ranges (before r rest)) found
+    (so_far ∙ ap (after ranges) (iovecs-step pages next (count - index) (omega arith)) ∙ ap (λ r. after ranges (range_before r rest)) found
     ∙ after-before ranges range rest)
 
 pub iovecs-refused : (pages : List PageView) (all : Result (List Range) Errno) (next count index : ℕ) (ranges : List Range) (errno : Errno) → index < count → iovec_at pages next ≡ Err errno → all ≡ after ranges (iovecs_at pages next (count - index)) → all ≡ Err errno
 iovecs-refused pages all next count index ranges errno within found so_far =
     let rest = iovecs_at pages ((next + IOVEC_LEN) % 2 ^ 64) (count - index - 1) in
-    so_far ∙ ap (after ranges) (iovecs-step pages next (count - index) (omega arith)) ∙ ap (λ r. after ranges (before r rest)) found
+    so_far ∙ ap (after ranges) (iovecs-step pages next (count - index) (omega arith)) ∙ ap (λ r. after ranges (range_before r rest)) found
 
 pub iovecs-end : (pages : List PageView) (next left : ℕ) (ranges : List Range) → left ≡ 0 → after ranges (iovecs_at pages next left) ≡ Ok ranges
 unfolding iovecs_at
@@ -58,13 +57,13 @@ iovecs-end pages next left ranges none = rw none (rw append-nil refl)
 pub gathered-more : (pages : List PageView) (all : Result (List ℕ) Miss) (ranges rest : List Range) (range : Range) (bytes part : List ℕ) → ranges ≡ range ∷ rest → load pages READ range.address range.len ≡ Ok part → all ≡ after bytes (gathered pages ranges) → all ≡ after (bytes ++ part) (gathered pages rest)
 unfolding gathered
 gathered-more pages all ranges rest range bytes part is found so_far =
-    so_far ∙ ap (λ r. after bytes (gathered pages r)) is ∙ ap (λ r. after bytes (joined r (gathered pages rest))) found
+    so_far ∙ ap (λ r. after bytes (gathered pages r)) is ∙ ap (λ r. after bytes (joined_bytes r (gathered pages rest))) found
     ∙ after-joined bytes part (gathered pages rest)
 
 pub gathered-missed : (pages : List PageView) (all : Result (List ℕ) Miss) (ranges rest : List Range) (range : Range) (bytes : List ℕ) (miss : Miss) → ranges ≡ range ∷ rest → load pages READ range.address range.len ≡ Err miss → all ≡ after bytes (gathered pages ranges) → all ≡ Err miss
 unfolding gathered
 gathered-missed pages all ranges rest range bytes miss is found so_far =
-    so_far ∙ ap (λ r. after bytes (gathered pages r)) is ∙ ap (λ r. after bytes (joined r (gathered pages rest))) found
+    so_far ∙ ap (λ r. after bytes (gathered pages r)) is ∙ ap (λ r. after bytes (joined_bytes r (gathered pages rest))) found
 
 pub gathered-end : (pages : List PageView) (ranges : List Range) (bytes : List ℕ) → ranges ≡ [] → after bytes (gathered pages ranges) ≡ Ok bytes
 unfolding gathered

@@ -5,7 +5,7 @@ use Rattle.dt_base.specs.declared.abi.TheConstants.{O_CLOEXEC, O_APPEND, O_NONBL
 use Rattle.dt_base.specs.declared.errno.Errno.TheVariants.{Inval, NoTty}
 use Rattle.dt_fds.specs.declared.desc.TheConstants.{DESCRIPTOR_LIMIT}
 use Rattle.dt_fds.specs.declared.desc.Desc.{Desc}
-use Rattle.dt_fds.specs.Descriptions.{Descriptions, slot_at, cloexec_at, marked, changed, with_flags}
+use Rattle.dt_fds.specs.Descriptions.{Descriptions, slot_at, cloexec_at, marked, with_slot_description, with_flags}
 use Rattle.dt_fds.specs.Holding.{close_call, dup_call, dup_at_call}
 use Rattle.dt_scene.specs.Arguments.{argument, has_only}
 use Rattle.dt_base.specs.Abi.{has}
@@ -65,7 +65,7 @@ sets_cloexec fd arg s =
 abbrev pub sets_flags : ℕ → ℕ → Scene → Row
 sets_flags fd arg s =
     sets_files s
-    (changed s.files (with_flags (has arg O_APPEND) (has arg O_NONBLOCK)) (slot_at s.files s.caller.vpid fd))
+    (with_slot_description s.files (with_flags (has arg O_APPEND) (has arg O_NONBLOCK)) (slot_at s.files s.caller.vpid fd))
 
 -- a command for an open descriptor, where the access mode and the flags of its description are these
 unfoldable pub commanded : ℕ → ℕ → ℕ → ℕ → Scene → Row

@@ -15,7 +15,7 @@ use Rattle.dt_tree.specs.declared.list.Listed.{Listed}
 use Rattle.dt_tree.specs.Listing.{listing, is_left}
 use Rattle.dt_tree.specs.Shape.{is_removed}
 use Rattle.dt_iocalls.specs.declared.entries.TheConstants.{DIRENT_NAME, DIRENT_ALIGN}
-use Rattle.dt_iocalls.specs.Offsets.{name_of, goes_on}
+use Rattle.dt_iocalls.specs.Offsets.{name_of, with_spot}
 use Rattle.dt_scene.specs.Arguments.{argument}
 use Rattle.dt_scene.specs.Scene.{Scene, Row, answers, refused, described, on_description}
 
@@ -35,24 +35,24 @@ dirents [] = []
 dirents (entry ∷ entries) = dirent entry ++ dirents entries
 
 -- the first entries whose records fit
-unfoldable pub fitting : ℕ → List Listed → List Listed
-fitting room [] = []
-fitting room (entry ∷ entries) =
-    if nat_le (record_len entry.name) room then entry ∷ fitting (room - record_len entry.name) entries else []
+unfoldable pub fitting_entries : ℕ → List Listed → List Listed
+fitting_entries room [] = []
+fitting_entries room (entry ∷ entries) =
+    if nat_le (record_len entry.name) room then entry ∷ fitting_entries (room - record_len entry.name) entries else []
 
 -- the name of the last of some entries
-abbrev pub last_name : List Listed → Option (List ℕ)
-last_name entries = option_map (λ entry. entry.name) (slice_get entries (length entries - 1))
+abbrev pub last_listed : List Listed → Option (List ℕ)
+last_listed entries = option_map (λ entry. entry.name) (slice_get entries (length entries - 1))
 
 -- so many bytes came into a buffer, and the listing goes on after that name
-abbrev pub told : Scene → ℕ → Option (List ℕ) → ℕ → Result (List PageView) Miss → Row
-told s fd last count (Err miss) = refused s BadAddress
-told s fd last count (Ok pages) = answers (record (goes_on s fd (After last)) { space = pages }) count
+abbrev pub entries_told : Scene → ℕ → Option (List ℕ) → ℕ → Result (List PageView) Miss → Row
+entries_told s fd last count (Err miss) = refused s BadAddress
+entries_told s fd last count (Ok pages) = answers (record (with_spot s fd (After last)) { space = pages }) count
 
 -- entries go to a buffer, and the listing goes on after the last of them
 abbrev pub tells_these : ℕ → ℕ → Scene → List Listed → Row
 tells_these fd buffer s given =
-    told s fd (last_name given) (length (dirents given)) (stored s.space buffer (dirents given))
+    entries_told s fd (last_listed given) (length (dirents given)) (stored s.space buffer (dirents given))
 
 -- these entries go to a buffer: EINVAL where not even the next one fits
 abbrev pub tells : ℕ → ℕ → Scene → List Listed → Row
@@ -62,7 +62,7 @@ tells fd buffer s (entry ∷ entries) = tells_these fd buffer s (entry ∷ entri
 -- what is left of a listing goes to a buffer, as far as it fits; at its end there is nothing, whatever the buffer
 abbrev pub tells_left : ℕ → ℕ → ℕ → Scene → List Listed → Row
 tells_left fd buffer count s [] = answers s 0
-tells_left fd buffer count s (entry ∷ entries) = tells fd buffer s (fitting count (entry ∷ entries))
+tells_left fd buffer count s (entry ∷ entries) = tells fd buffer s (fitting_entries count (entry ∷ entries))
 
 -- what is left of a directory's listing
 abbrev pub left_of : Scene → ℕ → Option (List ℕ) → List Listed

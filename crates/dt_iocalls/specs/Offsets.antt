@@ -4,7 +4,7 @@ use Rattle.dt_base.specs.declared.abi.TheConstants.{O_WRONLY}
 use Rattle.dt_fds.specs.declared.desc.Desc.{Desc}
 use Rattle.dt_fds.specs.declared.desc.Spot.{Spot}
 use Rattle.dt_fds.specs.declared.desc.Spot.TheVariants.{At, After}
-use Rattle.dt_fds.specs.Descriptions.{slot_at, changed, at_spot}
+use Rattle.dt_fds.specs.Descriptions.{slot_at, with_slot_description, at_spot}
 use Rattle.dt_scene.specs.Scene.{Scene}
 
 -- the description may be read
@@ -26,5 +26,5 @@ name_of (At offset) = None
 name_of (After name) = name
 
 -- the description of a descriptor goes on at another offset, or at another point in its listing
-abbrev pub goes_on : Scene → ℕ → Spot → Scene
-goes_on s fd spot = record s { files = changed s.files (at_spot spot) (slot_at s.files s.caller.vpid fd) }
+abbrev pub with_spot : Scene → ℕ → Spot → Scene
+with_spot s fd spot = record s { files = with_slot_description s.files (at_spot spot) (slot_at s.files s.caller.vpid fd) }

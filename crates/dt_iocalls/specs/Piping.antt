@@ -1,5 +1,5 @@
 -- Pipes in calls: pipe2(2), and what a read or a write of a pipe answers (pipe(7)).
-use Rattle.std.specs.Prelude.{ℕ, ◌==◌, ◌++◌, not, bit_or, List, length, Option, None, Some, Result, Ok, Err, if◌then◌else◌}
+use Rattle.std.specs.Prelude.{ℕ, ◌==◌, ◌++◌, not, bit_or, List, Option, None, Some, Result, Ok, Err, if◌then◌else◌}
 use Rattle.dt_base.specs.Abi.{low_word}
 use Rattle.dt_base.specs.Fields.{low_bytes}
 use Rattle.dt_base.specs.declared.abi.TheConstants.{O_CLOEXEC, O_NONBLOCK}
@@ -9,8 +9,8 @@ use Rattle.dt_base.specs.declared.errno.Errno.{Errno}
 use Rattle.dt_base.specs.declared.errno.Errno.TheVariants.{Inval, MFile, Pipe as BrokenPipe, Fault as BadAddress}
 use Rattle.dt_fds.specs.declared.flow.Flow.{Flow}
 use Rattle.dt_fds.specs.declared.flow.Flow.TheVariants.{Moved, Part, Broken, Wait}
-use Rattle.dt_fds.specs.Descriptions.{table_of, two_free}
-use Rattle.dt_fds.specs.Holding.{Outcome, with_pipe}
+use Rattle.dt_fds.specs.Descriptions.{table_at, two_free}
+use Rattle.dt_fds.specs.Holding.{Outcome, with_pipe_opened}
 use Rattle.dt_space.specs.declared.access.Miss.{Miss}
 use Rattle.dt_space.specs.Space.{PageView}
 use Rattle.dt_space.specs.Write.{stored}
@@ -41,7 +41,7 @@ pair_bytes ends = low_bytes 4 ends.0 ++ low_bytes 4 ends.1
 abbrev pub piped : Scene → ℕ → ℕ × ℕ → Result (List PageView) Miss → Row
 piped s flags ends (Err miss) = refused s BadAddress
 piped s flags ends (Ok pages) =
-    answers (record (with_holding (with_pipe (holding s) s.caller.vpid flags ends.0 ends.1) s) { space = pages }) 0
+    answers (record (with_holding (with_pipe_opened (holding s) s.caller.vpid flags ends.0 ends.1) s) { space = pages }) 0
 
 -- a new pipe, if two descriptors are free
 abbrev pub pipes : Scene → ℕ → ℕ → Option (ℕ × ℕ) → Row
@@ -53,4 +53,4 @@ unfoldable pub pipe2_row : List ℕ → Scene → Row
 pipe2_row args s =
     let flags = low_word (argument args 1) in
     if not (has_only flags (bit_or O_CLOEXEC O_NONBLOCK)) then refused s Inval
-    else pipes s (argument args 0) flags (two_free (table_of s.files s.caller.vpid))
+    else pipes s (argument args 0) flags (two_free (table_at s.files s.caller.vpid))

@@ -1,10 +1,9 @@
 -- Buffers of a process in several ranges, which a call takes one after the other as one (readv(2), writev(2)).
 use Rattle.std.specs.Prelude.{◌≡◌, ℕ, ◌+◌, ◌-◌, ◌%◌, ◌^◌, suc, zero, List, [], ◌∷◌, ◌++◌, take, drop, min, Result, Ok, Err, nat_lt, if◌then◌else◌}
 use Rattle.std.specs.List.{sum_by}
-use Rattle.dt_base.specs.declared.abi.TheConstants.{IOV_MAX}
+use Rattle.dt_base.specs.declared.abi.TheConstants.{IOV_MAX, TRANSFER_LIMIT}
 use Rattle.dt_base.specs.declared.errno.Errno.{Errno}
 use Rattle.dt_base.specs.declared.errno.Errno.TheVariants.{Inval, Fault as BadAddress}
-use Rattle.dt_base.specs.declared.limits.TheConstants.{TRANSFER_LIMIT}
 use Rattle.dt_space.specs.declared.access.Miss.{Miss}
 use Rattle.dt_space.specs.declared.access.ReadErr.{ReadErr}
 use Rattle.dt_space.specs.declared.access.ReadErr.TheVariants as read_err
@@ -15,6 +14,7 @@ use Rattle.dt_iocalls.specs.declared.ranges.Range.{Range}
 use Rattle.dt_iocalls.specs.declared.ranges.TheConstants.{IOVEC_LEN, IOV_LEN}
 use Rattle.dt_scene.specs.Scene.{Scene, Row, refused}
 
+-- one range alone, of a buffer that is no list of them
 abbrev pub one_range : ℕ → ℕ → List Range
 one_range address len = record { address = address; len = len } ∷ []
 
@@ -28,15 +28,15 @@ cut_to left [] = []
 cut_to left (range ∷ ranges) = record range { len = min range.len left } ∷ cut_to (left - range.len) ranges
 
 -- bytes before others, unless one of the two missed
-abbrev pub joined : Result (List ℕ) Miss → Result (List ℕ) Miss → Result (List ℕ) Miss
-joined (Err miss) rest = Err miss
-joined (Ok bytes) (Err miss) = Err miss
-joined (Ok bytes) (Ok rest) = Ok (bytes ++ rest)
+abbrev pub joined_bytes : Result (List ℕ) Miss → Result (List ℕ) Miss → Result (List ℕ) Miss
+joined_bytes (Err miss) rest = Err miss
+joined_bytes (Ok bytes) (Err miss) = Err miss
+joined_bytes (Ok bytes) (Ok rest) = Ok (bytes ++ rest)
 
 -- the bytes of ranges, or the first miss
 unfoldable pub gathered : List PageView → List Range → Result (List ℕ) Miss
 gathered pages [] = Ok []
-gathered pages (range ∷ ranges) = joined (load pages READ range.address range.len) (gathered pages ranges)
+gathered pages (range ∷ ranges) = joined_bytes (load pages READ range.address range.len) (gathered pages ranges)
 
 -- why bytes of ranges were not gathered: the first miss, or want of memory
 abbrev pub IsGatherErr : List PageView → List Range → ReadErr → Type 0
@@ -65,15 +65,15 @@ abbrev pub iovec_at : List PageView → ℕ → Result Range Errno
 iovec_at pages at = iovec_of (loaded_number (load pages READ at 8)) (loaded_number (load pages READ ((at + IOV_LEN) % 2 ^ 64) 8))
 
 -- a range before others, unless one of the two was refused
-abbrev pub before : Result Range Errno → Result (List Range) Errno → Result (List Range) Errno
-before (Err errno) rest = Err errno
-before (Ok range) (Err errno) = Err errno
-before (Ok range) (Ok ranges) = Ok (range ∷ ranges)
+abbrev pub range_before : Result Range Errno → Result (List Range) Errno → Result (List Range) Errno
+range_before (Err errno) rest = Err errno
+range_before (Ok range) (Err errno) = Err errno
+range_before (Ok range) (Ok ranges) = Ok (range ∷ ranges)
 
 -- so many of them, one behind the other
 unfoldable pub iovecs_at : List PageView → ℕ → ℕ → Result (List Range) Errno
 iovecs_at pages at zero = Ok []
-iovecs_at pages at (suc count) = before (iovec_at pages at) (iovecs_at pages ((at + IOVEC_LEN) % 2 ^ 64) count)
+iovecs_at pages at (suc count) = range_before (iovec_at pages at) (iovecs_at pages ((at + IOVEC_LEN) % 2 ^ 64) count)
 
 -- the ranges, cut to what one call moves at most: EINVAL where their bytes together pass the greatest signed number
 abbrev pub cut_ranges : Result (List Range) Errno → Result (List Range) Errno

@@ -12,7 +12,7 @@ use Rattle.dt_host.specs.World.{content}
 use Rattle.dt_space.specs.declared.access.Miss.{Miss}
 use Rattle.dt_space.specs.Space.{PageView}
 use Rattle.dt_iocalls.specs.declared.ranges.Range.{Range}
-use Rattle.dt_iocalls.specs.Offsets.{is_readable, offset_of, goes_on}
+use Rattle.dt_iocalls.specs.Offsets.{is_readable, offset_of, with_spot}
 use Rattle.dt_iocalls.specs.Piping.{by_flow}
 use Rattle.dt_iocalls.specs.Ranges.{one_range, total_len, scattered, ranges_at, on_ranges}
 use Rattle.dt_scene.specs.Arguments.{argument}
@@ -20,23 +20,23 @@ use Rattle.dt_scene.specs.Filling.{filled}
 use Rattle.dt_scene.specs.Scene.{Scene, Row, answers, refused, holding, described, on_description}
 
 -- as much of a file as ranges take, from an offset on
-abbrev pub bytes_from : Scene → ℕ → ℕ → List Range → List ℕ
-bytes_from s n offset ranges = take (total_len ranges) (drop offset (content s.tree.shape n))
+abbrev pub file_bytes_from : Scene → ℕ → ℕ → List Range → List ℕ
+file_bytes_from s n offset ranges = take (total_len ranges) (drop offset (content s.tree.shape n))
 
 -- a file is read from an offset on: EFAULT where a byte that is to be filled may not be written
 abbrev pub reads_at : ℕ → ℕ → List Range → Scene → Row
 reads_at n offset ranges s =
-    let bytes = bytes_from s n offset ranges in filled s (length bytes) (scattered s.space ranges bytes)
+    let bytes = file_bytes_from s n offset ranges in filled s (length bytes) (scattered s.space ranges bytes)
 
 -- so many bytes came, and the description goes on behind them: EFAULT where one of them could not be put into its buffer
 abbrev pub received : Scene → ℕ → ℕ → ℕ → Result (List PageView) Miss → Row
 received s fd offset count (Err miss) = refused s BadAddress
-received s fd offset count (Ok pages) = answers (record (goes_on s fd (At (offset + count))) { space = pages }) count
+received s fd offset count (Ok pages) = answers (record (with_spot s fd (At (offset + count))) { space = pages }) count
 
 -- a file is read where its description stands
 abbrev pub reads_on : ℕ → ℕ → ℕ → List Range → Scene → Row
 reads_on fd n offset ranges s =
-    let bytes = bytes_from s n offset ranges in received s fd offset (length bytes) (scattered s.space ranges bytes)
+    let bytes = file_bytes_from s n offset ranges in received s fd offset (length bytes) (scattered s.space ranges bytes)
 
 -- bytes came from a pipe: EFAULT where one of them could not be put into its buffer, and then nothing is read
 abbrev pub pipe_filled : Scene → Outcome Flow → Result (List PageView) Miss → Row

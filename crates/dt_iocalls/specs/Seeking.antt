@@ -9,7 +9,7 @@ use Rattle.dt_fds.specs.declared.desc.DescKind.TheVariants.{File, Dir, PipeRead,
 use Rattle.dt_fds.specs.declared.desc.Spot.{Spot}
 use Rattle.dt_fds.specs.declared.desc.Spot.TheVariants.{At, After}
 use Rattle.dt_host.specs.World.{content}
-use Rattle.dt_iocalls.specs.Offsets.{offset_of, goes_on}
+use Rattle.dt_iocalls.specs.Offsets.{offset_of, with_spot}
 use Rattle.dt_scene.specs.Arguments.{argument}
 use Rattle.dt_scene.specs.Scene.{Scene, Row, answers, refused, described, on_description}
 use Rattle.dt_tree.specs.FileTree.{FileTree}
@@ -36,12 +36,12 @@ sought t n offset by whence =
 -- the description goes on at that offset, which is the answer
 abbrev pub seeks_to : ℕ → Scene → Option ℕ → Row
 seeks_to fd s None = refused s Inval
-seeks_to fd s (Some offset) = answers (goes_on s fd (At offset)) offset
+seeks_to fd s (Some offset) = answers (with_spot s fd (At offset)) offset
 
 -- a listing can only start again
 abbrev pub rewinds : ℕ → ℕ → ℕ → Scene → Row
 rewinds fd by whence s =
-    if (by == 0) && (whence == SEEK_SET) then answers (goes_on s fd (After None)) 0 else refused s Inval
+    if (by == 0) && (whence == SEEK_SET) then answers (with_spot s fd (After None)) 0 else refused s Inval
 
 -- a seek by what the descriptor refers to
 abbrev pub seeks : ℕ → ℕ → ℕ → DescKind → Spot → Scene → Row

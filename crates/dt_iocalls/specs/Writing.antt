@@ -14,7 +14,7 @@ use Rattle.dt_space.specs.declared.access.Miss.{Miss}
 use Rattle.dt_tree.specs.Calls.{write_at_of, cut_of}
 use Rattle.dt_tree.specs.FileTree.{FileTree}
 use Rattle.dt_iocalls.specs.declared.ranges.Range.{Range}
-use Rattle.dt_iocalls.specs.Offsets.{is_writable, offset_of, goes_on}
+use Rattle.dt_iocalls.specs.Offsets.{is_writable, offset_of, with_spot}
 use Rattle.dt_iocalls.specs.Piping.{by_flow}
 use Rattle.dt_iocalls.specs.Ranges.{one_range, gathered, ranges_at, on_ranges}
 use Rattle.dt_scene.specs.Arguments.{argument}
@@ -41,7 +41,7 @@ writes_at n offset bytes next s =
 
 -- bytes go to a file at the offset of its description, which then goes on behind them
 abbrev pub writes_on : ℕ → ℕ → ℕ → List ℕ → Scene → Row
-writes_on fd n offset bytes s = writes_at n offset bytes (λ next. goes_on next fd (At (offset + length bytes))) s
+writes_on fd n offset bytes s = writes_at n offset bytes (λ next. with_spot next fd (At (offset + length bytes))) s
 
 -- the same at the end of the file with O_APPEND
 abbrev pub writes_file : ℕ → ℕ → Bool → ℕ → List ℕ → Scene → Row

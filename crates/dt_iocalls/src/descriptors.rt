@@ -161,7 +161,7 @@ pub fn fcntl<H: Host>(
     match fs.files.look(caller.vpid, fd) {
         Some(desc) => {
             let flags = flags_of(desc);
-            serve(fs, host, caller, space, args[1], fd, args[2], flags)
+            carry_out(fs, host, caller, space, args[1], fd, args[2], flags)
         }
         None => Ok(Answer::Refused(Errno::BadF)),
     }
@@ -186,9 +186,9 @@ fn flags_of(desc: &Desc) -> u32
     u32::from(desc.access) + append + nonblock
 }
 
-// Serves a command, where the flags of the description are these.
+// Carries out a command, where the flags of the description are these.
 #[tactic(auto, unfolding(crate::specs::Descriptors::commanded))]
-fn serve<H: Host>(
+fn carry_out<H: Host>(
     fs: &mut Fs,
     host: &H,
     caller: &Caller,

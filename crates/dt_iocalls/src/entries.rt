@@ -7,7 +7,8 @@ ghost use Rattle.dt_host.specs.World.{Forest, IsDir};
 ghost use Rattle.dt_space.specs.Write.{stored};
 ghost use Rattle.dt_tree.specs.Shape.{is_removed};
 ghost use Rattle.dt_tree.specs.Table.{Stands, shape_of};
-ghost use Rattle.dt_iocalls.specs.Entries.{record_len, dirent, dirents, fitting, told, tells, tells_left, left_of};
+ghost use Rattle.dt_iocalls.specs.Entries.{record_len, dirent, dirents, fitting_entries, entries_told, tells};
+ghost use Rattle.dt_iocalls.specs.Entries.{tells_left, left_of};
 ghost use Rattle.dt_iocalls.specs.Entries.{lists, getdents64_row};
 ghost use Rattle.dt_iocalls.specs.Offsets.{name_of};
 ghost use Rattle.dt_scene.specs.Arguments.{argument};
@@ -68,7 +69,7 @@ fn records(alloc: Global, entries: &[Listed]) -> Result<Vec<u8>, NoMemory>
 
 // How many of the first entries have records that fit.
 fn fitting_count(entries: &[Listed], room: u64) -> usize
-    ensures { take result entries.now ≡ fitting room entries.now }
+    ensures { take result entries.now ≡ fitting_entries room entries.now }
 {
     let mut left = room;
     for (count, entry) in entries.iter().enumerate() {
@@ -242,7 +243,7 @@ fn go_on<H: Host>(
     requires sound { Sound (stage fs.old (H.view host.now) caller.now space.old) }
     requires of_dir { IfSome (description_at fs.old.files.descriptors caller.now.vpid fd)
         (λ desc. true ≡ is_of_dir desc.kind) }
-    ensures { Reaches (told (scene (stage fs.old (H.view host.now) caller.now space.old)) fd (Some last)
+    ensures { Reaches (entries_told (scene (stage fs.old (H.view host.now) caller.now space.old)) fd (Some last)
         (length bytes.now) (stored space.old buffer bytes.now))
         (stage fs.old (H.view host.now) caller.now space.old) (stage fs.new (H.view host.now) caller.now space.new)
         result (H.count host.now) (H.count host.now) }

@@ -1,7 +1,7 @@
 //! Pipes in calls: pipe2(2), and what a read or a write of a pipe answers.
 ghost use Rattle.std.specs.Prelude.{◌≡◌, Some, IsOk};
 ghost use Rattle.dt_base.specs.Abi.{low_word};
-ghost use Rattle.dt_fds.specs.Descriptions.{table_of, two_free};
+ghost use Rattle.dt_fds.specs.Descriptions.{table_at, two_free};
 ghost use Rattle.dt_space.specs.Write.{stored};
 ghost use Rattle.dt_iocalls.specs.Piping.{broken, pair_bytes, pipes, pipe2_row};
 ghost use Rattle.dt_iocalls.specs.inner.Answered.{answered};
@@ -90,7 +90,7 @@ fn make<H: Host>(
     bytes: [u8; PAIR_LEN],
 ) -> Result<Answer, HostErr>
     requires sound { Sound (stage fs.old (H.view host.old) caller.now space.old) }
-    requires free { two_free (table_of fs.old.files.descriptors caller.now.vpid) ≡ Some ends }
+    requires free { two_free (table_at fs.old.files.descriptors caller.now.vpid) ≡ Some ends }
     requires bytes { bytes ≡ pair_bytes ends }
     requires may { IsOk (stored space.old buffer bytes) }
     ensures { Ends (λ s. pipes s buffer flags (Some ends))

@@ -4,8 +4,8 @@ ghost use Rattle.std.specs.Prelude.{min};
 ghost use Rattle.dt_iocalls.specs.Ranges.{total_len, cut_to, iovec_at, iovecs_at, ranges_at, gathered, scattered};
 ghost use Rattle.dt_iocalls.specs.Ranges.{IsGatherErr};
 
-use dt_base::abi::IOV_MAX;
-use dt_base::{Errno, NoMemory, TRANSFER_LIMIT};
+use dt_base::abi::{IOV_MAX, TRANSFER_LIMIT};
+use dt_base::{Errno, NoMemory};
 use dt_space::{Miss, ReadErr, Space};
 use std::alloc::Global;
 

@@ -2,14 +2,14 @@
 ghost use Rattle.std.specs.Prelude.{◌≡◌, ◌≢◌, ◌≤◌, [], false, length, None, Ok, Err};
 ghost use Rattle.std.specs.Prelude.{IfOk, IfSome, IsOk, MatchResult};
 ghost use Rattle.dt_base.specs.Abi.{low_word};
-ghost use Rattle.dt_base.specs.declared.limits.TheConstants.{TRANSFER_LIMIT};
+ghost use Rattle.dt_base.specs.declared.abi.TheConstants.{TRANSFER_LIMIT};
 ghost use Rattle.dt_fds.specs.Backs.{IsIn};
 ghost use Rattle.dt_fds.specs.Descriptions.{description_at, is_of_dir, write_pipe as pipe_of_write};
 ghost use Rattle.dt_fds.specs.declared.desc.Spot.TheVariants.{At as at_offset};
 ghost use Rattle.dt_host.specs.Asks.{Asks};
 ghost use Rattle.dt_host.specs.World.{IsFile};
 ghost use Rattle.dt_tree.specs.Table.{Stands, shape_of, tree_of};
-ghost use Rattle.dt_iocalls.specs.Offsets.{goes_on};
+ghost use Rattle.dt_iocalls.specs.Offsets.{with_spot};
 ghost use Rattle.dt_iocalls.specs.Ranges.{gathered, total_len};
 ghost use Rattle.dt_iocalls.specs.Writing.{write_offset, writes_at, writes_on, writes_file, writes_kind, writes_to};
 ghost use Rattle.dt_iocalls.specs.Writing.{write_row, writev_row, writes_bytes_at, writes_file_at, pwrite64_row};
@@ -356,7 +356,7 @@ fn go_on<H: Host>(
     requires sound { Sound (stage fs.old (H.view host.now) caller.now space.now) }
     requires of_file { IfSome (description_at fs.old.files.descriptors caller.now.vpid fd)
         (λ desc. false ≡ is_of_dir desc.kind) }
-    ensures { Reaches (answers (goes_on (scene (stage fs.old (H.view host.now) caller.now space.now)) fd
+    ensures { Reaches (answers (with_spot (scene (stage fs.old (H.view host.now) caller.now space.now)) fd
         (at_offset offset)) count)
         (stage fs.old (H.view host.now) caller.now space.now)
         (stage fs.new (H.view host.now) caller.now space.now) result

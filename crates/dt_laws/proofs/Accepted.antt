@@ -9,7 +9,7 @@ use Rattle.dt_asm.specs.Item.{GuestView}
 use Rattle.dt_asm.specs.File.{IsFileOf}
 use Rattle.dt_asm.specs.Accepted.{IsAccepted, IsRoom}
 use Rattle.dt_elf.specs.declared.layout.TheConstants.{MAGIC, CLASS}
-use Rattle.dt_elf.specs.Header.{number, e_phoff, e_phnum, e_phentsize, e_entry, e_type, e_machine, headers_from, program_header, program_headers, is_load, is_interp, loads, segment_of}
+use Rattle.dt_elf.specs.Header.{number, e_phoff, e_phnum, e_phentsize, e_entry, e_type, e_machine, headers_from, program_header, program_headers, is_load, is_interp, loads, segment_from_header}
 use Rattle.dt_elf.specs.Executable.{exe, is_placed, all_placed, overlap}
 use Rattle.dt_elf.specs.inner.Refused.{is_short, is_bad_header}
 
@@ -74,13 +74,13 @@ module _ (file : List ℕ) (long : 120 ≤ length file) (is : IsAccepted file) w
     asks : is_interp (program_header file 64) ≡ false
     asks = rw h_kind refl
 
-    placed : is_placed file (segment_of (program_header file 64)) ≡ true
+    placed : is_placed file (segment_from_header (program_header file 64)) ≡ true
     placed =
         let holds = room.holds in
         let ends = room.ends in
         rw (h_filesz, h_memsz, h_offset, h_vaddr) (grind (arith, nat_tests))
 
-    one_segment : loads file ≡ segment_of (program_header file 64) ∷ []
+    one_segment : loads file ≡ segment_from_header (program_header file 64) ∷ []
     unfolding loads
     one_segment = rw (one_header, is_loaded) refl
 

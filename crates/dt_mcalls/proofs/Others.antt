@@ -6,7 +6,7 @@ use Rattle.std.proofs.lemmas.List.Filters.{length-filter_both}
 use Rattle.dt_base.specs.declared.errno.Errno.TheVariants.{NoMem}
 use Rattle.dt_base.specs.declared.limits.TheConstants.{PAGE_SIZE, PAGE_LIMIT}
 use Rattle.dt_space.specs.Space.{PageView}
-use Rattle.dt_space.specs.Ranges.{is_in, unmapped}
+use Rattle.dt_space.specs.Ranges.{is_in_range, unmapped}
 use Rattle.dt_space.specs.Gaps.{pages_in, is_free}
 use Rattle.dt_mcalls.specs.Called.{refused}
 use Rattle.dt_mcalls.specs.Lengths.{is_page_start, ends_past}
@@ -22,11 +22,11 @@ any-filter test (x ∷ pages) = by-test (test x) refl (any-filter test pages)
 
 -- a range that was unmapped is free
 pub unmapped-free : (pages : List PageView) (first count : ℕ) → is_free (unmapped pages first count) first count ≡ true
-unmapped-free pages first count = ap not (any-filter (λ (page : PageView). is_in first count page.number) pages)
+unmapped-free pages first count = ap not (any-filter (λ (page : PageView). is_in_range first count page.number) pages)
 
 -- the pages of a range, and the others
 pub others-length : (pages : List PageView) (first count : ℕ) → length (pages_in pages first count) + length (unmapped pages first count) ≡ length pages
-others-length pages first count = length-filter_both (λ (page : PageView). is_in first count page.number) (λ (page : PageView). not (is_in first count page.number)) (λ x. refl) pages
+others-length pages first count = length-filter_both (λ (page : PageView). is_in_range first count page.number) (λ (page : PageView). not (is_in_range first count page.number)) (λ x. refl) pages
 
 -- a mapping at an address where the others leave no room, and where they do
 module _ (pages : List PageView) (address count rights : ℕ) (start : is_page_start address ≡ true) (low : ends_past (address / PAGE_SIZE) count ≡ false) where

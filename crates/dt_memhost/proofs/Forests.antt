@@ -14,7 +14,7 @@ use Rattle.dt_memhost.specs.declared.node.MemNode.{MemNode}
 use Rattle.dt_memhost.specs.declared.node.MemNode.TheVariants.{File, Dir, Link, Pipe}
 use Rattle.dt_memhost.specs.inner.Node.{node_of, node_in, nodes_of, entries_of, order_in, orders_of, held_of, held_in, pipes_of, new_node, new_order, new_held}
 use Rattle.dt_memhost.specs.inner.Forest.{Ordered, empty_ordered, made, bound, unbound, forgotten, rewritten, refilled}
-use Rattle.dt_memhost.specs.Order.{Order, order_at, without}
+use Rattle.dt_memhost.specs.Order.{Order, order_at, order_without}
 use Rattle.dt_memhost.specs.inner.Dir.{names_of}
 use Rattle.dt_host.proofs.Maps.{remove_none}
 use Rattle.dt_memhost.proofs.Kept.{get-kept_of, kept_of-nil, kept_of-changed, kept_of-same}
@@ -167,11 +167,11 @@ module _ (old new : BTreeMap ℕ MemNode) (root n : ℕ) (others : (q : ℕ) →
   }
 
   -- an entry was taken out of them
-  pub entry_taken : (name : List ℕ) → IsDir (forest_of old root) n → IfSome (option_and_then dir_names (node_in old n)) (λ names. node_in new n ≡ Some (dir (remove names name))) → order_in new n ≡ option_map (λ order. without order name) (order_in old n) → held_in new n ≡ held_in old n → ordered_of new root ≡ unbound (ordered_of old root) n name
+  pub entry_taken : (name : List ℕ) → IsDir (forest_of old root) n → IfSome (option_and_then dir_names (node_in old n)) (λ names. node_in new n ≡ Some (dir (remove names name))) → order_in new n ≡ option_map (λ order. order_without order name) (order_in old n) → held_in new n ≡ held_in old n → ordered_of new root ≡ unbound (ordered_of old root) n name
   unfolding without_entry
   entry_taken name is taken order held i = record {
     forest = names_changed (λ names. remove names name) is taken i;
-    orders = order_changed (λ order. without order name) (has_order-at is) order i;
+    orders = order_changed (λ order. order_without order name) (has_order-at is) order i;
     pipes = same_pipes held i;
   }
 

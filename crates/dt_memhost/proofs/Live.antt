@@ -1,14 +1,16 @@
 -- The pids of a map, and what a change of the map makes of them.
-use Rattle.std.proofs.Common.{◌≡◌, ℕ, Bool, true, false, cond, not, ◌||◌, ◌&&◌, Option, Some, None, refl, sym, ap, ◌∙◌, is_some}
+use Rattle.std.proofs.Common.{arith, ◌≡◌, ℕ, ◌^◌, ◌<◌, Bool, true, false, cond, not, ◌||◌, ◌&&◌, List, [], Option, Some, None, refl, sym, ap, subst, ◌∙◌, is_some}
+use Rattle.std.proofs.lemmas.Bool.Decides.{nat_tests}
 use Rattle.std.proofs.lemmas.Cmp.{eq_by_cmp_equiv}
 use Rattle.std.proofs.lemmas.Map.Made.{is_some-lookup}
 use Rattle.std.specs.Ordering.{nat_cmp, is_eq, eq_by_cmp}
-use Rattle.std.specs.Cmp.{nat_cmp_total}
+use Rattle.std.specs.Cmp.{nat_cmp_total, unsigned_tied}
 use Rattle.std.specs.Map.{keys_of}
 use Rattle.std.specs.BTreeMap as tree
 use Rattle.std.specs.BTreeMap.{BTreeMap}
 use Rattle.std.specs.FinMap.{nat_cmp-IsAntisymmetric}
-use Rattle.std.specs.FinSet.{contains, insert, remove, contains-from_list, contains-insert, contains-remove, same_set}
+use Rattle.std.specs.FinSet.{contains, insert, remove, contains-empty, contains-from_list, contains-insert, contains-remove, same_set}
+use Rattle.dt_host.specs.World.{Pids, ArePids}
 use Rattle.dt_memhost.specs.inner.Live.{has, pids_of}
 
 some_or : {X : Type 0} (b : Bool) (x : X) (found : Option X) → is_some (cond b (Some x) found) ≡ (b || is_some found)
@@ -48,3 +50,27 @@ module _ {X : Type 0} where
       ∙ none_or (eq_by_cmp nat_cmp q p) (tree.get nat_cmp old q)
       ∙ ap (λ live. not (eq_by_cmp nat_cmp q p) && live q) (sym (contains-pids_of old))
       ∙ sym (contains-remove nat_cmp_total (pids_of old.entries) p q))
+
+-- no pid at all
+pub ArePids-none : {X : Type 0} (entries : List (ℕ × X)) → entries ≡ [] → ArePids (pids_of entries)
+ArePids-none entries none = subst (λ entries. ArePids (pids_of entries)) (sym none) (λ q is. let no = contains-empty nat_cmp q in absurd cc)
+
+-- one pid more, of 64 bits
+pub ArePids-insert : (pids : Pids) (p : ℕ) → p < 2 ^ 64 → ArePids pids → ArePids (insert pids p)
+ArePids-insert pids p small each q is = by_old (contains pids q) refl
+  where
+    by_old : (b : Bool) → contains pids q ≡ b → q < 2 ^ 64
+    by_old true old = each q old
+    by_old false old =
+        let inserted = contains-insert nat_cmp_total pids p q in
+        let tied = unsigned_tied q p in
+        let same : q ≡ p = grind (arith, nat_tests) in
+        subst (λ x. x < 2 ^ 64) (sym same) small
+
+-- one pid fewer
+pub ArePids-remove : (pids : Pids) (p : ℕ) → ArePids pids → ArePids (remove pids p)
+ArePids-remove pids p each q is =
+    let removed = contains-remove nat_cmp_total pids p q in
+    let tied = unsigned_tied q p in
+    let old : contains pids q ≡ true = grind (arith, nat_tests) in
+    each q old

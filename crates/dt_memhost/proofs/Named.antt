@@ -1,5 +1,5 @@
 -- The entries of a directory, in the order of their binding and as a map by name.
-use Rattle.std.proofs.Common.{◌≡◌, ◌≢◌, ℕ, List, [], ◌∷◌, ◌++◌, map, Bool, cond, true, false, ◌&&◌, Some, None, Vec, refl, sym, ap, subst, ◌∙◌, arith, nat_eq}
+use Rattle.std.proofs.Common.{◌≡◌, ◌≢◌, ℕ, List, [], ◌∷◌, ◌++◌, map, Bool, cond, true, false, ◌&&◌, Some, None, Vec, refl, sym, ap, subst, ◌∙◌, nat_eq}
 use Rattle.std.proofs.lemmas.Iterator.Adapters.{option_map_id}
 use Rattle.std.proofs.lemmas.List.{map-append, nil_from_length}
 use Rattle.std.proofs.lemmas.List.Sorted.{IsPermutation-refl, IsPermutation-cons, IsPermutation-trans, IsPermutation-middle}
@@ -14,11 +14,10 @@ use Rattle.std.specs.HashMap.{HashMap, UpdatesBy}
 use Rattle.std.specs.Map.{lookup, keys_of, remove_entry, KeepsOthers}
 use Rattle.std.specs.FinMap.{entries, empty, get, insert, remove, same_map, get-entries, get-from_entries, entries-insert, from_entries_push, len-entries, len-empty}
 use Rattle.std.specs.FinMap.Entries.{find, put, by_order}
-use Rattle.std.proofs.lemmas.Bool.Decides.{nat_tests}
 use Rattle.dt_host.specs.Entries.{map_of}
 use Rattle.dt_host.proofs.Maps.{names_tie, at_remove, number_tie}
 use Rattle.dt_host.proofs.MapOf.{get-map_of}
-use Rattle.dt_memhost.specs.Order.{Order, without}
+use Rattle.dt_memhost.specs.Order.{Order, order_without}
 use Rattle.dt_memhost.specs.inner.Dir.{order_of, names_of}
 
 -- two lists that look alike still do with alike elements at their ends
@@ -65,17 +64,17 @@ pub names_of-push : (order : Order) (name : List ℕ) (n : ℕ) → get (names_o
 names_of-push order name n none =
     from_entries_push nat_list_cmp_total names_tie order name n (sym (get-from_entries nat_list_cmp_total order name) ∙ none)
 
-take_out : {Z : Type 0} (entries : List (Vec ℕ Z × ℕ)) (name : List ℕ) → order_of (remove_entry (λ key. pointwise nat_eq name key.items) entries) ≡ without (order_of entries) name
+take_out : {Z : Type 0} (entries : List (Vec ℕ Z × ℕ)) (name : List ℕ) → order_of (remove_entry (λ key. pointwise nat_eq name key.items) entries) ≡ order_without (order_of entries) name
 take_out [] name = refl
 take_out {Z} (e ∷ entries) name =
     let rest = remove_entry (λ (key : Vec ℕ Z). pointwise nat_eq name key.items) entries in
-    elim (pointwise nat_eq name e.0.items) as (λ b. order_of (cond b entries (e ∷ rest)) ≡ cond b (order_of entries) ((e.0.items, e.1) ∷ without (order_of entries) name)) [
+    elim (pointwise nat_eq name e.0.items) as (λ b. order_of (cond b entries (e ∷ rest)) ≡ cond b (order_of entries) ((e.0.items, e.1) ∷ order_without (order_of entries) name)) [
       | true ↦ refl
       | false ↦ ap (λ order. (e.0.items, e.1) ∷ order) (take_out entries name)
     ]
 
 -- where an entry goes, the others keep their order
-pub order_of-removed : {Z : Type 0} (old new : List (Vec ℕ Z × ℕ)) (name : List ℕ) → new ≡ remove_entry (λ key. pointwise nat_eq name key.items) old → order_of new ≡ without (order_of old) name
+pub order_of-removed : {Z : Type 0} (old new : List (Vec ℕ Z × ℕ)) (name : List ℕ) → new ≡ remove_entry (λ key. pointwise nat_eq name key.items) old → order_of new ≡ order_without (order_of old) name
 order_of-removed old new name e = ap order_of e ∙ take_out old name
 
 -- and the map by name has one entry fewer

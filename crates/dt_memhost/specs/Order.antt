@@ -31,12 +31,12 @@ with_new_order orders n Pipe = orders
 with_new_order orders n (Link target) = insert orders n []
 
 -- an order without the entry of that name; the others stay in their order
-abbrev pub without : Order → List ℕ → Order
-without order name = remove_entry (bytes_eq name) order
+abbrev pub order_without : Order → List ℕ → Order
+order_without order name = remove_entry (bytes_eq name) order
 
 -- the orders with one entry fewer in that node
 abbrev pub without_name : Orders → ℕ → List ℕ → Orders
-without_name orders d name = insert orders d (without (order_at orders d) name)
+without_name orders d name = insert orders d (order_without (order_at orders d) name)
 
 -- of those that are left the one at the word modulo their number, and so on without it
 unfoldable pub picked_order : {A : Type 0} → List ℕ → List A → List A

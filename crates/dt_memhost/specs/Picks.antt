@@ -23,18 +23,18 @@ next_in [] stream =
 next_in (word ∷ words) stream = (word, record { words = words; stream = stream })
 
 -- the next word, and what is left
-abbrev pub next_of : Picks → ℕ × Picks
-next_of p = next_in p.words p.stream
+abbrev pub next_pick : Picks → ℕ × Picks
+next_pick p = next_in p.words p.stream
 
 -- the next words, so many
 unfoldable pub next_words : ℕ → Picks → List ℕ
 next_words zero p = []
-next_words (suc more) p = (next_of p).0 ∷ next_words more (next_of p).1
+next_words (suc more) p = (next_pick p).0 ∷ next_words more (next_pick p).1
 
 -- what is left after so many words
 unfoldable pub after_words : ℕ → Picks → Picks
 after_words zero p = p
-after_words (suc more) p = after_words more (next_of p).1
+after_words (suc more) p = after_words more (next_pick p).1
 
 -- the length that a word chooses, from 1 to this greatest value
 abbrev pub length_by : ℕ → ℕ → ℕ

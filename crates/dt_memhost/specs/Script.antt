@@ -1,7 +1,7 @@
 -- What a host, a store or a sink in memory goes by: the words of its choices and the calls that fail.
 use Rattle.std.specs.Prelude.{ℕ, ◌+◌, ◌-◌, ◌^◌, ◌==◌, min, Bool, List, []}
 use Rattle.std.specs.List.{list_any}
-use Rattle.dt_memhost.specs.Picks.{Picks, picks_of, next_of, next_words, after_words}
+use Rattle.dt_memhost.specs.Picks.{Picks, picks_of, next_pick, next_words, after_words}
 
 -- the words, the numbers of the calls that fail, and how many calls were made and how many failed
 pub record Script : Type 0 where
@@ -11,24 +11,24 @@ pub record Script : Type 0 where
   pub faults : ℕ
 
 -- one more, until the last value of 64 bits
-abbrev pub one_more : ℕ → ℕ
-one_more count = min (count + 1) (2 ^ 64 - 1)
+abbrev pub next_count : ℕ → ℕ
+next_count count = min (count + 1) (2 ^ 64 - 1)
 
 -- the next call is listed; calls are counted from 1
 abbrev pub fails_next : Script → Bool
-fails_next s = list_any (λ number. number == one_more s.calls) s.fails
+fails_next s = list_any (λ number. number == next_count s.calls) s.fails
 
 -- the script once a call was made
 abbrev pub counted : Script → Script
-counted s = record s { calls = one_more s.calls }
+counted s = record s { calls = next_count s.calls }
 
 -- the script once a call has failed
 abbrev pub failed : Script → Script
-failed s = record s { calls = one_more s.calls; faults = one_more s.faults }
+failed s = record s { calls = next_count s.calls; faults = next_count s.faults }
 
 -- the script once a word was taken
 abbrev pub picked : Script → Script
-picked s = record s { picks = (next_of s.picks).1 }
+picked s = record s { picks = (next_pick s.picks).1 }
 
 -- the script once so many words were taken
 abbrev pub picked_all : ℕ → Script → Script
@@ -39,13 +39,13 @@ abbrev pub restarted : Script → ℕ → Script
 restarted s number = record s { picks = picks_of [] number }
 
 -- the next word
-abbrev pub word_of : Script → ℕ
-word_of s = (next_of s.picks).0
+abbrev pub picked_word : Script → ℕ
+picked_word s = (next_pick s.picks).0
 
 -- the next words, so many
 abbrev pub words_of : ℕ → Script → List ℕ
 words_of n s = next_words n s.picks
 
 -- the script of these words and failing calls, before any call
-abbrev pub script_of : Picks → List ℕ → Script
-script_of picks fails = record { picks = picks; fails = fails; calls = 0; faults = 0 }
+abbrev pub script_from : Picks → List ℕ → Script
+script_from picks fails = record { picks = picks; fails = fails; calls = 0; faults = 0 }

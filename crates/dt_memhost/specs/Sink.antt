@@ -3,7 +3,7 @@ use Rattle.std.specs.Prelude.{◌≡◌, ℕ, ◌-◌, ◌||◌, min, Bool, fals
 use Rattle.dt_host.specs.declared.error.SinkErr.{SinkErr}
 use Rattle.dt_host.specs.declared.error.SinkErr.TheVariants.{Failed, NoMemory}
 use Rattle.dt_memhost.specs.Picks.{Picks, length_by}
-use Rattle.dt_memhost.specs.Script.{Script, script_of, fails_next, counted, failed, picked, word_of}
+use Rattle.dt_memhost.specs.Script.{Script, script_from, fails_next, counted, failed, picked, picked_word}
 
 -- the bytes so far, how many may stand if that is limited, and the script
 pub record SinkState : Type 0 where
@@ -13,7 +13,7 @@ pub record SinkState : Type 0 where
 
 -- a sink before any call: no bytes, their room, the words and the calls that fail
 abbrev pub empty_sink : Picks → List ℕ → Option ℕ → SinkState
-empty_sink picks fails room = record { bytes = []; room = room; script = script_of picks fails }
+empty_sink picks fails room = record { bytes = []; room = room; script = script_from picks fails }
 
 -- no more bytes have room
 abbrev pub is_full : Option ℕ → ℕ → Bool
@@ -35,8 +35,8 @@ pub record FailsAtSink (old : SinkState) (result : Result ℕ SinkErr) (new : Si
   pub counts : new ≡ record old { script = failed old.script }
 
 -- a word chooses how much of a piece is taken
-pub record TakesSome (old : SinkState) (piece : List ℕ) (new : SinkState) (count : ℕ) : Type 0 where
-  pub chosen : count ≡ length_by (word_of old.script) (fitting old.room (length old.bytes) (length piece))
+pub record TakesPiece (old : SinkState) (piece : List ℕ) (new : SinkState) (count : ℕ) : Type 0 where
+  pub chosen : count ≡ length_by (picked_word old.script) (fitting old.room (length old.bytes) (length piece))
   pub taken : new ≡ record old { bytes = old.bytes ++ take count piece; script = picked (counted old.script) }
 
 -- memory ran out: nothing is taken but the word
@@ -45,6 +45,6 @@ pub record TakesNone (old new : SinkState) (error : SinkErr) : Type 0 where
   pub kept : new ≡ record old { script = picked (counted old.script) }
 
 -- how a sink in memory answers
-abbrev pub WritesBy : SinkState → List ℕ → Result ℕ SinkErr → SinkState → Type 0
-WritesBy old piece result new =
-    MatchBool (refuses old) (FailsAtSink old result new) (MatchResult result (TakesSome old piece new) (TakesNone old new))
+abbrev pub WritesSinkBy : SinkState → List ℕ → Result ℕ SinkErr → SinkState → Type 0
+WritesSinkBy old piece result new =
+    MatchBool (refuses old) (FailsAtSink old result new) (MatchResult result (TakesPiece old piece new) (TakesNone old new))

@@ -6,7 +6,7 @@ use Rattle.dt_host.specs.Store.{Files, bytes_of, size_of}
 use Rattle.dt_host.specs.declared.error.StoreErr.{StoreErr}
 use Rattle.dt_host.specs.declared.error.StoreErr.TheVariants.{Failed}
 use Rattle.dt_memhost.specs.Picks.{Picks, length_by}
-use Rattle.dt_memhost.specs.Script.{Script, script_of, fails_next, counted, failed, picked, word_of}
+use Rattle.dt_memhost.specs.Script.{Script, script_from, fails_next, counted, failed, picked, picked_word}
 
 -- the files of a list of names and bytes
 abbrev pub files_of : {Y Z : Type 0} → List (String Y × Vec ℕ Z) → Files
@@ -19,7 +19,7 @@ pub record StoreState : Type 0 where
 
 -- a store before any call: no files, the words and the calls that fail
 abbrev pub empty_store : Picks → List ℕ → StoreState
-empty_store picks fails = record { files = empty; script = script_of picks fails }
+empty_store picks fails = record { files = empty; script = script_from picks fails }
 
 -- a call that fails is counted, and changes nothing else
 pub record FailsAtStore {A : Type 0} (old : StoreState) (result : Result A StoreErr) (new : StoreState) : Type 0 where
@@ -38,12 +38,12 @@ SizesBy old name result new =
 
 -- a word chooses how much of the buffer is filled
 pub record ReadsSome (old : StoreState) (name : List ℕ) (off : ℕ) (before after : List ℕ) (result : Result ℕ StoreErr) (new : StoreState) : Type 0 where
-  pub chosen : result ≡ Ok (length_by (word_of old.script) (length before))
-  pub prefix : let count = length_by (word_of old.script) (length before) in
+  pub chosen : result ≡ Ok (length_by (picked_word old.script) (length before))
+  pub prefix : let count = length_by (picked_word old.script) (length before) in
       after ≡ take count (drop off (bytes_of old.files name)) ++ drop count before
   pub counts : new ≡ record old { script = picked (counted old.script) }
 
 -- how a store in memory answers a read; one that fails leaves the buffer too
-abbrev pub ReadsBy : StoreState → List ℕ → ℕ → List ℕ → List ℕ → Result ℕ StoreErr → StoreState → Type 0
-ReadsBy old name off before after result new =
+abbrev pub ReadsStoreBy : StoreState → List ℕ → ℕ → List ℕ → List ℕ → Result ℕ StoreErr → StoreState → Type 0
+ReadsStoreBy old name off before after result new =
     MatchBool (fails_next old.script) (FailsAtStore old result new × (after ≡ before)) (ReadsSome old name off before after result new)

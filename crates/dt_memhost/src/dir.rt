@@ -3,7 +3,7 @@ ghost use Rattle.std.specs.Prelude.{◌≡◌, None, [], ◌∷◌, ◌++◌, ma
 ghost use Rattle.std.specs.List.Sorted.{IsPermutation};
 ghost use Rattle.std.specs.FinMap.{entries, get, insert, remove};
 ghost use Rattle.dt_host.specs.Legal.{named};
-ghost use Rattle.dt_memhost.specs.Order.{without};
+ghost use Rattle.dt_memhost.specs.Order.{order_without};
 ghost use Rattle.dt_memhost.specs.inner.Dir.{names_of};
 
 use dt_base::{Blob, NoMemory};
@@ -72,7 +72,7 @@ impl Entries {
 
     /// Takes the entry of that name out. The others keep their order, so the time is linear.
     pub(crate) fn unbind(&mut self, name: &[u8])
-        ensures order { self.new ≡ without self.old name.now }
+        ensures order { self.new ≡ order_without self.old name.now }
         ensures names { names_of self.new ≡ remove (names_of self.old) name.now }
     {
         self.names.shift_remove(name);

@@ -7,7 +7,7 @@ ghost use Rattle.std.specs.FinMap.{entries, get, insert, remove};
 ghost use Rattle.dt_host.specs.World.{file, dir, file_bytes, dir_names, link_target};
 ghost use Rattle.dt_base.specs.Bytes.{overwritten, resized};
 ghost use Rattle.dt_host.specs.Legal.{named};
-ghost use Rattle.dt_memhost.specs.Order.{without};
+ghost use Rattle.dt_memhost.specs.Order.{order_without};
 ghost use Rattle.dt_memhost.specs.inner.Node.{node_of, entries_of, held_of, new_node, new_order, new_held};
 
 use crate::dir::Entries;
@@ -131,7 +131,7 @@ impl MemNode {
         ensures names { IfSome (option_and_then dir_names (node_of self.old))
             (λ old. node_of self.new ≡ Some (dir (remove old name.now))) }
         ensures order { entries_of self.new
-            ≡ option_map (λ order. without order name.now) (entries_of self.old) }
+            ≡ option_map (λ order. order_without order name.now) (entries_of self.old) }
         ensures held { held_of self.new ≡ held_of self.old }
     {
         match self {

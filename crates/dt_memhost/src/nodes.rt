@@ -9,7 +9,7 @@ ghost use Rattle.std.specs.FinMap.{entries, get, insert, remove};
 ghost use Rattle.dt_host.specs.World.{file, dir, file_bytes, dir_names, link_target};
 ghost use Rattle.dt_base.specs.Bytes.{overwritten, resized};
 ghost use Rattle.dt_host.specs.Legal.{named};
-ghost use Rattle.dt_memhost.specs.Order.{without};
+ghost use Rattle.dt_memhost.specs.Order.{order_without};
 ghost use Rattle.dt_memhost.specs.inner.Node.{node_in, order_in, held_in};
 
 use crate::node::MemNode;
@@ -116,7 +116,7 @@ pub(crate) fn unbind(nodes: &mut Nodes, number: u64, name: &[u8])
     ensures names { IfSome (option_and_then dir_names (node_in nodes.old number))
         (λ old. node_in nodes.new number ≡ Some (dir (remove old name.now))) }
     ensures order { order_in nodes.new number
-        ≡ option_map (λ order. without order name.now) (order_in nodes.old number) }
+        ≡ option_map (λ order. order_without order name.now) (order_in nodes.old number) }
     ensures held { held_in nodes.new number ≡ held_in nodes.old number }
     ensures others { (q : ℕ) → q ≢ number → tree.get nat_cmp nodes.new q ≡ tree.get nat_cmp nodes.old q }
 {

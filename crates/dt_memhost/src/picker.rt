@@ -1,6 +1,6 @@
 // The words of all choices: a list, then a ChaCha8 stream.
 ghost use Rattle.std.specs.Prelude.{◌≡◌};
-ghost use Rattle.dt_memhost.specs.Picks.{picks_of, next_of};
+ghost use Rattle.dt_memhost.specs.Picks.{picks_of, next_pick};
 
 use rand_chacha::ChaCha8Rng;
 use rand_core::SeedableRng;
@@ -39,8 +39,8 @@ impl Picker {
 
     /// The next word.
     pub(crate) fn word(&mut self) -> u32
-        ensures word { result ≡ (next_of self.old).0 }
-        ensures rest { self.new ≡ (next_of self.old).1 }
+        ensures word { result ≡ (next_pick self.old).0 }
+        ensures rest { self.new ≡ (next_pick self.old).1 }
     {
         match self.words.next() {
             Some(word) => word,

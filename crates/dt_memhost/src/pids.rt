@@ -1,6 +1,7 @@
 // The pids of a host in memory.
 ghost use Rattle.std.specs.Prelude.{◌≡◌, false, OnOk, OnErr};
 ghost use Rattle.std.specs.FinSet.{empty, contains, insert, remove};
+ghost use Rattle.dt_host.specs.World.{ArePids};
 ghost use Rattle.dt_memhost.specs.Number.{Numbers};
 
 use crate::number::{self, PID_NUMBERS};
@@ -17,13 +18,15 @@ pub(crate) struct MemPids {
 }
 
 impl Model for MemPids {
-    ghost use Rattle.dt_host.specs.World.{Pids};
+    ghost use Rattle.dt_host.specs.World.{Pids, ArePids};
     ghost use Rattle.dt_host.specs.inner.Codes.{pids_code};
     ghost use Rattle.dt_memhost.specs.inner.Live.{pids_of};
 
     ghost Value = { Pids };
 
     ghost coded = { pids_code };
+
+    ghost invariant = { λ p. ArePids (pids_of p.live.entries) };
 
     ghost view = { λ p. pids_of p.live.entries };
 }
@@ -36,6 +39,13 @@ impl MemPids {
         MemPids {
             live: BTreeMap::new(alloc),
         }
+    }
+
+    /// Does nothing: a proof learns here that the pids have 64 bits.
+    pub(crate) fn bounds(&self)
+        ensures { ArePids self.now }
+    {
+        let _live = &self.live;
     }
 
     /// A pid that isn't live, by a word.

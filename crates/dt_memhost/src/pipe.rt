@@ -6,13 +6,13 @@ use std::alloc::Global;
 use std::marker::Model;
 use std::mem;
 
-/// The bytes that a pipe holds, the oldest first: those of `front` that were not taken, and then those of `back`, where
-/// all go that come. So each byte is copied in and out once, and a transfer moves none of those that stay.
+/// The bytes that a pipe holds, the oldest first: those of `oldest` that were not taken, and then those of `rest`,
+/// where all go that come. So each byte is copied in and out once, and a transfer moves none of those that stay.
 #[derive(Drop)]
 pub(crate) struct MemPipe {
-    front: Vec<u8>,
+    oldest: Vec<u8>,
     taken: usize,
-    back: Vec<u8>,
+    rest: Vec<u8>,
 }
 
 impl Model for MemPipe {
@@ -20,9 +20,9 @@ impl Model for MemPipe {
 
     ghost Value = { List ℕ };
 
-    ghost view = { λ p. drop p.taken p.front.items ++ p.back.items };
+    ghost view = { λ p. drop p.taken p.oldest.items ++ p.rest.items };
 
-    ghost invariant = { λ p. p.taken ≤ vec_len p.front };
+    ghost invariant = { λ p. p.taken ≤ vec_len p.oldest };
 }
 
 impl MemPipe {
@@ -31,9 +31,9 @@ impl MemPipe {
         ensures { result ≡ [] }
     {
         MemPipe {
-            front: Vec::new(alloc),
+            oldest: Vec::new(alloc),
             taken: 0,
-            back: Vec::new(alloc),
+            rest: Vec::new(alloc),
         }
     }
 
@@ -41,7 +41,7 @@ impl MemPipe {
     pub(crate) fn len(&self) -> usize
         ensures { result ≡ length self.now }
     {
-        self.front.len() - self.taken + self.back.len()
+        self.oldest.len() - self.taken + self.rest.len()
     }
 
     /// Takes its oldest bytes, so many, into the start of the buffer.
@@ -51,10 +51,10 @@ impl MemPipe {
         ensures bytes { buf.new ≡ take count self.old ++ drop count buf.old }
         ensures left { self.new ≡ drop count self.old }
     {
-        let (_, first) = self.front.split_at(self.taken);
+        let (_, first) = self.oldest.split_at(self.taken);
         let inside = count.min(first.len());
         let (upper, _) = first.split_at(inside);
-        let (lower, _) = self.back.split_at(count - inside);
+        let (lower, _) = self.rest.split_at(count - inside);
         buf[..inside].copy_from_slice(upper);
         buf[inside..count].copy_from_slice(lower);
         self.let_go(count);
@@ -65,14 +65,14 @@ impl MemPipe {
         requires { count ≤ length self.old }
         ensures { self.new ≡ drop count self.old }
     {
-        let first = self.front.len() - self.taken;
+        let first = self.oldest.len() - self.taken;
         if count < first {
             self.taken += count;
             return;
         }
-        mem::swap(&mut self.front, &mut self.back);
+        mem::swap(&mut self.oldest, &mut self.rest);
         self.taken = count - first;
-        self.back.clear();
+        self.rest.clear();
     }
 
     /// Puts bytes behind those that it holds.
@@ -80,7 +80,7 @@ impl MemPipe {
         ensures ok { OnOk result (self.new ≡ self.old ++ bytes.now) }
         ensures err { OnErr result (self.new ≡ self.old) }
     {
-        self.back.extend_from_slice(bytes)?;
+        self.rest.extend_from_slice(bytes)?;
         Ok(())
     }
 }

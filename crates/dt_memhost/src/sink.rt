@@ -2,7 +2,7 @@
 ghost use Rattle.std.specs.Prelude.{◌≡◌, ◌<◌, length, take, Ok, Some, IfOk, OnErr, IsErrOf};
 ghost use Rattle.dt_host.specs.Cause.{HasCause};
 ghost use Rattle.dt_host.specs.Sink.{added, MovesSome};
-ghost use Rattle.dt_memhost.specs.Sink.{empty_sink, is_full, fitting, WritesBy};
+ghost use Rattle.dt_memhost.specs.Sink.{empty_sink, is_full, fitting, WritesSinkBy};
 
 use crate::picker::Picker;
 use crate::script::Script;
@@ -86,7 +86,7 @@ impl Sink for MemSink {
 
     fn write(&mut self, piece: &[u8]) -> Result<usize, SinkErr>
         requires { 0 < length piece.now }
-        ensures exact { WritesBy self.old piece.now result self.new }
+        ensures exact { WritesSinkBy self.old piece.now result self.new }
         ensures moved { IfOk result (MovesSome (length piece.now)) }
         ensures ok { IfOk result
             (λ n. Some self.new.bytes ≡ added (Some self.old.bytes) (take n piece.now)) }

@@ -5,7 +5,7 @@ ghost use Rattle.std.specs.FinMap.{get, insert};
 ghost use Rattle.dt_host.specs.Cause.{HasCause};
 ghost use Rattle.dt_host.specs.Sink.{MovesSome};
 ghost use Rattle.dt_host.specs.Store.{size_of, bytes_of, ReachesTo};
-ghost use Rattle.dt_memhost.specs.Store.{files_of, empty_store, SizesBy, ReadsBy};
+ghost use Rattle.dt_memhost.specs.Store.{files_of, empty_store, SizesBy, ReadsStoreBy};
 
 use crate::picker::Picker;
 use crate::script::Script;
@@ -85,7 +85,7 @@ impl Store for MemStore {
     fn read_at(&mut self, name: &str, off: u64, buf: &mut [u8]) -> Result<usize, StoreErr>
         requires room { 0 < length buf.old }
         requires within { ReachesTo self.old.files name.now (off + length buf.old) }
-        ensures exact { ReadsBy self.old name.now off buf.old buf.new result self.new }
+        ensures exact { ReadsStoreBy self.old name.now off buf.old buf.new result self.new }
         ensures moved { IfOk result (MovesSome (length buf.old)) }
         ensures ok { IfOk result
             (λ n. buf.new ≡ take n (drop off (bytes_of self.old.files name.now))

@@ -9,8 +9,8 @@ use Rattle.dt_host.proofs.Pipes.{held_some}
 use Rattle.dt_host.proofs.Maps.{put_back}
 use Rattle.dt_host.proofs.Valued.{get-map_values}
 use Rattle.dt_pipes.specs.declared.pipe.Pipe.{Pipe}
-use Rattle.dt_pipes.specs.Table.{Table, has_pipe, held_in, pipes_of, IsBacked, Stands}
-use Rattle.dt_pipes.specs.Changes.{with_put}
+use Rattle.dt_pipes.specs.Table.{Table, has_pipe, held_in, pipes_of, IsBackedPipe, Stands}
+use Rattle.dt_pipes.specs.Changes.{with_bytes_put}
 
 pub get-pipes_of : (t : Table) (host : Pipes) (q : ℕ) → get (pipes_of t host) q ≡ option_map (λ pipe. held_in host pipe.real) (get t.pipes q)
 unfolding pipes_of
@@ -31,12 +31,12 @@ held_in-pipes_of t host q pipe here =
     ap (λ found. unwrap_or found []) (get-pipes_of t host q ∙ ap (option_map (λ (pipe : Pipe). held_in host pipe.real)) here)
 
 -- a pipe of a table that stands is one of the host's
-pub backed : (t : Table) (host : Pipes) (q : ℕ) (pipe : Pipe) → Stands t host → get t.pipes q ≡ Some pipe → IsBacked host pipe
-backed t host q pipe stands here = subst (λ found. IfSome found (IsBacked host)) here (stands.each q)
+pub backed : (t : Table) (host : Pipes) (q : ℕ) (pipe : Pipe) → Stands t host → get t.pipes q ≡ Some pipe → IsBackedPipe host pipe
+backed t host q pipe stands here = subst (λ found. IfSome found (IsBackedPipe host)) here (stands.each q)
 
 -- to put nothing changes nothing
 pub with_put-nothing : (t : Table) (host : Pipes) (q : ℕ) (bytes : List ℕ) → IsSome (get t.pipes q) → length bytes ≡ 0
-    → pipes_of t host ≡ with_put (pipes_of t host) q bytes
+    → pipes_of t host ≡ with_bytes_put (pipes_of t host) q bytes
 with_put-nothing t host q bytes there none =
     let pipes = pipes_of t host in
     let some : IsSome (get pipes q) = has-pipes_of t host q ∙ there in

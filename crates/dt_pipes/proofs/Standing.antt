@@ -9,7 +9,7 @@ use Rattle.dt_host.specs.World.{Pipes}
 use Rattle.dt_host.proofs.Maps.{at_insert, at_remove, get-insert_same, get-insert_other, get-remove_other}
 use Rattle.dt_pipes.specs.declared.pipe.Pipe.{Pipe}
 use Rattle.dt_pipes.specs.declared.pipe.TheConstants.{FIRST_PIPE}
-use Rattle.dt_pipes.specs.Table.{Table, table_of, held_in, pipes_of, IsBacked, IsKnown, IsGiven, Stands}
+use Rattle.dt_pipes.specs.Table.{Table, table_of, held_in, pipes_of, IsBackedPipe, IsKnown, IsGiven, Stands}
 use Rattle.dt_pipes.proofs.Held.{get-pipes_of, backed}
 
 -- no pipe but that of this number, if there is one, has such a number at the host
@@ -53,10 +53,10 @@ module _ (t : Table) (old new : Pipes) (q : ℕ) (same : (p : ℕ) (a : Pipe) �
       by_found None e = refl
       by_found (Some a) e = ap (λ found. Some (unwrap_or found [])) (same p a apart e)
 
-  backed-other : (p : ℕ) → p ≢ q → IfSome (get t.pipes p) (IsBacked old) → IfSome (get t.pipes p) (IsBacked new)
+  backed-other : (p : ℕ) → p ≢ q → IfSome (get t.pipes p) (IsBackedPipe old) → IfSome (get t.pipes p) (IsBackedPipe new)
   backed-other p apart = by_found (get t.pipes p) refl
     where
-      by_found : (found : Option Pipe) → get t.pipes p ≡ found → IfSome found (IsBacked old) → IfSome found (IsBacked new)
+      by_found : (found : Option Pipe) → get t.pipes p ≡ found → IfSome found (IsBackedPipe old) → IfSome found (IsBackedPipe new)
       by_found None e h = tt
       by_found (Some a) e h = record {
         live = subst (λ found. IsSome found) (sym (same p a apart e)) h.live;
@@ -125,7 +125,7 @@ module _ (t : Table) (host : Pipes) (q : ℕ) (pipe : Pipe) (bytes : List ℕ) (
   -- the table stands for the pipes of the host then
   pub stands-insert : Stands t host → pipe.held ≡ length bytes → pipe.held ≤ PIPE_LIMIT → IsGiven next q → t.next ≤ next → Stands put after
   stands-insert stands count within given more = record {
-    each = λ p. at_insert nat_cmp_total nat_cmp-IsAntisymmetric (λ found. IfSome found (IsBacked after)) t.pipes q pipe p
+    each = λ p. at_insert nat_cmp_total nat_cmp-IsAntisymmetric (λ found. IfSome found (IsBackedPipe after)) t.pipes q pipe p
         (λ is. record {
           live = subst (λ found. IsSome found) (sym real-here) refl;
           count = count ∙ ap (λ found. length (unwrap_or found [])) (sym real-here);
@@ -183,7 +183,7 @@ module _ (t : Table) (host : Pipes) (q : ℕ) (pipe : Pipe) (next : ℕ) (stands
   -- the table stands for the pipes that are left
   pub stands-remove : t.next ≤ next → Stands rest less
   stands-remove more = record {
-    each = λ p. at_remove nat_cmp_total nat_cmp-IsAntisymmetric (λ found. IfSome found (IsBacked less)) t.pipes q p
+    each = λ p. at_remove nat_cmp_total nat_cmp-IsAntisymmetric (λ found. IfSome found (IsBackedPipe less)) t.pipes q p
         (λ is. tt)
         (λ apart. backed-other t host less q real-left p apart (stands.each p));
     once = λ p r a b at_p at_r same. stands.once p r a b (was-there p a at_p) (was-there r b at_r) same;
@@ -197,7 +197,7 @@ module _ (t : Table) (host : Pipes) (q : ℕ) (pipe : Pipe) (next : ℕ) (stands
 -- no pipes stand for none
 pub stands-empty : Stands (table_of empty FIRST_PIPE) empty
 stands-empty = record {
-  each = λ q. subst (λ found. IfSome found (IsBacked empty)) (sym (get-empty nat_cmp q)) tt;
+  each = λ q. subst (λ found. IfSome found (IsBackedPipe empty)) (sym (get-empty nat_cmp q)) tt;
   once = λ p q a b at_p at_q same. absurd (none_some a (sym (get-empty nat_cmp p) ∙ at_p));
   all = λ real live. absurd (not_both (get empty real) live (get-empty nat_cmp real));
   given = λ q there. absurd (not_both (get empty q) there (get-empty nat_cmp q));

@@ -31,7 +31,7 @@ unfoldable pub pipes_of : Table → Pipes → Pipes
 pipes_of t host = map_values (λ pipe. held_in host pipe.real) t.pipes
 
 -- a pipe is one of the host's, which holds as many bytes as are counted, and no more than a pipe may
-pub record IsBacked (host : Pipes) (pipe : Pipe) : Type 0 where
+pub record IsBackedPipe (host : Pipes) (pipe : Pipe) : Type 0 where
   pub live : IsSome (get host pipe.real)
   pub count : pipe.held ≡ length (held_in host pipe.real)
   pub within : pipe.held ≤ PIPE_LIMIT
@@ -50,7 +50,7 @@ pub record IsGiven (next q : ℕ) : Type 0 where
 
 -- the pipes of the container are exactly those of the host, each is one pipe there, and their numbers were given
 pub record Stands (t : Table) (host : Pipes) : Type 0 where
-  pub each : (q : ℕ) → IfSome (get t.pipes q) (IsBacked host)
+  pub each : (q : ℕ) → IfSome (get t.pipes q) (IsBackedPipe host)
   pub once : (p q : ℕ) (a b : Pipe) → get t.pipes p ≡ Some a → get t.pipes q ≡ Some b → a.real ≡ b.real → p ≡ q
   pub all : (real : ℕ) → IsSome (get host real) → IsKnown t real
   pub given : (q : ℕ) → IsSome (get t.pipes q) → IsGiven t.next q

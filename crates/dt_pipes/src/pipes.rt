@@ -5,7 +5,7 @@ ghost use Rattle.std.specs.FinMap.{empty, get, insert, remove};
 ghost use Rattle.dt_host.specs.Cause.{HasCause};
 ghost use Rattle.dt_host.specs.World.{Pipes as HostPipes};
 ghost use Rattle.dt_pipes.specs.Table.{Stands, held_in, pipes_of, has_pipe};
-ghost use Rattle.dt_pipes.specs.Changes.{OnlyPipes, Takes, with_put};
+ghost use Rattle.dt_pipes.specs.Changes.{OnlyPipes, TakesFromPipe, with_bytes_put};
 ghost use Rattle.dt_pipes.specs.inner.Held.{with_held};
 
 use crate::pipe::{FIRST_PIPE, PIPE_NUMBER_LIMIT, Pipe};
@@ -91,7 +91,7 @@ impl Pipes {
     pub fn take<H: Host>(&mut self, host: &mut H, q: u32, buf: &mut [u8]) -> Result<usize, HostErr>
         requires stands { Stands self.old (H.view host.old).pipes }
         requires there { IsSome (get self.old.pipes q) }
-        ensures takes { IfOk result (Takes (pipes_of self.old (H.view host.old).pipes) q buf.old buf.new
+        ensures takes { IfOk result (TakesFromPipe (pipes_of self.old (H.view host.old).pipes) q buf.old buf.new
             (pipes_of self.new (H.view host.new).pipes)) }
         ensures next { self.new.next ≡ self.old.next }
         ensures there { (r : ℕ) → has_pipe self.new r ≡ has_pipe self.old r }
@@ -114,7 +114,7 @@ impl Pipes {
         requires fits { length (held_in (pipes_of self.old (H.view host.old).pipes) q) + length bytes.now
             ≤ PIPE_LIMIT }
         ensures pipes { OnOk result (pipes_of self.new (H.view host.new).pipes
-            ≡ with_put (pipes_of self.old (H.view host.old).pipes) q bytes.now) }
+            ≡ with_bytes_put (pipes_of self.old (H.view host.old).pipes) q bytes.now) }
         ensures done { length bytes.now ≡ 0 → IsOk result }
         ensures kept { length bytes.now ≡ 0 → self.new ≡ self.old }
         ensures unasked { length bytes.now ≡ 0 → host.new ≡ host.old }

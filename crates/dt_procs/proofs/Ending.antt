@@ -14,9 +14,9 @@ use Rattle.dt_procs.proofs.Pairs.{AllPairs-map}
 use Rattle.dt_procs.proofs.Standing.{Apart, Rises}
 
 -- the slice of a whole vector written back
-pub written : (vpid : ℕ) (end : End) (rows seen now : List Row) (n : ℕ) → seen ≡ rows → now ≡ map (ended_row vpid end) seen
+pub rows_ended : (vpid : ℕ) (end : End) (rows seen now : List Row) (n : ℕ) → seen ≡ rows → now ≡ map (ended_row vpid end) seen
     → length seen ≡ n → take n (now ++ drop (length now) rows) ≡ map (ended_row vpid end) rows
-written vpid end rows seen now n same is whole =
+rows_ended vpid end rows seen now n same is whole =
     let new : now ≡ map (ended_row vpid end) rows = is ∙ ap (map (ended_row vpid end)) same in
     let size : length now ≡ length rows = rw (new, length-map) in
     let all : n ≡ length rows = sym whole ∙ ap length same in

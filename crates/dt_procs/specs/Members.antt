@@ -34,8 +34,8 @@ abbrev pub lives : List Member → ℕ → Bool
 lives members vpid = list_any (is_live vpid) members
 
 -- the parent of a process, a zombie's too; that of the first is 0
-abbrev pub parent_of : List Member → ℕ → Option ℕ
-parent_of members vpid = option_map (λ m. m.parent) (member_at members vpid)
+abbrev pub parent_pid : List Member → ℕ → Option ℕ
+parent_pid members vpid = option_map (λ m. m.parent) (member_at members vpid)
 
 -- how a process ended, if it is there and has
 abbrev pub end_of : List Member → ℕ → Option End
@@ -68,7 +68,7 @@ ended vpid end members = map (ended_member vpid end) members
 -- whether a process is the one that is asked for, if one is
 abbrev pub is_asked : Option ℕ → ℕ → Bool
 is_asked None vpid = true
-is_asked (Some asked) vpid = vpid == asked
+is_asked (Some pid) vpid = vpid == pid
 
 -- whether a process is a child that is asked for
 abbrev pub is_child : ℕ → Option ℕ → Member → Bool
@@ -106,11 +106,11 @@ is_got NoneReady = false
 is_got NoChild = false
 
 -- without the process of a pid
-abbrev pub without : List Member → ℕ → List Member
-without members vpid = filter (λ m. not (has_pid vpid m)) members
+abbrev pub without_member : List Member → ℕ → List Member
+without_member members vpid = filter (λ m. not (has_pid vpid m)) members
 
 -- a zombie that was found is reaped
 abbrev pub reaped : List Member → Reaped → List Member
-reaped members (Got vpid end) = without members vpid
+reaped members (Got vpid end) = without_member members vpid
 reaped members NoneReady = members
 reaped members NoChild = members

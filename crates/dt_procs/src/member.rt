@@ -41,7 +41,7 @@ fn is_asked(which: Option<u32>, vpid: u32) -> bool
 {
     match which {
         None => true,
-        Some(asked) => vpid == asked,
+        Some(pid) => vpid == pid,
     }
 }
 

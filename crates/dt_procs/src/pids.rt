@@ -4,8 +4,9 @@ ghost use Rattle.std.specs.FinSet.{empty};
 ghost use Rattle.dt_host.specs.Cause.{HasCause};
 ghost use Rattle.dt_host.specs.World.{OnlyPids, Pids as HostPids};
 ghost use Rattle.dt_procs.specs.declared.error.ProcErr.TheVariants.{Full, Host as host_failed};
-ghost use Rattle.dt_procs.specs.Members.{first_members, with_child, is_full, ended, look_for, reaped, without, is_got};
-ghost use Rattle.dt_procs.specs.Members.{member_at, parent_of, end_of, lives};
+ghost use Rattle.dt_procs.specs.Members.{first_members, with_child, is_full, ended, look_for, reaped, without_member};
+ghost use Rattle.dt_procs.specs.Members.{is_got};
+ghost use Rattle.dt_procs.specs.Members.{member_at, parent_pid, end_of, lives};
 ghost use Rattle.dt_procs.specs.Table.{members_of, Stands, IsTable};
 
 use crate::error::ProcErr;
@@ -163,7 +164,7 @@ impl Pids {
     fn reap<H: Host>(&mut self, host: &mut H, vpid: u32) -> Result<(), HostErr>
         requires stands { Stands self.old (H.view host.old).pids }
         requires there { IsSome (member_at (members_of self.old) vpid) }
-        ensures members { OnOk result (members_of self.new ≡ without (members_of self.old) vpid) }
+        ensures members { OnOk result (members_of self.new ≡ without_member (members_of self.old) vpid) }
         ensures next { OnOk result (self.new.next ≡ self.old.next) }
         ensures stands { OnOk result (Stands self.new (H.view host.new).pids) }
         ensures rest { OnlyPids (H.view host.old) (H.view host.new) }
@@ -182,7 +183,7 @@ impl Pids {
     /// The pid of the parent of a process, a zombie's too; 0 at the first process (getppid(2)).
     #[tactic(auto, using(crate::proofs::Listed::by_rows))]
     pub fn parent(&self, vpid: u32) -> Option<u32>
-        ensures { result ≡ parent_of (members_of self.now) vpid }
+        ensures { result ≡ parent_pid (members_of self.now) vpid }
     {
         Some(row::row_at(&self.rows, vpid)?.member.parent)
     }

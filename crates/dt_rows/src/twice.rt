@@ -10,11 +10,12 @@ use dt_testing::{HELLO_INDEX, HELLO_SHOWN, RUN_HELLO, hello, hello_report, strin
 use std::alloc::Global;
 use std::test::Fail;
 
-type InMemory = Outside<MemStore, MemHost, MemSink, MemSink>;
+/// All that a run meets outside, in memory.
+pub type InMemory = Outside<MemStore, MemHost, MemSink, MemSink>;
 
-// A host that holds nothing, sinks, and a store that holds an image of one program, each with the choices of this
-// stream.
-fn outside(alloc: Global, stream: u64, index: &[u8], program: &[u8]) -> Result<InMemory, Fail>
+/// A host that holds nothing, sinks, and a store that holds an image of one program, each with the choices of this
+/// stream.
+pub fn outside(alloc: Global, stream: u64, index: &[u8], program: &[u8]) -> Result<InMemory, Fail>
     ensures start { IfOk result (λ met. IsEmptyStart met.host.view) }
     ensures files { IfOk result (λ met. met.store.files
         ≡ insert (insert empty (codes "img/image.json") index.now) (codes "img/hello") program.now) }

@@ -10,8 +10,8 @@ use Rattle.dt_rv64.specs.declared.machine.Machine.{Machine}
 use Rattle.dt_calls.specs.Settle.{next_after, with_own}
 use Rattle.dt_run.specs.declared.phase.Phase.{Phase}
 use Rattle.dt_run.specs.declared.phase.Phase.TheVariants.{Owes, Ran, Waits}
-use Rattle.dt_run.specs.Work.{Work, Works, owing, ran_in, with_segment}
-use Rattle.dt_run.specs.Turn.{State, Act, act, acted, changed, all_ended, with_child, stuck, taken, headed, first_of, turn}
+use Rattle.dt_run.specs.Work.{Work, Works, owing_work, ran_in, with_segment}
+use Rattle.dt_run.specs.Turn.{State, Act, act, acted, works_after, verdict_is_ended, with_child_work, stuck, turn_taken, headed, head_pid, turn}
 use Rattle.dt_run.specs.Ahead.{ahead, ahead_of, ran, ran_where, TurnAhead, RanAhead}
 
 ran_in-again : (w : Work) (phase : Phase) → w.phase ≡ phase → with_segment (ran_in w phase) ≡ ran_in w phase
@@ -64,12 +64,12 @@ map-own works p (Some own) =
     ∙ sym (map-insert works p own)
 
 map-child : (a b : Works) (next : ℕ) (child : Option Machine) → map_values with_segment a ≡ map_values with_segment b
-    → map_values with_segment (with_child a next child) ≡ map_values with_segment (with_child b next child)
+    → map_values with_segment (with_child_work a next child) ≡ map_values with_segment (with_child_work b next child)
 map-child a b next None is = is
 map-child a b next (Some m) is =
-    map-insert a next (owing m)
-    ∙ ap (λ ws. insert ws next (with_segment (owing m))) is
-    ∙ sym (map-insert b next (owing m))
+    map-insert a next (owing_work m)
+    ∙ ap (λ ws. insert ws next (with_segment (owing_work m))) is
+    ∙ sym (map-insert b next (owing_work m))
 
 map-left : (b : Bool) (x y : Works) → map_values with_segment x ≡ map_values with_segment y
     → map_values with_segment (cond b empty x) ≡ map_values with_segment (cond b empty y)
@@ -77,10 +77,10 @@ map-left true x y is = refl
 map-left false x y is = is
 
 map-changed : (works : Works) (p next : ℕ) (a : Act)
-    → map_values with_segment (changed (map_values with_segment works) p next a)
-    ≡ map_values with_segment (changed works p next a)
-unfolding changed
-map-changed works p next a = map-left (all_ended a.verdict) _ _ (map-child _ _ next a.child (map-own works p a.own))
+    → map_values with_segment (works_after (map_values with_segment works) p next a)
+    ≡ map_values with_segment (works_after works p next a)
+unfolding works_after
+map-changed works p next a = map-left (verdict_is_ended a.verdict) _ _ (map-child _ _ next a.child (map-own works p a.own))
 
 acted-ahead : (s : State) (p : ℕ) (a : Act) → ahead_of (acted (ahead s) p a) ≡ ahead_of (acted s p a)
 unfolding ahead
@@ -95,7 +95,7 @@ acted-ahead s p a =
     (map-changed s.works p s.next a)
 
 taken-ahead : (s : State) (p : ℕ) (found : Option Work)
-    → ahead_of (taken (ahead s) p (option_map with_segment found)) ≡ ahead_of (taken s p found)
+    → ahead_of (turn_taken (ahead s) p (option_map with_segment found)) ≡ ahead_of (turn_taken s p found)
 unfolding ahead
 taken-ahead s p None = ap stuck (ahead-again s)
 taken-ahead s p (Some w) =
@@ -105,11 +105,11 @@ taken-ahead s p (Some w) =
 headed-ahead : (s : State) (head : Option ℕ) → ahead_of (headed (ahead s) head) ≡ ahead_of (headed s head)
 unfolding ahead
 headed-ahead s None = ap stuck (ahead-again s)
-headed-ahead s (Some p) = ap (λ found. ahead_of (taken (ahead s) p found)) (get-ran s.works p) ∙ taken-ahead s p (get s.works p)
+headed-ahead s (Some p) = ap (λ found. ahead_of (turn_taken (ahead s) p found)) (get-ran s.works p) ∙ taken-ahead s p (get s.works p)
 
 pub turn-ahead : TurnAhead
 unfolding turn ahead
-turn-ahead s = headed-ahead s (first_of s.queue.order)
+turn-ahead s = headed-ahead s (head_pid s.queue.order)
 
 -- turns of states that are the same once all segments were run come to the same
 pub turn-same : (a b : State) → ahead a ≡ ahead b → ahead_of (turn a) ≡ ahead_of (turn b)

@@ -7,8 +7,8 @@ use Rattle.std.specs.FinMap.{find, get, insert, empty, remove, get-insert, same_
 use Rattle.dt_host.proofs.Maps.{at_insert, at_remove, get-remove_same, get-remove_other, get-insert_same, get-insert_other}
 use Rattle.dt_rv64.specs.declared.machine.Machine.{Machine}
 use Rattle.dt_calls.specs.Settle.{next_after, with_own}
-use Rattle.dt_run.specs.Work.{Work, Works, owing, with_segment}
-use Rattle.dt_run.specs.Turn.{State, Act, act, changed, all_ended, with_child, taken, headed, first_of, turn}
+use Rattle.dt_run.specs.Work.{Work, Works, owing_work, with_segment}
+use Rattle.dt_run.specs.Turn.{State, Act, act, works_after, verdict_is_ended, with_child_work, turn_taken, headed, head_pid, turn}
 use Rattle.dt_run.specs.Ahead.{Away, put_all, home, home_after, IsAway, HasHead, TurnAway}
 
 -- the first of two that is there
@@ -61,18 +61,18 @@ module _ (ws : Away) where
 
   over-child : (m n : Works) (next : ℕ) (child : Option Machine) (q : ℕ) → find nat_cmp next ws ≡ None
       → get m q ≡ over (find nat_cmp q ws) (get n q)
-      → get (with_child m next child) q ≡ over (find nat_cmp q ws) (get (with_child n next child) q)
+      → get (with_child_work m next child) q ≡ over (find nat_cmp q ws) (get (with_child_work n next child) q)
   over-child m n next None q apart is = is
-  over-child m n next (Some x) q apart is = over-insert m n next (owing x) q apart is
+  over-child m n next (Some x) q apart is = over-insert m n next (owing_work x) q apart is
 
   left-away : (b : Bool) (x y : Works) → x ≡ put_all ws y → cond b empty x ≡ put_all (cond b [] ws) (cond b empty y)
   left-away true x y is = refl
   left-away false x y is = is
 
   changed-away : (works : Works) (p next : ℕ) (a : Act) → find nat_cmp p ws ≡ None → find nat_cmp next ws ≡ None
-      → changed (put_all ws works) p next a ≡ put_all (cond (all_ended a.verdict) [] ws) (changed works p next a)
-  unfolding changed
-  changed-away works p next a own child = left-away (all_ended a.verdict) _ _
+      → works_after (put_all ws works) p next a ≡ put_all (cond (verdict_is_ended a.verdict) [] ws) (works_after works p next a)
+  unfolding works_after
+  changed-away works p next a own child = left-away (verdict_is_ended a.verdict) _ _
       (same_map nat_cmp_total nat_cmp-IsAntisymmetric _ _ (λ q.
       over-child _ _ next a.child q child (over-own (put_all ws works) works p a.own q own (get-put_all ws works q))
       ∙ sym (get-put_all ws _ q)))
@@ -81,7 +81,7 @@ module _ (ws : Away) where
   next-fresh s away = unless_some (find nat_cmp s.next ws) (λ h. let less = away.given s.next h in omega arith)
 
   taken-away : (s : State) (p : ℕ) (found : Option Work) → get s.works p ≡ found → IsSome found → IsAway s ws
-      → taken (home ws s) p found ≡ home_after ws (taken s p found)
+      → turn_taken (home ws s) p found ≡ home_after ws (turn_taken s p found)
   unfolding home
   taken-away s p None is some away = cc
   taken-away s p (Some w) is some away =
@@ -95,15 +95,15 @@ module _ (ws : Away) where
       })
       (changed-away s.works p s.next a (home-apart s p (subst IsSome (sym is) some) away) (next-fresh s away))
 
-  headed-away : (s : State) (head : Option ℕ) → first_of s.queue.order ≡ head → HasHead s → IsAway s ws
+  headed-away : (s : State) (head : Option ℕ) → head_pid s.queue.order ≡ head → HasHead s → IsAway s ws
       → headed (home ws s) head ≡ home_after ws (headed s head)
   unfolding home
   headed-away s None is has away = refl
   headed-away s (Some p) is has away =
-      ap (taken (home ws s) p)
+      ap (turn_taken (home ws s) p)
       (get-put_all ws s.works p ∙ over-none (find nat_cmp p ws) (get s.works p) (home-apart s p (has p is) away))
       ∙ taken-away s p (get s.works p) refl (has p is) away
 
 pub turn-away : TurnAway
 unfolding turn home
-turn-away ws s has away = headed-away ws s (first_of s.queue.order) refl has away
+turn-away ws s has away = headed-away ws s (head_pid s.queue.order) refl has away

@@ -29,9 +29,9 @@ use Rattle.dt_calls.specs.Sound.{IsSoundContainer}
 use Rattle.dt_run.specs.declared.phase.Phase.{Phase}
 use Rattle.dt_run.specs.declared.phase.Phase.TheVariants.{Owes, Ran, Waits}
 use Rattle.dt_run.specs.declared.state.State.{State as StateInCode}
-use Rattle.dt_run.specs.Work.{Work, with_segment, cost_of, stop_of}
-use Rattle.dt_run.specs.Queue.{told, queue_after, verdict_by}
-use Rattle.dt_run.specs.Turn.{State, Turn, act, acted, paid, unpaid, settled, changed, all_ended, taken, headed, first_of, turn}
+use Rattle.dt_run.specs.Work.{Work, with_segment, turn_cost, stop_of}
+use Rattle.dt_run.specs.Queue.{told, run_queue_after, verdict_by}
+use Rattle.dt_run.specs.Turn.{State, Turn, act, acted, paid, unpaid, settled_act, works_after, verdict_is_ended, turn_taken, headed, head_pid, turn}
 use Rattle.dt_run.specs.inner.InCode.{phase_in, work_in, works_in, queue_of, state_of, turn_as, known, noted}
 use Rattle.dt_run.specs.inner.Good.{IsPlaced, IsPlacedIn, IsGood, steps_left}
 use Rattle.dt_run.proofs.Works.{get-works_in}
@@ -41,26 +41,26 @@ use Rattle.dt_run.proofs.Placed.{once-apart, queue-placed, fresh-after, room}
 
 -- a turn of a head whose segment was run, and which the budget pays for
 turn-ready : (s : State) (p : ℕ) (rest : List ℕ) (w : Work) → s.queue.order ≡ p ∷ rest → get s.works p ≡ Some w
-    → with_segment w ≡ w → nat_le (cost_of w.phase) s.queue.left ≡ true
-    → turn s ≡ acted s p (paid s.shared (record s.queue { left = s.queue.left - cost_of w.phase }) s.next p w)
+    → with_segment w ≡ w → nat_le (turn_cost w.phase) s.queue.left ≡ true
+    → turn s ≡ acted s p (paid s.shared (record s.queue { left = s.queue.left - turn_cost w.phase }) s.next p w)
 unfolding turn act
 turn-ready s p rest w order found ran pays =
-    ap (λ ps. headed s (first_of ps)) order
-    ∙ ap (taken s p) found
+    ap (λ ps. headed s (head_pid ps)) order
+    ∙ ap (turn_taken s p) found
     ∙ ap (λ v. acted s p (act s.shared s.queue s.next p v)) ran
-    ∙ ap (λ b. acted s p (cond b (paid s.shared (record s.queue { left = s.queue.left - cost_of w.phase }) s.next p w)
+    ∙ ap (λ b. acted s p (cond b (paid s.shared (record s.queue { left = s.queue.left - turn_cost w.phase }) s.next p w)
     (unpaid s.shared s.queue w))) pays
 
 -- and of one for which it doesn't pay
 pub turn-spent : (s : State) (p : ℕ) (rest : List ℕ) (w : Work) → s.queue.order ≡ p ∷ rest → get s.works p ≡ Some w
-    → with_segment w ≡ w → nat_le (cost_of w.phase) s.queue.left ≡ false
+    → with_segment w ≡ w → nat_le (turn_cost w.phase) s.queue.left ≡ false
     → turn s ≡ acted s p (unpaid s.shared s.queue w)
 unfolding turn act
 turn-spent s p rest w order found ran spent =
-    ap (λ ps. headed s (first_of ps)) order
-    ∙ ap (taken s p) found
+    ap (λ ps. headed s (head_pid ps)) order
+    ∙ ap (turn_taken s p) found
     ∙ ap (λ v. acted s p (act s.shared s.queue s.next p v)) ran
-    ∙ ap (λ b. acted s p (cond b (paid s.shared (record s.queue { left = s.queue.left - cost_of w.phase }) s.next p w)
+    ∙ ap (λ b. acted s p (cond b (paid s.shared (record s.queue { left = s.queue.left - turn_cost w.phase }) s.next p w)
     (unpaid s.shared s.queue w))) spent
 
 arrived-ran : (m : Machine) (phase : Phase) → is_owing (known phase) ≡ false
@@ -71,16 +71,16 @@ arrived-ran m (Ran seg) arrived = refl
 arrived-ran m Waits arrived = refl
 
 -- all have ended where the container is empty
-first-ended : (b : Bool) → all_ended (cond b (Some verdict.Ended) None) ≡ b
+first-ended : (b : Bool) → verdict_is_ended (cond b (Some verdict.Ended) None) ≡ b
 first-ended true = refl
 first-ended false = refl
 
-dead-goes-on : (b : Bool) → all_ended (cond b (Some verdict.Deadlock) None) ≡ false
+dead-goes-on : (b : Bool) → verdict_is_ended (cond b (Some verdict.Deadlock) None) ≡ false
 dead-goes-on true = refl
 dead-goes-on false = refl
 
 ended-alike : (p blocked count : ℕ) (served : Served)
-    → all_ended (verdict_after p blocked count (told served)) ≡ calls.all_ended p served
+    → verdict_is_ended (verdict_after p blocked count (told served)) ≡ calls.all_ended p served
 ended-alike p blocked count Done = refl
 ended-alike p blocked count (Child vpid) = refl
 ended-alike p blocked count (LastChild vpid) = first-ended (p == 1)
@@ -176,18 +176,18 @@ acted-seen : (s : StateInCode) (w : World) (q : Process) (rest : List Process) (
     → s.core.queue ≡ q ∷ rest → sched.cost_of q.phase ≡ cost → Fits s.container.shared.pids.next r
     → get s.phases s.container.shared.pids.next ≡ None → q.vpid < s.container.shared.pids.next
     → acted (state_of s w) q.vpid
-    (settled (record (queue_of s.core) { left = s.core.left - cost }) q.vpid (phase_in (get s.phases q.vpid)) r)
+    (settled_act (record (queue_of s.core) { left = s.core.left - cost }) q.vpid (phase_in (get s.phases q.vpid)) r)
     ≡ seen s q.vpid (turned (container_of s.container w) q.vpid r)
-unfolding settled changed verdict_by
+unfolding settled_act works_after verdict_by
 acted-seen s w q rest cost r is costs fits fresh given =
     let machines = home_of s.container.places in
     let next = s.container.shared.pids.next in
     let t = told r.served in
-    let to = queue_after (record (queue_of s.core) { left = s.core.left - cost }) q.vpid t in
+    let to = run_queue_after (record (queue_of s.core) { left = s.core.left - cost }) q.vpid t in
     let core = sched.settled s.core t in
     let queues : to ≡ queue_of core = queue-settled s.core q rest t cost is costs in
     let verdicts : verdict_by to q.vpid t ≡ core.verdict = verdict-settled s.core q rest t to is queues in
-    let works : cond (all_ended (verdict_by to q.vpid t)) empty
+    let works : cond (verdict_is_ended (verdict_by to q.vpid t)) empty
     (works_with (works_in machines s.phases) next q.vpid (phase_in (get s.phases q.vpid)) r)
     ≡ works_in (machines_after machines next q.vpid r) (noted s.phases q.vpid r.served)
     = ap (λ b. cond b empty (works_with (works_in machines s.phases) next q.vpid (phase_in (get s.phases q.vpid)) r))
@@ -204,7 +204,7 @@ module _ (s : StateInCode) (w : World) (p : ℕ) (to : ContainerView) (now : Wor
   arrived : is_owing (known (phase_in (get s.phases c.head.first.vpid))) ≡ false
   arrived = subst (λ phase. is_owing phase ≡ false) c.stands c.head.arrived
 
-  costs : sched.cost_of c.head.first.phase ≡ cost_of (phase_in (get s.phases c.head.first.vpid))
+  costs : sched.cost_of c.head.first.phase ≡ turn_cost (phase_in (get s.phases c.head.first.vpid))
   costs =
       ap sched.cost_of c.stands
       ∙ cost-known (phase_in (get s.phases c.head.first.vpid)) arrived
@@ -222,7 +222,7 @@ module _ (s : StateInCode) (w : World) (p : ℕ) (to : ContainerView) (now : Wor
       (get-works_in (home_of s.container.places) s.phases n ∙ ap (option_map (work_in s.phases n)) c.home)
       (arrived-ran c.machine phase arrived)
       (subst (λ cost. nat_le cost s.core.left ≡ true) costs c.head.pays)
-      ∙ acted-seen s w c.head.first c.head.rest (cost_of phase) (the_settled s w n c.machine) c.head.queue costs
+      ∙ acted-seen s w c.head.first c.head.rest (turn_cost phase) (the_settled s w n c.machine) c.head.queue costs
       (served-fits _ _ n _ c.machine) (c.good.fresh s.container.shared.pids.next (omega arith)) c.given
       ∙ ap (seen s n) c.is
 
@@ -262,7 +262,7 @@ module _ (s : StateInCode) (w : World) (p : ℕ) (to : ContainerView) (now : Wor
       (room machines s.phases next n r.own r.child s.core.queue to.places r.served c.once c.good.placed fits.own fits.child sound.few
       (λ on q there. home-place to.places q
       (subst IsSome (ap
-      (λ (b : Bool). get (cond b empty (calls.with_child (calls.with_own machines n r.own) next r.child)) q)
+      (λ (b : Bool). get (cond b empty (calls.with_child_machine (calls.with_own machines n r.own) next r.child)) q)
       (sym on) ∙ ap (λ m. get m q) homes) there)))
 
 -- what the code has after a turn
@@ -351,7 +351,7 @@ ready-noted s p good ready =
 -- a turn that the budget doesn't pay for
 unpaid-seen : (s : State) (p : ℕ) (w : Work) → get s.works p ≡ Some w
     → acted s p (unpaid s.shared s.queue w) ≡ turn_as s [] (Some verdict.Budget)
-unfolding changed
+unfolding works_after
 unpaid-seen s p w found =
     ap (λ works. turn_as (record s { works = works }) [] (Some verdict.Budget))
     (put_back nat_cmp_total nat_cmp-IsAntisymmetric s.works p w found)

@@ -25,7 +25,7 @@ use Rattle.dt_calls.proofs.Homes.{home-place}
 use Rattle.dt_run.specs.declared.state.State.{State as StateInCode}
 use Rattle.dt_run.specs.Ahead.{ahead}
 use Rattle.dt_run.specs.Turn.{State, Turn, turn}
-use Rattle.dt_run.specs.Run.{Run, run_turns, go_on, after, first_state, run_from}
+use Rattle.dt_run.specs.Run.{Run, run_turns, run_after_turn, after, first_state, run_from}
 use Rattle.dt_run.specs.inner.InCode.{phase_in, known, state_of, turn_as, rest_of}
 use Rattle.dt_run.specs.inner.Good.{IsGood}
 use Rattle.dt_run.proofs.Turns.{run_turns-turn, runs-alike, after-after}
@@ -35,7 +35,7 @@ use Rattle.dt_run.proofs.Came.{spent-turn}
 
 -- after a turn the run is what showed in it, and what is left
 go_on-rest : (next : State) (events : List Event) (v : Option Verdict)
-    → go_on (turn_as next events v) v run_turns ≡ after events (rest_of next v)
+    → run_after_turn (turn_as next events v) v run_turns ≡ after events (rest_of next v)
 go_on-rest next events None = refl
 go_on-rest next events (Some v) = ap (λ events. record { events = events; verdict = v; last = next.shared })
     (sym (append-nil events))
@@ -50,7 +50,7 @@ pub after-turn : (start : Run) (s next : State) (before events : List Event) (ru
 after-turn start s next before events running v whole is took =
     whole
     ∙ ap (after before) (rest-running s running is ∙ run_turns-turn s
-    ∙ ap (λ (t : Turn). go_on t t.verdict run_turns) took ∙ go_on-rest next events v)
+    ∙ ap (λ (t : Turn). run_after_turn t t.verdict run_turns) took ∙ go_on-rest next events v)
     ∙ after-after before events (rest_of next v)
 
 -- and after an arrival
@@ -66,7 +66,7 @@ over-rest : (s : StateInCode) (w : World) (v : Verdict) → IsGood s → IsCore 
 over-rest s w v good sound over =
     ⊎_elim (λ e. ap (rest_of (state_of s w)) e)
     (λ e. rest-running (state_of s w) s.core.verdict e.0 ∙ run_turns-turn (state_of s w)
-    ∙ ap (λ (t : Turn). go_on t t.verdict run_turns) (spent-turn s w good sound e.1.1)
+    ∙ ap (λ (t : Turn). run_after_turn t t.verdict run_turns) (spent-turn s w good sound e.1.1)
     ∙ ap (λ v. record { events = []; verdict = v; last = shared_of s.container.shared w }) (sym e.1.0))
     over
 
@@ -103,7 +103,7 @@ first-good c w budget s is sound home = subst IsGood (sym is) (record {
 })
 
 -- the machine of a program that was started is at home
-started-home : (c : Container) (r : Result _ Errno) (l : Launched) → calls.started c r ≡ l → l.launch ≡ Started
+started-home : (c : Container) (r : Result _ Errno) (l : Launched) → calls.launched_program c r ≡ l → l.launch ≡ Started
     → IsSome (get l.container.machines FIRST_PID)
 started-home c (Err errno) l is started = let bad = ap (λ (l : Launched). l.launch) is ∙ started in cc
 started-home c (Ok program) l is started =

@@ -17,7 +17,7 @@ use Rattle.dt_calls.specs.Settle as calls
 use Rattle.dt_calls.specs.Settle.{Settled, settled_by, settle, serve_machine, machines_after, with_own}
 use Rattle.dt_run.specs.declared.phase.Phase.{Phase}
 use Rattle.dt_run.specs.Work.{Works}
-use Rattle.dt_run.specs.Turn.{with_child, own_after, phase_after}
+use Rattle.dt_run.specs.Turn.{with_child_work, own_after, phase_after}
 use Rattle.dt_run.specs.inner.InCode.{Phases, phase_in, works_in, noted}
 use Rattle.dt_run.proofs.Works.{Only, works_in-insert, works_in-remove, works_in-empty}
 
@@ -108,7 +108,7 @@ own-works machines phases p served (Some m) fits =
     ∙ sym (works_in-insert machines phases (noted phases p served) p m (noted-only phases p served))
 
 child-works : (machines : Machines) (phases : Phases) (next : ℕ) (child : Option Machine) → get phases next ≡ None
-    → with_child (works_in machines phases) next child ≡ works_in (calls.with_child machines next child) phases
+    → with_child_work (works_in machines phases) next child ≡ works_in (calls.with_child_machine machines next child) phases
 child-works machines phases next None none = refl
 child-works machines phases next (Some m) none =
     ap (λ found. insert (works_in machines phases) next (record { machine = m; phase = phase_in found })) (sym none)
@@ -121,7 +121,7 @@ left-works false works machines phases is = is
 
 -- the works after a turn of a process in this phase, unless all have ended
 abbrev pub works_with : Works → ℕ → ℕ → Phase → Settled → Works
-works_with works next p phase r = with_child (with_own works p (own_after phase r.served r.own)) next r.child
+works_with works next p phase r = with_child_work (with_own works p (own_after phase r.served r.own)) next r.child
 
 -- the works after a turn are the machines then, with what is noted then
 pub works-after : (machines : Machines) (phases : Phases) (next p : ℕ) (r : Settled) → Fits next r
@@ -129,8 +129,8 @@ pub works-after : (machines : Machines) (phases : Phases) (next p : ℕ) (r : Se
     → cond (calls.all_ended p r.served) empty (works_with (works_in machines phases) next p (phase_in (get phases p)) r)
     ≡ works_in (machines_after machines next p r) (noted phases p r.served)
 works-after machines phases next p r fits none apart =
-    left-works (calls.all_ended p r.served) _ (calls.with_child (calls.with_own machines p r.own) next r.child)
+    left-works (calls.all_ended p r.served) _ (calls.with_child_machine (calls.with_own machines p r.own) next r.child)
     (noted phases p r.served)
-    (ap (λ works. with_child works next r.child) (own-works machines phases p r.served r.own fits.own)
+    (ap (λ works. with_child_work works next r.child) (own-works machines phases p r.served r.own fits.own)
     ∙ child-works (calls.with_own machines p r.own) (noted phases p r.served) next r.child
     (noted-only phases p r.served next apart ∙ none))

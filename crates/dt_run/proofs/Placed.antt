@@ -17,7 +17,7 @@ use Rattle.dt_sched.specs.Core.{each_once, holds, owes, has_room}
 use Rattle.dt_calls.specs.declared.container.Served.{Served}
 use Rattle.dt_calls.specs.declared.container.Served.TheVariants.{Done, Child, LastChild, Blocked, Moved, Ended, Unsupported}
 use Rattle.dt_calls.specs.Container.{Machines}
-use Rattle.dt_calls.specs.Settle.{all_ended, with_own, with_child, next_after}
+use Rattle.dt_calls.specs.Settle.{all_ended, with_own, with_child_machine, next_after}
 use Rattle.dt_run.specs.declared.phase.Phase.TheVariants.{Owes, Waits}
 use Rattle.dt_run.specs.Queue.{told}
 use Rattle.dt_run.specs.inner.InCode.{Phases, phase_in, known, noted}
@@ -42,13 +42,13 @@ own-home machines p None some = cc
 own-home machines p (Some m) some = subst IsSome (sym (get-insert_same nat_cmp_total nat_cmp-IsAntisymmetric machines p m)) refl
 
 child-there : (machines : Machines) (next : ℕ) (child : Option Machine) (q : ℕ) → IsSome (get machines q)
-    → IsSome (get (with_child machines next child) q)
+    → IsSome (get (with_child_machine machines next child) q)
 child-there machines next None q was = was
 child-there machines next (Some m) q was = at_insert nat_cmp_total nat_cmp-IsAntisymmetric
     (λ found. IsSome found) machines next m q (λ _. refl) (λ _. was)
 
 child-home : (machines : Machines) (next : ℕ) (child : Option Machine) → IsSome child
-    → IsSome (get (with_child machines next child) next)
+    → IsSome (get (with_child_machine machines next child) next)
 child-home machines next None some = cc
 child-home machines next (Some m) some = subst IsSome
     (sym (get-insert_same nat_cmp_total nat_cmp-IsAntisymmetric machines next m)) refl
@@ -72,7 +72,7 @@ once-apart false b once = (refl, once)
 module _ (machines : Machines) (phases : Phases) (next : ℕ) (q : Process) (own child : Option Machine) where
   -- the machines after a turn, unless all have ended
   abbrev after_turn : Machines
-  after_turn = with_child (with_own machines q.vpid own) next child
+  after_turn = with_child_machine (with_own machines q.vpid own) next child
 
   abbrev Stays : Served → Process → Type 0
   Stays served x = IsPlaced after_turn (noted phases q.vpid served) (next_after next child) x
@@ -167,7 +167,7 @@ pub queue-placed : (machines : Machines) (phases : Phases) (next : ℕ) (q : Pro
     (served : Served) (own child : Option Machine) (b : Bool)
     → all_ended q.vpid served ≡ b → FitsOwn served own → FitsChild next served child → get phases next ≡ None
     → holds q.vpid rest ≡ false → AllByRecursion (IsPlaced machines phases next) (q ∷ rest)
-    → AllByRecursion (IsPlaced (cond b empty (with_child (with_own machines q.vpid own) next child))
+    → AllByRecursion (IsPlaced (cond b empty (with_child_machine (with_own machines q.vpid own) next child))
     (noted phases q.vpid served) (next_after next child)) (sched.queue_after q rest (told served))
 queue-placed machines phases next q rest served own child true over lives born fresh apart placed = none-left _ q rest served over
 queue-placed machines phases next q rest served own child false over lives born fresh apart placed
@@ -224,7 +224,7 @@ no_more {X} (p ∷ ps) m once there =
 -- the processes of the queue, and a child, are at home after a turn
 there-after : (machines : Machines) (phases : Phases) (next p : ℕ) (own child : Option Machine) (ps : List Process)
     → IsSome own → AllByRecursion (IsPlaced machines phases next) ps
-    → AllByRecursion (λ (x : Process). IsSome (get (with_child (with_own machines p own) next child) x.vpid)) ps
+    → AllByRecursion (λ (x : Process). IsSome (get (with_child_machine (with_own machines p own) next child) x.vpid)) ps
 there-after machines phases next p own child [] lives placed = tt
 there-after machines phases next p own child (x ∷ xs) lives placed = (
   child-there (with_own machines p own) next child x.vpid
@@ -243,7 +243,7 @@ module _ (machines : Machines) (phases : Phases) (next p : ℕ) (own child : Opt
 
   -- with a child that is at home no more stand in the queue than have a key
   with-child : {X : Type 0} (m : FinMap nat_cmp X) → IsSome own → IsSome child
-      → ((q : ℕ) → IsSome (get (with_child (with_own machines p own) next child) q) → IsSome (get m q))
+      → ((q : ℕ) → IsSome (get (with_child_machine (with_own machines p own) next child) q) → IsSome (get m q))
       → length ps + 1 ≤ length (keys m)
   with-child {X} m lives born key =
       let both : AllByRecursion (λ (x : Process). IsSome (get m x.vpid)) (owes next ∷ ps) =
@@ -254,7 +254,7 @@ module _ (machines : Machines) (phases : Phases) (next p : ℕ) (own child : Opt
       omega arith
     where
       keyed : (xs : List Process)
-          → AllByRecursion (λ (x : Process). IsSome (get (with_child (with_own machines p own) next child) x.vpid)) xs
+          → AllByRecursion (λ (x : Process). IsSome (get (with_child_machine (with_own machines p own) next child) x.vpid)) xs
           → AllByRecursion (λ (x : Process). IsSome (get m x.vpid)) xs
       keyed [] h = tt
       keyed (x ∷ xs) h = (key x.vpid h.0, keyed xs h.1)
@@ -268,7 +268,7 @@ pub room : {X : Type 0} (machines : Machines) (phases : Phases) (next p : ℕ) (
     (ps : List Process) (m : FinMap nat_cmp X) (served : Served)
     → IsTrue (each_once ps) → AllByRecursion (IsPlaced machines phases next) ps → FitsOwn served own
     → FitsChild next served child → length (keys m) ≤ 64
-    → (all_ended p served ≡ false → (q : ℕ) → IsSome (get (with_child (with_own machines p own) next child) q) → IsSome (get m q))
+    → (all_ended p served ≡ false → (q : ℕ) → IsSome (get (with_child_machine (with_own machines p own) next child) q) → IsSome (get m q))
     → IsTrue (has_room ps (told served))
 room machines phases next p own child ps m Done once placed lives born few key = refl
 room machines phases next p own child ps m (Child vpid) once placed lives born few key =

@@ -14,8 +14,8 @@ use Rattle.dt_sched.specs.Core as sched
 use Rattle.dt_sched.specs.Core.{CoreView, IsCore, head, head_at, head_by, owes, owing, is_owing, is_counted, all_counted, arrived, arrived_at, settled, settled_at, verdict_after}
 use Rattle.dt_run.specs.declared.phase.Phase.{Phase}
 use Rattle.dt_run.specs.declared.phase.Phase.TheVariants.{Owes, Ran, Waits}
-use Rattle.dt_run.specs.Work.{cost_of}
-use Rattle.dt_run.specs.Queue.{Queue, order_after, queue_after, verdict_by}
+use Rattle.dt_run.specs.Work.{turn_cost}
+use Rattle.dt_run.specs.Queue.{Queue, order_after, run_queue_after, verdict_by}
 use Rattle.dt_run.specs.inner.InCode.{queue_of, known}
 
 -- the pids of processes
@@ -126,8 +126,8 @@ order-settled q rest (Stopped number) = refl
 -- the queue after a turn of its head
 pub queue-settled : (core : CoreView) (q : Process) (rest : List Process) (t : Settled) (cost : ℕ)
     → core.queue ≡ q ∷ rest → sched.cost_of q.phase ≡ cost
-    → queue_after (record (queue_of core) { left = core.left - cost }) q.vpid t ≡ queue_of (settled core t)
-unfolding queue_after
+    → run_queue_after (record (queue_of core) { left = core.left - cost }) q.vpid t ≡ queue_of (settled core t)
+unfolding run_queue_after
 queue-settled core q rest t cost is costs =
     ap (λ l. record {
       order = order_after (pids l) q.vpid (drop 1 (pids l)) t;
@@ -159,7 +159,7 @@ verdict-settled core q rest t to is same =
 
 -- what a turn costs is known to the queue
 pub cost-known : (phase : Phase) → is_owing (known phase) ≡ false → IsTrue (is_counted (known phase))
-    → sched.cost_of (known phase) ≡ cost_of phase
+    → sched.cost_of (known phase) ≡ turn_cost phase
 cost-known Owes arrived counted = cc
 cost-known (Ran seg) arrived counted = grind (arith, nat_tests)
 cost-known Waits arrived counted = refl

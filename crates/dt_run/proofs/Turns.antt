@@ -14,10 +14,10 @@ use Rattle.dt_calls.specs.Container.{Shared}
 use Rattle.dt_calls.specs.Settle.{Settled, serve_machine}
 use Rattle.dt_run.specs.declared.phase.Phase.{Phase}
 use Rattle.dt_run.specs.declared.phase.Phase.TheVariants.{Owes, Ran, Waits}
-use Rattle.dt_run.specs.Work.{Work, with_segment, cost_of, stop_of}
-use Rattle.dt_run.specs.Queue.{Queue, told, queue_after}
-use Rattle.dt_run.specs.Turn.{State, Turn, Act, act, paid, unpaid, settled, taken, headed, first_of, turn}
-use Rattle.dt_run.specs.Run.{Run, run_turns, run_at_most, go_on, after}
+use Rattle.dt_run.specs.Work.{Work, with_segment, turn_cost, stop_of}
+use Rattle.dt_run.specs.Queue.{Queue, told, run_queue_after}
+use Rattle.dt_run.specs.Turn.{State, Turn, Act, act, paid, unpaid, settled_act, turn_taken, headed, head_pid, turn}
+use Rattle.dt_run.specs.Run.{Run, run_turns, run_at_most, run_after_turn, after}
 use Rattle.dt_run.specs.Ahead.{ahead, ahead_of, RunsAlike}
 use Rattle.dt_run.proofs.Aheads.{turn-same}
 
@@ -29,35 +29,35 @@ IsCheaper bound a = a.verdict ≡ None → a.queue.left + 1 ≤ bound
 abbrev pub Costs : ℕ → Turn → Type 0
 Costs bound t = t.verdict ≡ None → t.next.queue.left + 1 ≤ bound
 
-cost-least : (phase : Phase) → 1 ≤ cost_of phase
+cost-least : (phase : Phase) → 1 ≤ turn_cost phase
 cost-least Owes = omega arith
 cost-least (Ran seg) = omega arith
 cost-least Waits = omega arith
 
 -- what becomes of the process costs no more
-after-left : (q : Queue) (p : ℕ) (t : Told) → let to = queue_after q p t in to.left ≡ q.left
-unfolding queue_after
+after-left : (q : Queue) (p : ℕ) (t : Told) → let to = run_queue_after q p t in to.left ≡ q.left
+unfolding run_queue_after
 after-left q p t = refl
 
 settled-cheaper : (q : Queue) (p bound : ℕ) (phase : Phase) (r : Settled) → q.left + 1 ≤ bound
-    → IsCheaper bound (settled q p phase r)
-unfolding settled
+    → IsCheaper bound (settled_act q p phase r)
+unfolding settled_act
 settled-cheaper q p bound phase r h = λ _. let same = after-left q p (told r.served) in omega arith
 
-billed-cheaper : (c : Shared) (q : Queue) (next p : ℕ) (w : Work) (b : Bool) → nat_le (cost_of w.phase) q.left ≡ b
-    → IsCheaper q.left (cond b (paid c (record q { left = q.left - cost_of w.phase }) next p w) (unpaid c q w))
+billed-cheaper : (c : Shared) (q : Queue) (next p : ℕ) (w : Work) (b : Bool) → nat_le (turn_cost w.phase) q.left ≡ b
+    → IsCheaper q.left (cond b (paid c (record q { left = q.left - turn_cost w.phase }) next p w) (unpaid c q w))
 unfolding paid
 billed-cheaper c q next p w true e =
     let least = cost-least w.phase in
-    settled-cheaper (record q { left = q.left - cost_of w.phase }) p q.left w.phase
+    settled-cheaper (record q { left = q.left - turn_cost w.phase }) p q.left w.phase
     (serve_machine c next p (stop_of w.phase) w.machine) (grind (arith, nat_tests, least))
 billed-cheaper c q next p w false e = λ e. cc
 
 act-cheaper : (c : Shared) (q : Queue) (next p : ℕ) (w : Work) → IsCheaper q.left (act c q next p w)
 unfolding act
-act-cheaper c q next p w = billed-cheaper c q next p w (nat_le (cost_of w.phase) q.left) refl
+act-cheaper c q next p w = billed-cheaper c q next p w (nat_le (turn_cost w.phase) q.left) refl
 
-taken-costs : (s : State) (p : ℕ) (found : Option Work) → Costs s.queue.left (taken s p found)
+taken-costs : (s : State) (p : ℕ) (found : Option Work) → Costs s.queue.left (turn_taken s p found)
 taken-costs s p None = λ e. cc
 taken-costs s p (Some w) = act-cheaper s.shared s.queue s.next p (with_segment w)
 
@@ -68,10 +68,10 @@ headed-costs s (Some p) = taken-costs s p (get s.works p)
 -- after a turn with no verdict less is left
 pub turn-costs : (s : State) → Costs s.queue.left (turn s)
 unfolding turn
-turn-costs s = headed-costs s (first_of s.queue.order)
+turn-costs s = headed-costs s (head_pid s.queue.order)
 
 go_on-same : (v : Option Verdict) (t : Turn) (f g : State → Run) → (v ≡ None → f t.next ≡ g t.next)
-    → go_on t v f ≡ go_on t v g
+    → run_after_turn t v f ≡ run_after_turn t v g
 go_on-same (Some verdict) t f g same = refl
 go_on-same None t f g same = ap (after t.events) (same refl)
 
@@ -89,7 +89,7 @@ run_at_most-enough (suc n) (suc a) (suc b) s an bn la lb =
     run_at_most-enough n a b t.next (omega arith) (omega arith) (omega arith) (omega arith))
 
 -- turns until a verdict: a turn, and then the turns from the next state
-pub run_turns-turn : (s : State) → let t = turn s in run_turns s ≡ go_on t t.verdict run_turns
+pub run_turns-turn : (s : State) → let t = turn s in run_turns s ≡ run_after_turn t t.verdict run_turns
 unfolding run_at_most run_turns
 run_turns-turn s =
     let t = turn s in
@@ -100,7 +100,7 @@ run_turns-turn s =
 
 -- of two turns that are the same once all segments were run, with runs that agree on such states
 go_on-ahead : (f : State → Run) → ((a b : State) → ahead a ≡ ahead b → f a ≡ f b) → (t u : Turn) (v : Option Verdict)
-    → t.verdict ≡ v → ahead_of t ≡ ahead_of u → go_on t v f ≡ go_on u v f
+    → t.verdict ≡ v → ahead_of t ≡ ahead_of u → run_after_turn t v f ≡ run_after_turn u v f
 unfolding ahead
 go_on-ahead f agree t u (Some verdict) e is = ap
     (λ (t : Turn). record { events = t.events; verdict = verdict; last = t.next.shared }) is
@@ -114,7 +114,7 @@ run_at_most-alike (suc n) a b is =
     let u = turn b in
     let same = turn-same a b is in
     go_on-ahead (run_at_most n) (run_at_most-alike n) t u t.verdict refl same
-    ∙ ap (λ v. go_on u v (run_at_most n)) (ap (λ (t : Turn). t.verdict) same)
+    ∙ ap (λ v. run_after_turn u v (run_at_most n)) (ap (λ (t : Turn). t.verdict) same)
 
 pub runs-alike : RunsAlike
 unfolding run_turns ahead
@@ -126,6 +126,6 @@ after-after a b r = ap (λ events. record { events = events; verdict = r.verdict
 
 -- a segment makes a step, so that its cost is the count of its steps
 pub cost-segment : (m : Machine)
-    → cost_of (with_segment (record { machine = m; phase = Owes })).phase ≡ (segment_of m).count
+    → turn_cost (with_segment (record { machine = m; phase = Owes })).phase ≡ (segment_of m).count
 unfolding with_segment
 cost-segment m = let least = segment-counts m in omega (arith, least)

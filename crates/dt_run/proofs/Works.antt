@@ -10,7 +10,7 @@ use Rattle.dt_host.proofs.Maps.{at_insert, at_remove, get-insert_same, get-inser
 use Rattle.dt_host.proofs.Valued.{get-map_values}
 use Rattle.dt_rv64.specs.declared.machine.Machine.{Machine}
 use Rattle.dt_calls.specs.Container.{Machines}
-use Rattle.dt_run.specs.Work.{owing}
+use Rattle.dt_run.specs.Work.{owing_work}
 use Rattle.dt_run.specs.inner.InCode.{Phases, phase_in, work_in, works_in}
 
 find-with : {X Y : Type 0} (f : ℕ → X → Y) (q : ℕ) (es : List (ℕ × X))
@@ -76,8 +76,8 @@ works_in-empty phases = same_map nat_cmp_total nat_cmp-IsAntisymmetric _ _ (λ q
     ∙ sym (get-empty nat_cmp q))
 
 -- where nothing is noted each process owes
-pub works_in-owing : (machines : Machines) → works_in machines empty ≡ map_values owing machines
+pub works_in-owing : (machines : Machines) → works_in machines empty ≡ map_values owing_work machines
 works_in-owing machines = same_map nat_cmp_total nat_cmp-IsAntisymmetric _ _ (λ q.
     get-works_in machines empty q
     ∙ ap (λ found. option_map (λ m. record { machine = m; phase = phase_in found }) (get machines q)) (get-empty nat_cmp q)
-    ∙ sym (get-map_values nat_cmp_total owing machines q))
+    ∙ sym (get-map_values nat_cmp_total owing_work machines q))

@@ -4,7 +4,7 @@ use Rattle.std.specs.Ordering.{nat_cmp}
 use Rattle.std.specs.FinMap.{find, get, insert}
 use Rattle.dt_host.specs.Values.{map_values}
 use Rattle.dt_run.specs.Work.{Work, Works, with_segment}
-use Rattle.dt_run.specs.Turn.{State, Turn, all_ended, first_of, turn}
+use Rattle.dt_run.specs.Turn.{State, Turn, verdict_is_ended, head_pid, turn}
 use Rattle.dt_run.specs.Run.{run_turns}
 
 -- the segment of each process run that owes one
@@ -39,7 +39,7 @@ home ws s = record s { works = put_all ws s.works }
 
 -- after a turn, with the works that were away, less those of processes that ended
 abbrev pub home_after : Away → Turn → Turn
-home_after ws t = record t { next = home (if all_ended t.verdict then [] else ws) t.next }
+home_after ws t = record t { next = home (if verdict_is_ended t.verdict then [] else ws) t.next }
 
 -- works of processes that have none at home, each with a pid that was given before
 pub record IsAway (s : State) (ws : Away) : Type 0 where
@@ -48,7 +48,7 @@ pub record IsAway (s : State) (ws : Away) : Type 0 where
 
 -- the work of the queue's head is at home
 abbrev pub HasHead : State → Type 0
-HasHead s = (p : ℕ) → first_of s.queue.order ≡ Some p → IsSome (get s.works p)
+HasHead s = (p : ℕ) → head_pid s.queue.order ≡ Some p → IsSome (get s.works p)
 
 -- a turn after segments ran ahead is the turn, with equal events and verdict
 abbrev pub TurnAhead : Type 0

@@ -39,8 +39,8 @@ order_after order p rest settled.Gone = left_by p rest
 order_after order p rest (settled.Stopped number) = order
 
 -- the queue after a turn of its head
-unfoldable pub queue_after : Queue → ℕ → Settled → Queue
-queue_after q p t = record {
+unfoldable pub run_queue_after : Queue → ℕ → Settled → Queue
+run_queue_after q p t = record {
   order = order_after q.order p (drop 1 q.order) t;
   blocked = blocked_after q.blocked t;
   left = q.left;

@@ -17,7 +17,7 @@ use Rattle.dt_calls.specs.Container.{Shared, Container, first_container}
 use Rattle.dt_calls.specs.Launch.{launch}
 use Rattle.dt_image.specs.Report.{report}
 use Rattle.dt_run.specs.declared.status.TheConstants.{ENDED_ZERO, ENDED_OTHERWISE, NOT_ENDED}
-use Rattle.dt_run.specs.Work.{owing}
+use Rattle.dt_run.specs.Work.{owing_work}
 use Rattle.dt_run.specs.Turn.{State, Turn, turn}
 
 -- what a run gives: its events, its verdict, and what its processes shared at last
@@ -31,14 +31,14 @@ abbrev pub after : List Event → Run → Run
 after events r = record { events = events ++ r.events; verdict = r.verdict; last = r.last }
 
 -- after a turn the run is over, or it goes on from the next state
-abbrev pub go_on : Turn → Option Verdict → (State → Run) → Run
-go_on t (Some verdict) rest = record { events = t.events; verdict = verdict; last = t.next.shared }
-go_on t None rest = after t.events (rest t.next)
+abbrev pub run_after_turn : Turn → Option Verdict → (State → Run) → Run
+run_after_turn t (Some verdict) rest = record { events = t.events; verdict = verdict; last = t.next.shared }
+run_after_turn t None rest = after t.events (rest t.next)
 
 -- at most so many turns; after them the budget is spent
 unfoldable pub run_at_most : ℕ → State → Run
 run_at_most zero s = record { events = []; verdict = verdict.Budget; last = s.shared }
-run_at_most (suc most) s = let t = turn s in go_on t t.verdict (run_at_most most)
+run_at_most (suc most) s = let t = turn s in run_after_turn t t.verdict (run_at_most most)
 
 -- turns until a verdict: each costs at least 1, and one more than the budget finds it spent
 unfoldable pub run_turns : State → Run
@@ -48,7 +48,7 @@ run_turns s = run_at_most (s.queue.left + 1) s
 abbrev pub first_state : Container → ℕ → State
 first_state c budget = record {
   shared = c.shared;
-  works = map_values owing c.machines;
+  works = map_values owing_work c.machines;
   queue = record { order = FIRST_PID ∷ []; blocked = 0; left = budget };
   next = c.next;
 }
@@ -77,8 +77,8 @@ status_by None = NOT_ENDED
 status_by (Some end) = ended_status end
 
 -- the status of a run
-abbrev pub status_of : Run → ℕ
-status_of run = status_by (end_of run.last.members FIRST_PID)
+abbrev pub status_of_run : Run → ℕ
+status_of_run run = status_by (end_of run.last.members FIRST_PID)
 
 -- the report of a run
 abbrev pub report_of : Run → List ℕ

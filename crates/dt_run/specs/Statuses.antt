@@ -9,7 +9,7 @@ use Rattle.dt_run.specs.declared.failure.Failure.TheVariants.{Usage, Image, Stor
 use Rattle.dt_run.specs.declared.status.TheConstants.{ENDED_ZERO, ENDED_OTHERWISE, WORDS_REFUSED, IMAGE_REFUSED, STORE_FAULT, HOST_FAULT, OUTPUT_FAULT, OUT_OF_MEMORY, NOT_ENDED}
 use Rattle.dt_run.specs.Failure.{failure_line}
 use Rattle.dt_run.specs.HoldsTree.{HoldsTree}
-use Rattle.dt_run.specs.Run.{Run, status_of, report_of}
+use Rattle.dt_run.specs.Run.{Run, status_of_run, report_of}
 
 -- the status of a run that was completed
 abbrev pub is_run_status : ℕ → Bool
@@ -33,7 +33,7 @@ Stayed before now = ¬ Rose before now
 
 -- the run was completed: its status is the answer, its report was added, and the host holds its last tree
 pub record Completes (run : Run) (answer : ℕ) (old new : Option (List ℕ)) (w : World) : Type 0 where
-  pub status : answer ≡ status_of run
+  pub status : answer ≡ status_of_run run
   pub report : new ≡ added old (report_of run)
   pub tree : HoldsTree w run.last.tree
 

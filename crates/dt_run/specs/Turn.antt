@@ -11,8 +11,8 @@ use Rattle.dt_calls.specs.Container.{Shared}
 use Rattle.dt_calls.specs.Settle.{Settled, serve_machine, next_after, with_own}
 use Rattle.dt_run.specs.declared.phase.Phase.{Phase}
 use Rattle.dt_run.specs.declared.phase.Phase.TheVariants.{Owes, Waits}
-use Rattle.dt_run.specs.Work.{Work, Works, owing, with_segment, cost_of, stop_of}
-use Rattle.dt_run.specs.Queue.{Queue, told, queue_after, verdict_by}
+use Rattle.dt_run.specs.Work.{Work, Works, owing_work, with_segment, turn_cost, stop_of}
+use Rattle.dt_run.specs.Queue.{Queue, told, run_queue_after, verdict_by}
 
 -- a run between two turns: what processes share, each one's work, the queue, and the pid that the next child gets
 pub record State : Type 0 where
@@ -52,10 +52,10 @@ abbrev pub own_after : Phase → Served → Option Machine → Option Work
 own_after phase served machine = option_map (λ m. record { machine = m; phase = phase_after phase served }) machine
 
 -- what becomes of the process and of the queue
-unfoldable pub settled : Queue → ℕ → Phase → Settled → Act
-settled q p phase r =
+unfoldable pub settled_act : Queue → ℕ → Phase → Settled → Act
+settled_act q p phase r =
     let t = told r.served in
-    let to = queue_after q p t in
+    let to = run_queue_after q p t in
     record {
       shared = r.shared;
       queue = to;
@@ -67,7 +67,7 @@ settled q p phase r =
 
 -- a turn that was paid for: the stop is served, or a waiting call again
 unfoldable pub paid : Shared → Queue → ℕ → ℕ → Work → Act
-paid c q next p w = settled q p w.phase (serve_machine c next p (stop_of w.phase) w.machine)
+paid c q next p w = settled_act q p w.phase (serve_machine c next p (stop_of w.phase) w.machine)
 
 -- the budget doesn't pay for the turn, and nothing of it happens
 abbrev pub unpaid : Shared → Queue → Work → Act
@@ -76,33 +76,33 @@ unpaid c q w = record { shared = c; queue = q; own = Some w; child = None; event
 -- what a process does in its turn once its segment was run
 unfoldable pub act : Shared → Queue → ℕ → ℕ → Work → Act
 act c q next p w =
-    if nat_le (cost_of w.phase) q.left then paid c (record q { left = q.left - cost_of w.phase }) next p w
+    if nat_le (turn_cost w.phase) q.left then paid c (record q { left = q.left - turn_cost w.phase }) next p w
     else unpaid c q w
 
 -- whether all processes have ended
-abbrev pub all_ended : Option Verdict → Bool
-all_ended None = false
-all_ended (Some verdict.Ended) = true
-all_ended (Some verdict.Deadlock) = false
-all_ended (Some verdict.Budget) = false
-all_ended (Some (verdict.Unsupported vpid number)) = false
-all_ended (Some (verdict.NoStart errno)) = false
+abbrev pub verdict_is_ended : Option Verdict → Bool
+verdict_is_ended None = false
+verdict_is_ended (Some verdict.Ended) = true
+verdict_is_ended (Some verdict.Deadlock) = false
+verdict_is_ended (Some verdict.Budget) = false
+verdict_is_ended (Some (verdict.Unsupported vpid number)) = false
+verdict_is_ended (Some (verdict.NoStart errno)) = false
 
 -- with a child, which owes a segment
-abbrev pub with_child : Works → ℕ → Option Machine → Works
-with_child works next None = works
-with_child works next (Some m) = insert works next (owing m)
+abbrev pub with_child_work : Works → ℕ → Option Machine → Works
+with_child_work works next None = works
+with_child_work works next (Some m) = insert works next (owing_work m)
 
 -- the works after a turn: the process's own, that of a child, and the others' as they were; at the end of all none
-unfoldable pub changed : Works → ℕ → ℕ → Act → Works
-changed works p next a = if all_ended a.verdict then empty else with_child (with_own works p a.own) next a.child
+unfoldable pub works_after : Works → ℕ → ℕ → Act → Works
+works_after works p next a = if verdict_is_ended a.verdict then empty else with_child_work (with_own works p a.own) next a.child
 
 -- the state after what a process did
 abbrev pub acted : State → ℕ → Act → Turn
 acted s p a = record {
   next = record {
     shared = a.shared;
-    works = changed s.works p s.next a;
+    works = works_after s.works p s.next a;
     queue = a.queue;
     next = next_after s.next a.child;
   };
@@ -116,20 +116,20 @@ stuck s = record { next = s; events = []; verdict = Some verdict.Deadlock }
 
 -- the turn of a process whose work is at home: the segment that it owes is run, its cost is paid, and its stop is
 -- served
-abbrev pub taken : State → ℕ → Option Work → Turn
-taken s p None = stuck s
-taken s p (Some w) = acted s p (act s.shared s.queue s.next p (with_segment w))
+abbrev pub turn_taken : State → ℕ → Option Work → Turn
+turn_taken s p None = stuck s
+turn_taken s p (Some w) = acted s p (act s.shared s.queue s.next p (with_segment w))
 
 -- the turn of the process that stands first, if one does
 abbrev pub headed : State → Option ℕ → Turn
 headed s None = stuck s
-headed s (Some p) = taken s p (get s.works p)
+headed s (Some p) = turn_taken s p (get s.works p)
 
--- the first of a list
-abbrev pub first_of : List ℕ → Option ℕ
-first_of [] = None
-first_of (p ∷ rest) = Some p
+-- the pid at the head of an order, if it has one
+abbrev pub head_pid : List ℕ → Option ℕ
+head_pid [] = None
+head_pid (p ∷ rest) = Some p
 
 -- a turn: that of the head of the queue
 unfoldable pub turn : State → Turn
-turn s = headed s (first_of s.queue.order)
+turn s = headed s (head_pid s.queue.order)

@@ -19,8 +19,8 @@ abbrev pub Works : Type 0
 Works = FinMap nat_cmp Work
 
 -- a process that owes a segment
-abbrev pub owing : Machine → Work
-owing m = record { machine = m; phase = Owes }
+abbrev pub owing_work : Machine → Work
+owing_work m = record { machine = m; phase = Owes }
 
 -- a process whose machine has just run a segment
 abbrev pub ran_work : SegmentRun → Work
@@ -39,10 +39,10 @@ with_segment w = ran_in w w.phase
 -- what a turn costs once the segment was run: the steps of the segment, and 1 where a call is tried again. Nothing owes
 -- then, and a segment has a step at least, so that neither the 1 of `Owes` nor `max` is seen in a run: they make a cost of
 -- every phase
-abbrev pub cost_of : Phase → ℕ
-cost_of Owes = 1
-cost_of (Ran seg) = max 1 seg.count
-cost_of Waits = 1
+abbrev pub turn_cost : Phase → ℕ
+turn_cost Owes = 1
+turn_cost (Ran seg) = max 1 seg.count
+turn_cost Waits = 1
 
 -- what a turn serves once the segment was run: its stop, or the waiting call again. Nothing owes then, so that the stop of
 -- `Owes` is not seen in a run

@@ -43,7 +43,7 @@ impl State {
         ensures cause { HasCause (H.count host.old) (H.count host.new) (IsErrOf result HostErr.Failed) }
     {
         let phase = self.phase(vpid);
-        let served = serve(alloc, host, &mut self.container, vpid, phase)?;
+        let served = serve_phase(alloc, host, &mut self.container, vpid, phase)?;
         note(&mut self.phases, vpid, served);
         self.core.settle(told(served));
         Ok(self.container.take_events())
@@ -51,7 +51,7 @@ impl State {
 }
 
 // Serves the stop of the segment that a process ran, or again its call that waits or goes on.
-fn serve<H: Host>(
+fn serve_phase<H: Host>(
     alloc: Global,
     host: &mut H,
     container: &mut Container,

@@ -64,9 +64,9 @@ pub enum Instr {
     Srli { rd: u8, rs1: u8, shift: u8 },
     /// Shift right, arithmetic.
     Srai { rd: u8, rs1: u8, shift: u8 },
-    /// Add.
+    /// The sum of two registers.
     Add { rd: u8, rs1: u8, rs2: u8 },
-    /// Subtract.
+    /// Their difference.
     Sub { rd: u8, rs1: u8, rs2: u8 },
     /// Shift left by a register.
     Sll { rd: u8, rs1: u8, rs2: u8 },

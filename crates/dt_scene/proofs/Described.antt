@@ -5,7 +5,7 @@ use Rattle.std.specs.FinMap.{get}
 use Rattle.dt_fds.specs.declared.desc.Desc.{Desc}
 use Rattle.dt_fds.specs.declared.desc.DescKind.TheVariants.{File, Dir}
 use Rattle.dt_fds.specs.declared.desc.Slot.{Slot}
-use Rattle.dt_fds.specs.Descriptions.{Descriptions, desc_of, slot_at, description_at}
+use Rattle.dt_fds.specs.Descriptions.{Descriptions, slot_description, slot_at, description_at}
 use Rattle.dt_fds.specs.Backs.{IsIn, AllIn}
 use Rattle.dt_fds.proofs.Backing.{live-in}
 use Rattle.dt_host.specs.World.{Forest, IsFile, IsDir, IsLive}
@@ -20,8 +20,8 @@ described_in v f p fd desc all is = by_slot (slot_at f p fd) refl
     by_desc slot (Some d) at there same = let e : d ≡ desc = cc in subst (λ x. IsIn v x.kind) e there
 
     by_slot : (found : Option Slot) → slot_at f p fd ≡ found → IsIn v desc.kind
-    by_slot None e = let none : Some desc ≡ None = is ∙ ap (λ s. option_and_then (desc_of f) s) e in cc
-    by_slot (Some slot) e = by_desc slot (get f.descs slot.number) refl (all slot.number) (sym (is ∙ ap (λ s. option_and_then (desc_of f) s) e))
+    by_slot None e = let none : Some desc ≡ None = is ∙ ap (λ s. option_and_then (slot_description f) s) e in cc
+    by_slot (Some slot) e = by_desc slot (get f.descs slot.number) refl (all slot.number) (sym (is ∙ ap (λ s. option_and_then (slot_description f) s) e))
 
 pub described_file : (v : Forest) (f : Descriptions) (p fd : ℕ) (desc : Desc) (n : ℕ) → AllIn v f → Some desc ≡ description_at f p fd → desc.kind ≡ File n → IsFile v n
 described_file v f p fd desc n all is kind = subst (IsIn v) kind (described_in v f p fd desc all is)

@@ -178,8 +178,8 @@ reaches_done d old tree clock w v caller space value before now sound stands kep
 
 -- a call on open files came to this
 pub reaches_held : {A : Type 0} (number : A → ℕ) (o : Outcome A) (old : Fs) (tree : Table) (files : Files) (w v : World) (caller : Caller) (space : List PageView) (found : Result A Errno) (before now : ℕ)
-    → Sound (stage old w caller space) → IsBacked (at files tree v) → KeepsHolds caller.vpid (holds.holding (at old.files old.tree w)) (holds.holding (at files tree v)) → OnlyFiles w v → before ≤ now
-    → o ≡ record { answer = found; next = holds.holding (at files tree v) }
+    → Sound (stage old w caller space) → IsBacked (at files tree v) → KeepsHolds caller.vpid (holds.holding_at (at old.files old.tree w)) (holds.holding_at (at files tree v)) → OnlyFiles w v → before ≤ now
+    → o ≡ record { answer = found; next = holds.holding_at (at files tree v) }
     → Reaches (by_outcome number (scene (stage old w caller space)) o) (stage old w caller space) (stage (record { tree = tree; files = files; clock = old.clock; rand = old.rand }) v caller space) (Ok (answer_of number found)) before now
 reaches_held number o old tree files w v caller space found before now sound backed kept rest later is =
     let new : Fs = record { tree = tree; files = files; clock = old.clock; rand = old.rand } in

@@ -7,7 +7,7 @@ use Rattle.dt_base.specs.declared.errno.Errno.{Errno}
 use Rattle.dt_base.specs.declared.errno.Errno.TheVariants.{BadF}
 use Rattle.dt_fds.specs.declared.desc.Desc.{Desc}
 use Rattle.dt_fds.specs.Descriptions.{Descriptions, description_at}
-use Rattle.dt_fds.specs.Pipes.{Pipes}
+use Rattle.dt_fds.specs.Pipes.{PipesView}
 use Rattle.dt_fds.specs.Holding.{Holding, Outcome, over}
 use Rattle.dt_space.specs.Space.{PageView}
 use Rattle.dt_tree.specs.Calls.{Done}
@@ -20,7 +20,7 @@ use Rattle.dt_virt.specs.Words.{Seeded}
 pub record Scene : Type 0 where
   pub tree : FileTree
   pub files : Descriptions
-  pub pipes : Pipes
+  pub pipes : PipesView
   pub clock : ℕ
   pub rand : Seeded
   pub caller : Caller

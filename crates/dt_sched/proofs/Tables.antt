@@ -7,7 +7,7 @@ use Rattle.std.specs.List.{filter}
 use Rattle.dt_sched.specs.declared.queue.TheConstants.{QUEUE_LIMIT}
 use Rattle.dt_sched.specs.declared.settled.Head.TheVariants.{Ready, Over}
 use Rattle.dt_base.specs.declared.event.Verdict.{Verdict}
-use Rattle.dt_sched.specs.Queue.{IsTable, owing_from, moved_up, first_of, is_ready, queue_at}
+use Rattle.dt_sched.specs.Queue.{IsQueue, owing_from, moved_up, head_of, head_is_ready, queue_at}
 use Rattle.dt_sched.specs.declared.process.Process.{Process}
 use Rattle.dt_sched.specs.declared.process.Phase.TheVariants.{Arrived}
 use Rattle.dt_sched.specs.declared.settled.Settled.{Settled}
@@ -213,13 +213,13 @@ owed-removed n cost e xs each within =
     ∙ sym (owing-arrived (get_or (owing xs) n e) cost xs)
 
 -- as many indices as processes owe
-pub index-there : (n : ℕ) (xs queue : List Process) (owed indices : List ℕ) → IsTable xs owed indices → xs ≡ queue
+pub index-there : (n : ℕ) (xs queue : List Process) (owed indices : List ℕ) → IsQueue xs owed indices → xs ≡ queue
     → n < length (owing queue) → n < length indices
 index-there n xs queue owed indices table same within =
     let many = ap length table.placed ∙ length-from 0 xs ∙ ap (λ l. length (owing l)) same in omega arith
 
 -- the process at the index that is kept beside its virtual pid
-pub place-there : (n place : ℕ) (xs queue : List Process) (owed indices : List ℕ) → IsTable xs owed indices → xs ≡ queue
+pub place-there : (n place : ℕ) (xs queue : List Process) (owed indices : List ℕ) → IsQueue xs owed indices → xs ≡ queue
     → n < length (owing queue) → place ≡ get_or indices n place → StandsAt 0 place (get_or (owing xs) n 0) xs
 place-there n place xs queue owed indices table same within is =
     subst (λ p. StandsAt 0 p (get_or (owing xs) n 0) xs) (sym (is ∙ ap (λ l. get_or l n place) table.placed))
@@ -227,7 +227,7 @@ place-there n place xs queue owed indices table same within is =
 
 -- the queue once that process has its cost
 pub arrived-there : (n place cost : ℕ) (xs queue : List Process) (owed indices : List ℕ) (q : Process)
-    → IsTable xs owed indices → xs ≡ queue → n < length (owing queue) → place ≡ get_or indices n place
+    → IsQueue xs owed indices → xs ≡ queue → n < length (owing queue) → place ≡ get_or indices n place
     → q ≡ get_or xs place q
     → slice_set xs place (record { vpid = q.vpid; phase = Arrived cost }) ≡ map (arrived_at (get_or (owing xs) n 0) cost) xs
 arrived-there n place cost xs queue owed indices q table same within is here =
@@ -245,10 +245,10 @@ moved-whole len new items size is =
     ∙ ap (take len) (append-nil new) ∙ take_all len new (omega (arith, same, size)) ∙ is
 
 -- the table without its head
-pub table-taken : (p : Process) (xs ys : List Process) (owed indices others : List ℕ) → IsTable xs owed indices
-    → xs ≡ p ∷ ys → is_owing p.phase ≡ false → others ≡ moved_up indices → IsTable ys owed others
+pub table-taken : (p : Process) (xs ys : List Process) (owed indices others : List ℕ) → IsQueue xs owed indices
+    → xs ≡ p ∷ ys → is_owing p.phase ≡ false → others ≡ moved_up indices → IsQueue ys owed others
 table-taken p xs ys owed indices others table joined ready up =
-    let first = subst (λ l. IsTable l owed indices) joined table in
+    let first = subst (λ l. IsQueue l owed indices) joined table in
     let few = first.few in
     record {
       each_once = second-of (not (holds p.vpid ys)) (each_once ys) first.each_once;
@@ -258,14 +258,14 @@ table-taken p xs ys owed indices others table joined ready up =
     }
 
 -- what its turn costs is known of a head that is ready
-pub ready-first : (p : Process) (xs ys queue : List Process) → xs ≡ queue → xs ≡ p ∷ ys → IsTrue (is_ready queue)
+pub ready-first : (p : Process) (xs ys queue : List Process) → xs ≡ queue → xs ≡ p ∷ ys → IsTrue (head_is_ready queue)
     → is_owing p.phase ≡ false
 ready-first p xs ys queue same joined ready =
-    let first : IsTrue (not (is_owing p.phase)) = subst (λ l. IsTrue (is_ready l)) (sym same ∙ joined) ready in
+    let first : IsTrue (not (is_owing p.phase)) = subst (λ l. IsTrue (head_is_ready l)) (sym same ∙ joined) ready in
     grind (arith, nat_tests)
 
 -- fewer owe than there is room for
-pub owed-few : (xs queue : List Process) (owed indices : List ℕ) → IsTable xs owed indices → xs ≡ queue
+pub owed-few : (xs queue : List Process) (owed indices : List ℕ) → IsQueue xs owed indices → xs ≡ queue
     → length queue < QUEUE_LIMIT → (length owed < QUEUE_LIMIT) × (length indices < QUEUE_LIMIT)
 owed-few xs queue owed indices table same room =
     let size : length xs ≡ length queue = ap length same in
@@ -276,9 +276,9 @@ owed-few xs queue owed indices table same room =
 
 -- the table after an arrival
 pub table-arrived : (n cost e : ℕ) (xs queue ys : List Process) (owed left indices others : List ℕ)
-    → IsTable xs owed indices → xs ≡ queue → n < length (owing queue)
+    → IsQueue xs owed indices → xs ≡ queue → n < length (owing queue)
     → ys ≡ map (arrived_at (get_or (owing xs) n e) cost) xs
-    → left ≡ remove owed n → others ≡ remove indices n → IsTable ys left others
+    → left ≡ remove owed n → others ≡ remove indices n → IsQueue ys left others
 table-arrived n cost e xs queue ys owed left indices others table same inside new less fewer =
     let within = subst (λ l. n < length (owing l)) (sym same) inside in
     record {
@@ -290,9 +290,9 @@ table-arrived n cost e xs queue ys owed left indices others table same inside ne
 
 -- the table with a new process
 pub table-push : (xs queue ys : List Process) (x : Process) (index : ℕ) (owed more indices others : List ℕ)
-    → IsTable xs owed indices → xs ≡ queue → holds x.vpid queue ≡ false → length queue < QUEUE_LIMIT
+    → IsQueue xs owed indices → xs ≡ queue → holds x.vpid queue ≡ false → length queue < QUEUE_LIMIT
     → index ≡ length xs → ys ≡ xs ++ x ∷ [] → more ≡ owed ++ owing (x ∷ [])
-    → others ≡ indices ++ owing_from index (x ∷ []) → IsTable ys more others
+    → others ≡ indices ++ owing_from index (x ∷ []) → IsQueue ys more others
 table-push xs queue ys x index owed more indices others table same new fits last joined longer further =
     let size : length xs ≡ length queue = ap length same in
     let long : length ys ≡ length xs + 1 = ap length joined ∙ length-append xs (x ∷ []) in
@@ -359,7 +359,7 @@ none-ready None left queue ready = refl
 none-ready (Some v) left queue ready = let e : Over v ≡ Ready ready.0 = ready.1 in cc
 
 going-at : (xs : List Process) (before : ℕ) (new : CoreView) (p : Process) (turn : Settled)
-    → first_of xs ≡ Some p → IsTrue (holds 1 xs)
+    → head_of xs ≡ Some p → IsTrue (holds 1 xs)
     → before < length xs → new.queue ≡ queue_at xs turn → new.blocked ≡ blocked_after before turn
     → verdict_after p.vpid new.blocked (length new.queue) turn ≡ None → GoesOn new
 going-at [] before new p turn first held below queue blocked none = absurd (omega arith)
@@ -372,7 +372,7 @@ going-at (x ∷ rest) before new p turn first held below queue blocked none =
     }
 
 -- the run goes on where there is no verdict
-pub going-after : (old new : CoreView) (p : Process) (turn : Settled) → first_of old.queue ≡ Some p → GoesOn old
+pub going-after : (old new : CoreView) (p : Process) (turn : Settled) → head_of old.queue ≡ Some p → GoesOn old
     → new.queue ≡ queue_at old.queue turn → new.blocked ≡ blocked_after old.blocked turn
     → new.verdict ≡ verdict_after p.vpid new.blocked (length new.queue) turn → new.verdict ≡ None → GoesOn new
 going-after old new p turn first going queue blocked verdict none =

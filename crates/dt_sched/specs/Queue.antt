@@ -12,7 +12,7 @@ owing_from index (p ∷ ps) =
     if is_owing p.phase then index ∷ owing_from (index + 1) ps else owing_from (index + 1) ps
 
 -- processes, and those of them that owe a segment, with the index of each
-pub record IsTable (processes : List Process) (owed indices : List ℕ) : Type 0 where
+pub record IsQueue (processes : List Process) (owed indices : List ℕ) : Type 0 where
   pub each_once : IsTrue (each_once processes)
   pub few : length processes ≤ QUEUE_LIMIT
   pub exact : owed ≡ owing processes
@@ -25,14 +25,14 @@ pub record HasRoom (processes_room owed_room indices_room : ℕ) : Type 0 where
   pub indices : QUEUE_LIMIT ≤ indices_room
 
 -- the process at the head
-abbrev pub first_of : List Process → Option Process
-first_of [] = None
-first_of (p ∷ ps) = Some p
+abbrev pub head_of : List Process → Option Process
+head_of [] = None
+head_of (p ∷ ps) = Some p
 
 -- there is a head, and what its turn costs is known
-abbrev pub is_ready : List Process → Bool
-is_ready [] = false
-is_ready (p ∷ ps) = not (is_owing p.phase)
+abbrev pub head_is_ready : List Process → Bool
+head_is_ready [] = false
+head_is_ready (p ∷ ps) = not (is_owing p.phase)
 
 -- the queue after a turn of its head
 abbrev pub queue_at : List Process → Settled → List Process

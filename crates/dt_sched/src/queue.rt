@@ -4,7 +4,7 @@ ghost use Rattle.std.specs.Prelude.{map, if◌then◌else◌, ◌==◌};
 ghost use Rattle.std.specs.List.{slice_index_or};
 ghost use Rattle.dt_sched.specs.Core.{owes, holds, each_once, owing, waits, arrived_at, is_owing, is_waiting, has_room};
 ghost use Rattle.dt_sched.specs.declared.queue.TheConstants.{QUEUE_LIMIT};
-ghost use Rattle.dt_sched.specs.Queue.{first_of, is_ready, queue_at, moved_up, owing_from};
+ghost use Rattle.dt_sched.specs.Queue.{head_of, head_is_ready, queue_at, moved_up, owing_from};
 
 use crate::process::{Phase, Process};
 use crate::settled::Settled;
@@ -45,14 +45,14 @@ impl Model for Queue {
     ghost use Rattle.std.specs.Prelude.{List, vec_capacity};
     ghost use Rattle.std.specs.VecDeque.{deque_capacity};
     ghost use Rattle.dt_sched.specs.declared.process.Process.{Process};
-    ghost use Rattle.dt_sched.specs.Queue.{IsTable, HasRoom};
+    ghost use Rattle.dt_sched.specs.Queue.{IsQueue, HasRoom};
 
     ghost Value = { List Process };
 
     ghost view = { λ q. q.processes.items };
 
     ghost invariant = { λ q. record {
-      table : IsTable q.processes.items q.owed.items q.indices.items;
+      table : IsQueue q.processes.items q.owed.items q.indices.items;
       room : HasRoom (deque_capacity q.processes) (vec_capacity q.owed) (vec_capacity q.indices);
     } };
 }
@@ -144,7 +144,7 @@ impl Queue {
 
     /// The head: the process whose turn it is.
     pub fn first(&self) -> Option<Process>
-        ensures { result ≡ first_of self.now }
+        ensures { result ≡ head_of self.now }
     {
         self.processes.front().copied()
     }
@@ -164,14 +164,14 @@ impl Queue {
         requires { index < length (owing self.old) }
         ensures { self.new ≡ map (arrived_at (slice_index_or (owing self.old) index 0) cost) self.old }
     {
-        let place = self.indices.remove(index);
+        let at = self.indices.remove(index);
         self.owed.remove(index);
-        self.processes[place].phase = Phase::Arrived(cost);
+        self.processes[at].phase = Phase::Arrived(cost);
     }
 
     // Takes the head away, whose segment has arrived.
     fn take(&mut self) -> Process
-        requires { IsTrue (is_ready self.old) }
+        requires { IsTrue (head_is_ready self.old) }
         ensures first { self.old ≡ result ∷ self.new }
         ensures apart { holds result.vpid self.new ≡ false }
         ensures room { length self.new < QUEUE_LIMIT }
@@ -220,7 +220,7 @@ impl Queue {
     /// Moves the head to the tail, and a child behind it, or takes it away.
     #[tactic(auto, using(crate::proofs::Tables::at_the_tail))]
     pub fn settle(&mut self, turn: Settled)
-        requires ready { IsTrue (is_ready self.old) }
+        requires ready { IsTrue (head_is_ready self.old) }
         requires room { IsTrue (has_room self.old turn) }
         ensures { self.new ≡ queue_at self.old turn }
     {

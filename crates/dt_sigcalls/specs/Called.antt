@@ -30,5 +30,5 @@ told_then g pages next (Err miss) = refused g pages BadAddress
 told_then g pages next (Ok told) = record { signals = next; pages = told; answer = Value 0 }
 
 -- the pages with these bytes in a buffer, unless its address is 0
-abbrev pub told : List PageView → ℕ → List ℕ → Result (List PageView) Miss
-told pages address bytes = if address == 0 then Ok pages else stored pages address bytes
+abbrev pub stored_unless_null : List PageView → ℕ → List ℕ → Result (List PageView) Miss
+stored_unless_null pages address bytes = if address == 0 then Ok pages else stored pages address bytes

@@ -12,7 +12,7 @@ use Rattle.dt_signals.specs.declared.signals.Sig.{Sig}
 use Rattle.dt_signals.specs.Frame.{word_in}
 use Rattle.dt_signals.specs.Signals.{action_of, is_signal, with_action}
 use Rattle.dt_sigcalls.specs.declared.numbers.TheConstants.{SIGACTION_SIZE, SA_HANDLER, SA_FLAGS, SA_MASK}
-use Rattle.dt_sigcalls.specs.Called.{Called, refused, told, told_then}
+use Rattle.dt_sigcalls.specs.Called.{Called, refused, stored_unless_null, told_then}
 
 -- what a process does about these signals can't be changed
 abbrev pub is_fixed : ℕ → Bool
@@ -37,15 +37,15 @@ abbrev pub new_action : List PageView → ℕ → Result (Option Action) Miss
 new_action pages address = if address == 0 then Ok None else action_by (load pages READ address SIGACTION_SIZE)
 
 -- with a new action of a signal, if there is one
-abbrev pub with_new : ℕ → Option Action → Sig → Sig
-with_new signal None g = g
-with_new signal (Some action) g = with_action signal action g
+abbrev pub with_new_action : ℕ → Option Action → Sig → Sig
+with_new_action signal None g = g
+with_new_action signal (Some action) g = with_action signal action g
 
 -- the old action is put into its buffer, and the new one takes its place; EFAULT where the new one can't be read
 abbrev pub by_new : Sig → List PageView → ℕ → ℕ → Result (Option Action) Miss → Called
 by_new g pages signal old (Err miss) = refused g pages BadAddress
 by_new g pages signal old (Ok action) =
-    told_then g pages (with_new signal action g) (told pages old (action_bytes (action_of g signal)))
+    told_then g pages (with_new_action signal action g) (stored_unless_null pages old (action_bytes (action_of g signal)))
 
 -- rt_sigaction(2): EINVAL for a set of another size, for a number that is no signal's, and for a new action of SIGKILL
 -- or SIGSTOP

@@ -1,7 +1,7 @@
 -- rt_sigprocmask(2)
 use Rattle.std.specs.Prelude.{ℕ, ◌-◌, ◌^◌, ◌==◌, not, nat_lt, bit_and, bit_or, List, Option, None, Some, Result, Ok, Err, if◌then◌else◌}
 use Rattle.dt_base.specs.Abi.{low_word}
-use Rattle.dt_base.specs.Fields.{little_endian, low_bytes}
+use Rattle.dt_base.specs.Fields.{low_bytes}
 use Rattle.dt_base.specs.declared.errno.Errno.TheVariants.{Inval, Fault as BadAddress}
 use Rattle.dt_space.specs.declared.access.Miss.{Miss}
 use Rattle.dt_space.specs.declared.access.TheConstants.{READ}
@@ -9,7 +9,7 @@ use Rattle.dt_space.specs.Space.{PageView, load, loaded_number}
 use Rattle.dt_signals.specs.declared.signals.Sig.{Sig}
 use Rattle.dt_signals.specs.Signals.{with_mask}
 use Rattle.dt_base.specs.declared.abi.TheConstants.{SIGSET_SIZE, SIG_BLOCK, SIG_UNBLOCK, SIG_SETMASK}
-use Rattle.dt_sigcalls.specs.Called.{Called, refused, told, told_then}
+use Rattle.dt_sigcalls.specs.Called.{Called, refused, stored_unless_null, told_then}
 
 -- the set of a number that was read
 abbrev pub set_by : Result ℕ Miss → Result (Option ℕ) Miss
@@ -32,10 +32,10 @@ changed how set mask =
 -- these
 abbrev pub by_set : Sig → List PageView → ℕ → ℕ → Result (Option ℕ) Miss → Called
 by_set g pages how old (Err miss) = refused g pages BadAddress
-by_set g pages how old (Ok None) = told_then g pages g (told pages old (low_bytes 8 g.mask))
+by_set g pages how old (Ok None) = told_then g pages g (stored_unless_null pages old (low_bytes 8 g.mask))
 by_set g pages how old (Ok (Some set)) =
     if nat_lt SIG_SETMASK how then refused g pages Inval
-    else told_then g pages (with_mask (changed how set g.mask) g) (told pages old (low_bytes 8 g.mask))
+    else told_then g pages (with_mask (changed how set g.mask) g) (stored_unless_null pages old (low_bytes 8 g.mask))
 
 -- rt_sigprocmask(2): EINVAL for a set of another size, EFAULT for one that can't be read
 unfoldable pub sigprocmask_of : Sig → List PageView → ℕ → ℕ → ℕ → ℕ → Called

@@ -9,32 +9,33 @@ use Rattle.dt_rv64.specs.declared.machine.Machine.{Machine}
 use Rattle.dt_space.specs.Space.{IsBytes}
 use Rattle.dt_space.proofs.Spaces.{IsBytes-low_bytes}
 use Rattle.dt_signals.specs.declared.numbers.TheConstants.{FRAME_SIZE, FRAME_PC, FRAME_REGISTERS, FRAME_MASK, SIGNO_SIZE}
-use Rattle.dt_signals.specs.Frame.{bytes_of, frame_of, word_in, words_in}
+use Rattle.dt_elf.specs.Stack.{word_bytes}
+use Rattle.dt_signals.specs.Frame.{frame_of, word_in, words_in}
 
-bytes_of-nil : bytes_of [] ≡ []
-unfolding bytes_of
+bytes_of-nil : word_bytes [] ≡ []
+unfolding word_bytes
 bytes_of-nil = refl
 
-pub bytes_of-cons : (word : ℕ) (words : List ℕ) → bytes_of (word ∷ words) ≡ low_bytes 8 word ++ bytes_of words
-unfolding bytes_of
+pub bytes_of-cons : (word : ℕ) (words : List ℕ) → word_bytes (word ∷ words) ≡ low_bytes 8 word ++ word_bytes words
+unfolding word_bytes
 bytes_of-cons word words = refl
 
-bytes_of-append : (words more : List ℕ) → bytes_of (words ++ more) ≡ bytes_of words ++ bytes_of more
+bytes_of-append : (words more : List ℕ) → word_bytes (words ++ more) ≡ word_bytes words ++ word_bytes more
 bytes_of-append [] more = rw bytes_of-nil refl
-bytes_of-append (word ∷ words) more = rw (bytes_of-cons word (words ++ more), bytes_of-cons word words, bytes_of-append words more) (sym (append_assoc (low_bytes 8 word) (bytes_of words) (bytes_of more)))
+bytes_of-append (word ∷ words) more = rw (bytes_of-cons word (words ++ more), bytes_of-cons word words, bytes_of-append words more) (sym (append_assoc (low_bytes 8 word) (word_bytes words) (word_bytes more)))
 
-pub length-bytes_of : (words : List ℕ) → length (bytes_of words) ≡ 8 * length words
+pub length-bytes_of : (words : List ℕ) → length (word_bytes words) ≡ 8 * length words
 length-bytes_of [] = rw bytes_of-nil refl
 length-bytes_of (word ∷ words) =
-    let long = ap length (bytes_of-cons word words) ∙ length-append (low_bytes 8 word) (bytes_of words) in
+    let long = ap length (bytes_of-cons word words) ∙ length-append (low_bytes 8 word) (word_bytes words) in
     let more = length-bytes_of words in
     let eight = length-low_bytes 8 word in
     omega (arith, long, more, eight)
 
 -- one word more
-bytes_of-more : (words : List ℕ) (i d : ℕ) → i < length words → bytes_of (take (i + 1) words) ≡ bytes_of (take i words) ++ low_bytes 8 (get_or words i d)
+bytes_of-more : (words : List ℕ) (i d : ℕ) → i < length words → word_bytes (take (i + 1) words) ≡ word_bytes (take i words) ++ low_bytes 8 (get_or words i d)
 bytes_of-more words i d within =
-    ap bytes_of (take_more words i d within) ∙ bytes_of-append (take i words) (get_or words i d ∷ []) ∙ rw (bytes_of-cons (get_or words i d) [], bytes_of-nil, append-nil (low_bytes 8 (get_or words i d))) refl
+    ap word_bytes (take_more words i d within) ∙ bytes_of-append (take i words) (get_or words i d ∷ []) ∙ rw (bytes_of-cons (get_or words i d) [], bytes_of-nil, append-nil (low_bytes 8 (get_or words i d))) refl
 
 -- a field behind what was written, in bytes that follow it
 put-next : (width value at : ℕ) (prefix rest : List ℕ) → length prefix ≡ at → with_field width (prefix ++ rest) at value ≡ (prefix ++ low_bytes width value) ++ drop width rest
@@ -53,21 +54,21 @@ field-behind width value from at old bytes within is =
     next ∙ rw (rest, append_assoc (take from old) bytes (low_bytes width value)) refl
 
 -- the registers that were written so far, and one more
-pub registers-more : (old registers : List ℕ) (index d : ℕ) → FRAME_REGISTERS ≤ length old → 1 ≤ index → index < length registers → with_field 8 (overwritten old FRAME_REGISTERS (bytes_of (take (index - 1) (drop 1 registers)))) (FRAME_REGISTERS + 8 * (index - 1)) (get_or registers index d) ≡ overwritten old FRAME_REGISTERS (bytes_of (take (index + 1 - 1) (drop 1 registers)))
+pub registers-more : (old registers : List ℕ) (index d : ℕ) → FRAME_REGISTERS ≤ length old → 1 ≤ index → index < length registers → with_field 8 (overwritten old FRAME_REGISTERS (word_bytes (take (index - 1) (drop 1 registers)))) (FRAME_REGISTERS + 8 * (index - 1)) (get_or registers index d) ≡ overwritten old FRAME_REGISTERS (word_bytes (take (index + 1 - 1) (drop 1 registers)))
 registers-more old registers index d room some within =
     let words = drop 1 registers in
     let few : index - 1 < length words = omega (arith, length-drop 1 registers) in
-    let long : length (bytes_of (take (index - 1) words)) ≡ 8 * (index - 1) = omega (arith, length-bytes_of (take (index - 1) words), length-take-le (index - 1) words (omega arith)) in
+    let long : length (word_bytes (take (index - 1) words)) ≡ 8 * (index - 1) = omega (arith, length-bytes_of (take (index - 1) words), length-take-le (index - 1) words (omega arith)) in
     let word : get_or registers index d ≡ get_or words (index - 1) d = sym (get_or-drop 1 registers (index - 1) d ∙ ap (λ (i : ℕ). get_or registers i d) (omega arith)) in
-    let next = field-behind 8 (get_or registers index d) FRAME_REGISTERS (FRAME_REGISTERS + 8 * (index - 1)) old (bytes_of (take (index - 1) words)) room (omega (arith, long)) in
+    let next = field-behind 8 (get_or registers index d) FRAME_REGISTERS (FRAME_REGISTERS + 8 * (index - 1)) old (word_bytes (take (index - 1) words)) room (omega (arith, long)) in
     let count : index + 1 - 1 ≡ index - 1 + 1 = omega arith in
     next ∙ ap (overwritten old FRAME_REGISTERS) (rw (count, bytes_of-more words (index - 1) d few, word) refl)
 
-pub registers-none : (old : List ℕ) (words : List ℕ) → overwritten old FRAME_REGISTERS (bytes_of (take 0 words)) ≡ old
+pub registers-none : (old : List ℕ) (words : List ℕ) → overwritten old FRAME_REGISTERS (word_bytes (take 0 words)) ≡ old
 registers-none old words = rw bytes_of-nil (rw (append-nil (take FRAME_REGISTERS old)) (take-append-drop FRAME_REGISTERS old))
 
-pub registers-all : (old registers : List ℕ) (index : ℕ) → length registers ≤ index → overwritten old FRAME_REGISTERS (bytes_of (take (index - 1) (drop 1 registers))) ≡ overwritten old FRAME_REGISTERS (bytes_of (drop 1 registers))
-registers-all old registers index all = ap (λ (words : List ℕ). overwritten old FRAME_REGISTERS (bytes_of words)) (take_all (index - 1) (drop 1 registers) (omega (arith, length-drop 1 registers)))
+pub registers-all : (old registers : List ℕ) (index : ℕ) → length registers ≤ index → overwritten old FRAME_REGISTERS (word_bytes (take (index - 1) (drop 1 registers))) ≡ overwritten old FRAME_REGISTERS (word_bytes (drop 1 registers))
+registers-all old registers index all = ap (λ (words : List ℕ). overwritten old FRAME_REGISTERS (word_bytes words)) (take_all (index - 1) (drop 1 registers) (omega (arith, length-drop 1 registers)))
 
 -- zeros behind what was written
 
@@ -157,20 +158,20 @@ IsBytes-both prefix rest = All-append (λ (b : ℕ). b < 256) prefix rest
 IsBytes-zeros : (count : ℕ) → IsBytes (replicate count 0)
 IsBytes-zeros count = All-replicate (λ (b : ℕ). b < 256) count 0 (omega arith)
 
-IsBytes-bytes_of : (words : List ℕ) → IsBytes (bytes_of words)
-unfolding bytes_of
+IsBytes-bytes_of : (words : List ℕ) → IsBytes (word_bytes words)
+unfolding word_bytes
 IsBytes-bytes_of [] = All-nil (λ (b : ℕ). b < 256)
-IsBytes-bytes_of (word ∷ words) = IsBytes-both (low_bytes 8 word) (bytes_of words) (IsBytes-low_bytes 8 word) (IsBytes-bytes_of words)
+IsBytes-bytes_of (word ∷ words) = IsBytes-both (low_bytes 8 word) (word_bytes words) (IsBytes-low_bytes 8 word) (IsBytes-bytes_of words)
 
 pub IsBytes-frame : (signal mask : ℕ) (m : Machine) → IsBytes (frame_of signal m mask)
 IsBytes-frame signal mask m =
     let last = replicate {A = ℕ} (FRAME_SIZE - FRAME_MASK - 8) 0 in
     let masked = low_bytes 8 mask ++ last in
-    let registers = bytes_of (drop 1 m.regs) ++ masked in
+    let registers = word_bytes (drop 1 m.regs) ++ masked in
     let counter = low_bytes 8 m.pc ++ registers in
     let zeros = replicate {A = ℕ} (FRAME_PC - SIGNO_SIZE) 0 in
     IsBytes-both (low_bytes SIGNO_SIZE signal) (zeros ++ counter) (IsBytes-low_bytes SIGNO_SIZE signal)
     (IsBytes-both zeros counter (IsBytes-zeros (FRAME_PC - SIGNO_SIZE))
     (IsBytes-both (low_bytes 8 m.pc) registers (IsBytes-low_bytes 8 m.pc)
-    (IsBytes-both (bytes_of (drop 1 m.regs)) masked (IsBytes-bytes_of (drop 1 m.regs))
+    (IsBytes-both (word_bytes (drop 1 m.regs)) masked (IsBytes-bytes_of (drop 1 m.regs))
     (IsBytes-both (low_bytes 8 mask) last (IsBytes-low_bytes 8 mask) (IsBytes-zeros (FRAME_SIZE - FRAME_MASK - 8))))))

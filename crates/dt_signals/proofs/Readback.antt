@@ -9,23 +9,23 @@ use Rattle.std.proofs.lemmas.Nat.{and_or_self}
 use Rattle.dt_base.specs.declared.limits.TheConstants.{PAGE_SIZE}
 use Rattle.dt_space.specs.declared.access.Miss.{Miss}
 use Rattle.dt_space.specs.declared.access.TheConstants.{READ, WRITE}
-use Rattle.dt_space.specs.Space.{PageView, IsPage, IsSpace, has, granted, page_at, byte_of, byte_at, low_byte, load}
+use Rattle.dt_space.specs.Space.{PageView, IsPage, IsSpace, has_right, granted, page_at, byte_of, byte_at, low_byte, load}
 use Rattle.dt_space.specs.Write.{write, stored}
 use Rattle.dt_space.specs.Written.{IsWritten}
 use Rattle.dt_space.proofs.Kept.{write-law}
 
 -- rights that can be given have with the right to write that to read
-has-read : (rights : ℕ) → granted rights ≡ rights → has rights WRITE ≡ true → has rights READ ≡ true
-has-read rights given writes = by-low (has (rights % 8) WRITE) refl
+has-read : (rights : ℕ) → granted rights ≡ rights → has_right rights WRITE ≡ true → has_right rights READ ≡ true
+has-read rights given writes = by-low (has_right (rights % 8) WRITE) refl
   where
-    by-low : (b : Bool) → has (rights % 8) WRITE ≡ b → has rights READ ≡ true
+    by-low : (b : Bool) → has_right (rights % 8) WRITE ≡ b → has_right rights READ ≡ true
     by-low true is =
         let with_read : bit_or (rights % 8) READ ≡ rights = sym (ap (λ (b : Bool). cond b (bit_or (rights % 8) READ) (rights % 8)) is) ∙ given in
         let read : bit_and rights READ ≡ READ = ap (λ (n : ℕ). bit_and n READ) (sym with_read) ∙ and_or_self READ (rights % 8) in
         rw read refl
     by-low false is =
         let same : rights % 8 ≡ rights = sym (ap (λ (b : Bool). cond b (bit_or (rights % 8) READ) (rights % 8)) is) ∙ given in
-        let clash : has rights WRITE ≡ false = ap (λ (n : ℕ). has n WRITE) (sym same) ∙ is in
+        let clash : has_right rights WRITE ≡ false = ap (λ (n : ℕ). has_right n WRITE) (sym same) ∙ is in
         absurd cc
 
 IsPageOrNone : Option PageView → Type 0
@@ -43,9 +43,9 @@ found-page (page ∷ pages) number are = elim (eqb_tells page.number number) [
 byte_of-read : (offset : ℕ) (page : Option PageView) → IsPageOrNone page → IsSome (byte_of WRITE offset page) → IsSome (byte_of READ offset page)
 unfolding IsPageOrNone
 byte_of-read offset None is some = absurd cc
-byte_of-read offset (Some page) is some = by-right (has page.rights WRITE) refl some
+byte_of-read offset (Some page) is some = by-right (has_right page.rights WRITE) refl some
   where
-    by-right : (b : Bool) → has page.rights WRITE ≡ b → IsSome (cond b (slice_get page.bytes offset) None) → IsSome (byte_of READ offset (Some page))
+    by-right : (b : Bool) → has_right page.rights WRITE ≡ b → IsSome (cond b (slice_get page.bytes offset) None) → IsSome (byte_of READ offset (Some page))
     by-right true writes there = rw (has-read page.rights is.rights writes) there
     by-right false writes there = absurd cc
 

@@ -3,20 +3,16 @@
 -- their own.
 use Rattle.std.specs.Prelude.{ℕ, zero, suc, ◌+◌, ◌-◌, ◌%◌, ◌^◌, List, [], ◌∷◌, ◌++◌, replicate, take, drop}
 use Rattle.dt_base.specs.Fields.{little_endian, low_bytes}
+use Rattle.dt_elf.specs.Stack.{word_bytes}
 use Rattle.dt_rv64.specs.declared.machine.Machine.{Machine}
 use Rattle.dt_signals.specs.declared.numbers.TheConstants.{FRAME_SIZE, FRAME_ALIGN, FRAME_PC, FRAME_REGISTERS, FRAME_MASK, SIGNO_SIZE}
-
--- the bytes of words of 64 bits, one after the other
-unfoldable pub bytes_of : List ℕ → List ℕ
-bytes_of [] = []
-bytes_of (word ∷ words) = low_bytes 8 word ++ bytes_of words
 
 -- the frame of a handler of a signal: the number, and zeros behind it; the program counter, the registers, the mask, and
 -- zeros to its end
 abbrev pub frame_of : ℕ → Machine → ℕ → List ℕ
 frame_of signal m mask =
     low_bytes SIGNO_SIZE signal ++ (replicate (FRAME_PC - SIGNO_SIZE) 0
-    ++ (low_bytes 8 m.pc ++ (bytes_of (drop 1 m.regs)
+    ++ (low_bytes 8 m.pc ++ (word_bytes (drop 1 m.regs)
     ++ (low_bytes 8 mask ++ replicate (FRAME_SIZE - FRAME_MASK - 8) 0))))
 
 -- where the frame stands for a stack pointer: 400 bytes below it, rounded down to a multiple of 16; addresses wrap

@@ -70,6 +70,7 @@ unfoldable pub signals_from : ℕ → ℕ → List ℕ
 signals_from signal zero = []
 signals_from signal (suc count) = signal ∷ signals_from (signal + 1) count
 
+-- each signal, from 1 on
 abbrev pub all_signals : List ℕ
 all_signals = signals_from 1 SIGNAL_LIMIT
 

@@ -2,7 +2,8 @@
 ghost use Rattle.std.specs.Prelude.{◌≡◌, ℕ, ◌≤◌, ◌<◌, ◌+◌, ◌^◌, ◌∷◌, length, drop, slice_index};
 ghost use Rattle.dt_base.specs.Bytes.{overwritten};
 ghost use Rattle.dt_space.specs.Space.{IsBytes};
-ghost use Rattle.dt_signals.specs.Frame.{frame_of, frame_address, bytes_of, word_in, words_in};
+ghost use Rattle.dt_elf.specs.Stack.{word_bytes};
+ghost use Rattle.dt_signals.specs.Frame.{frame_of, frame_address, word_in, words_in};
 
 use crate::numbers::{FRAME_ALIGN, FRAME_MASK, FRAME_PC, FRAME_REGISTERS, FRAME_SIZE};
 use dt_base::{get64, put32, put64};
@@ -23,8 +24,8 @@ pub(crate) fn frame_of(signal: u8, machine: &Machine, mask: u64) -> [u8; 400]
 
 // Puts all registers but x0 into a frame.
 fn put_registers(frame: &mut [u8; 400], registers: &[u64; 32])
-    ensures put { frame.new ≡ overwritten frame.old FRAME_REGISTERS (bytes_of (drop 1 registers.now)) }
-    ensures up_to_mask { FRAME_REGISTERS + length (bytes_of (drop 1 registers.now)) ≡ FRAME_MASK }
+    ensures put { frame.new ≡ overwritten frame.old FRAME_REGISTERS (word_bytes (drop 1 registers.now)) }
+    ensures up_to_mask { FRAME_REGISTERS + length (word_bytes (drop 1 registers.now)) ≡ FRAME_MASK }
 {
     for index in 1..32 {
         put64(frame, FRAME_REGISTERS + 8 * (index - 1), registers[index]);

@@ -7,7 +7,7 @@ use Rattle.std.proofs.lemmas.List.{length-append, length-take-le, length-drop, g
 use Rattle.std.proofs.lemmas.List.Elements.{All-head, All-tail, All-weaker}
 use Rattle.std.proofs.lemmas.List.Filters.{length-filter_both}
 use Rattle.dt_space.specs.Space.{PageView, IsSpace, page_at}
-use Rattle.dt_space.specs.Ranges.{is_in, unmapped, first_missing, with_rights}
+use Rattle.dt_space.specs.Ranges.{is_in_range, unmapped, first_missing, with_rights}
 use Rattle.dt_space.specs.Gaps.{pages_in, is_free, first_free, lowest_gap, IsLowestGap, HasNoGap}
 use Rattle.dt_space.specs.inner.Index.{number_at}
 use Rattle.dt_space.specs.inner.Gap.{IsLower, IsRun}
@@ -54,29 +54,29 @@ map-same f [] same = refl
 map-same f (x ∷ pages) same = rw (All-head (λ page. f page ≡ page) x pages same, map-same f pages (All-tail (λ page. f page ≡ page) x pages same)) refl
 
 -- a page outside of the range keeps its rights, and one in it is given these
-rights-out : (first count rights : ℕ) (page : PageView) → is_in first count page.number ≡ false → with_rights first count rights page ≡ page
+rights-out : (first count rights : ℕ) (page : PageView) → is_in_range first count page.number ≡ false → with_rights first count rights page ≡ page
 rights-out first count rights page out = rw out refl
 
-rights-in : (first count rights : ℕ) (page : PageView) → is_in first count page.number ≡ true → with_rights first count rights page ≡ record page { rights = rights }
+rights-in : (first count rights : ℕ) (page : PageView) → is_in_range first count page.number ≡ true → with_rights first count rights page ≡ record page { rights = rights }
 rights-in first count rights page here = rw here refl
 
 module _ (pages : List PageView) (first count start end : ℕ) (run : IsRun pages first count start end) where
-  pub inside : (i : ℕ) → start ≤ i → i < end → is_in first count (number_at pages i) ≡ true
+  pub inside : (i : ℕ) → start ≤ i → i < end → is_in_range first count (number_at pages i) ≡ true
   inside i from to =
       let lt : i < length pages = omega (arith, run.upper.within) in
       let low = run.lower.above i from lt in
       let high = run.upper.below i to in
       grind (arith, nat_tests)
 
-  under : (i : ℕ) → i < start → is_in first count (number_at pages i) ≡ false
+  under : (i : ℕ) → i < start → is_in_range first count (number_at pages i) ≡ false
   under i lt = let low = run.lower.below i lt in grind (arith, nat_tests)
 
-  over : (i : ℕ) → end ≤ i → i < length pages → is_in first count (number_at pages i) ≡ false
+  over : (i : ℕ) → end ≤ i → i < length pages → is_in_range first count (number_at pages i) ≡ false
   over i from lt = let high = run.upper.above i from lt in grind (arith, nat_tests)
 
   -- without the range's pages
   pub run-unmapped : unmapped pages first count ≡ take start pages ++ drop end pages
-  run-unmapped = filter-cut (λ (page : PageView). not (is_in first count page.number)) pages start end run.ordered
+  run-unmapped = filter-cut (λ (page : PageView). not (is_in_range first count page.number)) pages start end run.ordered
       (λ i lt within. ap not (under i lt))
       (λ i from to within. ap not (inside i from to))
       (λ i from within. ap not (over i from within))
@@ -84,27 +84,27 @@ module _ (pages : List PageView) (first count start end : ℕ) (run : IsRun page
   -- how many they are
   pub run-length : end - start ≡ length (pages_in pages first count)
   run-length =
-      let both = length-filter_both (λ (page : PageView). is_in first count page.number) (λ (page : PageView). not (is_in first count page.number)) (λ x. refl) pages in
+      let both = length-filter_both (λ (page : PageView). is_in_range first count page.number) (λ (page : PageView). not (is_in_range first count page.number)) (λ x. refl) pages in
       let long : length (unmapped pages first count) ≡ start + (length pages - end) = ap length run-unmapped ∙ length-append (take start pages) (drop end pages) ∙ rw (length-take-le start pages run.lower.within, length-drop end pages) refl in
       omega (arith, both, long, run.ordered, run.upper.within)
 
-  low-out : All (λ page. is_in first count page.number ≡ false) (take start pages)
+  low-out : All (λ page. is_in_range first count page.number ≡ false) (take start pages)
   low-out i d within =
       let long : length (take start pages) ≡ start = length-take-le start pages run.lower.within in
       let lt : i < start = omega (arith, within, long) in
       rw (get_or-take start pages i d lt, get_or_default pages i d no_page (omega (arith, lt, run.lower.within))) (under i lt)
 
-  high-out : All (λ page. is_in first count page.number ≡ false) (drop end pages)
+  high-out : All (λ page. is_in_range first count page.number ≡ false) (drop end pages)
   high-out i d within =
       let lt : end + i < length pages = omega (arith, within, length-drop end pages) in
       rw (get_or-drop end pages i d, get_or_default pages (end + i) d no_page lt) (over (end + i) (omega arith) lt)
 
   -- the pages around the range keep their rights
   pub low-kept : (rights : ℕ) → map (with_rights first count rights) (take start pages) ≡ take start pages
-  low-kept rights = map-same (with_rights first count rights) (take start pages) (All-weaker (λ page. is_in first count page.number ≡ false) (λ page. with_rights first count rights page ≡ page) (rights-out first count rights) (take start pages) low-out)
+  low-kept rights = map-same (with_rights first count rights) (take start pages) (All-weaker (λ page. is_in_range first count page.number ≡ false) (λ page. with_rights first count rights page ≡ page) (rights-out first count rights) (take start pages) low-out)
 
   pub high-kept : (rights : ℕ) → map (with_rights first count rights) (drop end pages) ≡ drop end pages
-  high-kept rights = map-same (with_rights first count rights) (drop end pages) (All-weaker (λ page. is_in first count page.number ≡ false) (λ page. with_rights first count rights page ≡ page) (rights-out first count rights) (drop end pages) high-out)
+  high-kept rights = map-same (with_rights first count rights) (drop end pages) (All-weaker (λ page. is_in_range first count page.number ≡ false) (λ page. with_rights first count rights page ≡ page) (rights-out first count rights) (drop end pages) high-out)
 
   -- the page that a loop over the range comes to, the pages before it given these rights
   pub rights-at : (rights : ℕ) (now : List PageView) (i : ℕ) → start ≤ i → i < end → now ≡ map (with_rights first count rights) (take i pages) ++ drop i pages → (page : PageView) → page ≡ get_or now i page → with_rights first count rights page ≡ record page { rights = rights }
@@ -113,7 +113,7 @@ module _ (pages : List PageView) (first count start end : ℕ) (run : IsRun page
       let long : length (map (with_rights first count rights) (take i pages)) ≡ i = length-map (take i pages) (with_rights first count rights) ∙ length-take-le i pages (omega arith) in
       let here : page ≡ get_or pages i page = read ∙ ap (λ (l : List PageView). get_or l i page) (is ∙ rw (drop_more pages i page lt) refl) ∙ get_or_at (map (with_rights first count rights) (take i pages)) (get_or pages i page) (drop (i + 1) pages) page i long in
       let number : page.number ≡ number_at pages i = ap (λ (p : PageView). p.number) (here ∙ get_or_default pages i page no_page lt) in
-      rights-in first count rights page (ap (is_in first count) number ∙ inside i from to)
+      rights-in first count rights page (ap (is_in_range first count) number ∙ inside i from to)
 
   -- and where it ends
   pub protected-end : (rights : ℕ) (now : List PageView) (i : ℕ) → i ≡ end → now ≡ map (with_rights first count rights) (take i pages) ++ drop i pages → now ≡ map (with_rights first count rights) pages

@@ -10,7 +10,7 @@ use Rattle.dt_base.specs.Fields.{low_bytes}
 use Rattle.dt_base.specs.declared.limits.TheConstants.{PAGE_SIZE, PAGE_LIMIT}
 use Rattle.dt_space.specs.Space.{PageView, granted, IsBytes, IsPage, IsSpace}
 use Rattle.dt_space.specs.Pages.{EndsBelow}
-use Rattle.dt_space.specs.Ranges.{is_in, with_rights}
+use Rattle.dt_space.specs.Ranges.{is_in_range, with_rights}
 use Rattle.dt_space.specs.Write.{set_in, set_byte, write}
 
 abbrev pub Rises : List PageView → Type 0
@@ -82,14 +82,14 @@ IsSpace-filter test pages is = record {
 
 -- a page with other rights
 pub with_rights-number : (first count rights : ℕ) (page : PageView) → (with_rights first count rights page).number ≡ page.number
-with_rights-number first count rights page = by-test (is_in first count page.number)
+with_rights-number first count rights page = by-test (is_in_range first count page.number)
   where
     by-test : (b : Bool) → (cond b (record page { rights = rights }) page).number ≡ page.number
     by-test true = refl
     by-test false = refl
 
 with_rights-page : (first count rights : ℕ) → granted rights ≡ rights → (page : PageView) → IsPage page → IsPage (with_rights first count rights page)
-with_rights-page first count rights given page is = by-test (is_in first count page.number)
+with_rights-page first count rights given page is = by-test (is_in_range first count page.number)
   where
     by-test : (b : Bool) → IsPage (cond b (record page { rights = rights }) page)
     by-test true = record { low = is.low; rights = given; whole = is.whole; bytes = is.bytes }

@@ -7,7 +7,7 @@ use Rattle.dt_tree.specs.Table.{Table}
 use Rattle.dt_fds.specs.declared.desc.Desc.{Desc}
 use Rattle.dt_fds.specs.declared.desc.Slot.{Slot}
 use Rattle.dt_fds.specs.declared.files.Files.{Files}
-use Rattle.dt_fds.specs.Descriptions.{Descriptions, inode_of, pipe_of, desc_of, slot_at, description_at}
+use Rattle.dt_fds.specs.Descriptions.{Descriptions, inode_of, pipe_of, slot_description, slot_at, description_at}
 use Rattle.dt_fds.specs.Backs.{AllIn, HasEnds, IsBacked, IsIn, at}
 use Rattle.dt_fds.proofs.Backing.{live-in}
 use Rattle.dt_pipes.specs.Table.{pipes_of}
@@ -22,9 +22,9 @@ live-described v f p fd h = by_slot (slot_at f p fd)
     by_desc None is = tt
     by_desc (Some desc) is = live-in v desc.kind is
 
-    by_slot : (slot : Option Slot) → IfSome (option_and_then (desc_of f) slot) (λ desc. IfSome (inode_of desc.kind) (λ n. IsLive v n))
+    by_slot : (slot : Option Slot) → IfSome (option_and_then (slot_description f) slot) (λ desc. IfSome (inode_of desc.kind) (λ n. IsLive v n))
     by_slot None = tt
-    by_slot (Some slot) = by_desc (desc_of f slot) (h slot.number)
+    by_slot (Some slot) = by_desc (slot_description f slot) (h slot.number)
 
 -- the pipe of each end that is open is in the table
 pub has_ends : (f : Files) (t : Table) (w : World) → IsBacked (at f t w) → HasEnds f

@@ -107,9 +107,9 @@ pub enum Call {
 pub enum Query {
     /// What a descriptor refers to.
     DescriptionOf(u32),
-    /// Its offset.
+    /// Where its next read or write goes on.
     OffsetOf(u32),
-    /// Its flags, of O_APPEND and O_NONBLOCK.
+    /// Which of O_APPEND and O_NONBLOCK it has.
     FlagsOf(u32),
     /// Its close-on-exec bit.
     CloexecOf(u32),
@@ -142,7 +142,7 @@ pub enum Outcome {
     Node { inode: u64, size: u64 },
     /// What a description is of, and its access mode.
     Description(DescKind, u8),
-    /// An offset.
+    /// Where the next read or write goes on.
     Offset(u64),
     /// The flags of a description, of O_APPEND and O_NONBLOCK.
     StatusFlags(u32),

@@ -2,12 +2,12 @@
 use Rattle.std.specs.Prelude.{ℕ, ◌≤◌, length}
 use Rattle.dt_host.specs.declared.kind.NodeKind.{NodeKind}
 use Rattle.dt_host.specs.declared.kind.NodeKind.TheVariants.{File, Dir, Pipe, Link}
-use Rattle.dt_host.specs.World.{World, IsFile, IsDir, IsLink, IsPipe, held}
+use Rattle.dt_host.specs.World.{World, IsFile, IsDir, IsLink, IsPipe, pipe_bytes}
 
 -- a pipe that holds at most so many bytes
 pub record HoldsAtMost (w : World) (n limit : ℕ) : Type 0 where
   pub pipe : IsPipe w n
-  pub most : length (held w n) ≤ limit
+  pub most : length (pipe_bytes w n) ≤ limit
 
 -- the number is one of that kind, which holds at most so many bytes if it is a pipe
 abbrev pub IsOf : World → NodeKind → ℕ → ℕ → Type 0

@@ -1,4 +1,7 @@
 // The pids of a host in memory: which one a word chooses, and what a failing call leaves.
+ghost use Rattle.std.specs.Prelude.{◌≡◌};
+ghost use Rattle.dt_host.specs.World.{ArePids};
+
 use crate::ask::number;
 use crate::pids::PidCall::{Faults, Greatest, New, NewAndDrop};
 use crate::scene::Script;
@@ -57,8 +60,16 @@ fn make(host: &mut MemHost, call: PidCall) -> Result<Outcome, HostErr> {
         New => number(host.new_pid()),
         NewAndDrop => number(drop_new(host)),
         Greatest(count) => number(greatest(host, count)),
-        Faults => Ok(Number(host.faults())),
+        Faults => Ok(Number(faults_of(host))),
     }
+}
+
+// How many calls of a host failed, whichever host it is: the pids that are live there have 64 bits.
+fn faults_of<H: Host>(host: &H) -> u64
+    ensures value { result ≡ H.count host.now }
+    ensures pids { ArePids (H.view host.now).pids }
+{
+    host.faults()
 }
 
 // Makes a pid and lets it go.

@@ -1,6 +1,6 @@
 // What is done with a pipe of a host.
 ghost use Rattle.std.specs.Prelude.{◌≡◌, ◌+◌, ◌<◌, ◌≤◌, length, IfOk, IsTrue};
-ghost use Rattle.dt_host.specs.World.{IsPipe, held};
+ghost use Rattle.dt_host.specs.World.{IsPipe, pipe_bytes};
 ghost use Rattle.dt_tests_host.specs.Subject.{HoldsAtMost};
 
 use crate::ask::{brought, count, done, where_equal};
@@ -10,10 +10,10 @@ use dt_host::{Host, HostErr, NodeKind, put_whole, take_whole};
 use dt_memhost::MemHost;
 use std::alloc::Global;
 
-/// Makes a pipe.
+/// A new pipe at the host, by its number.
 pub fn make_pipe(host: &mut MemHost) -> Result<u64, HostErr>
     ensures pipe { IfOk result (λ n. IsPipe host.new.view n) }
-    ensures empty { IfOk result (λ n. length (held host.new.view n) ≡ 0) }
+    ensures empty { IfOk result (λ n. length (pipe_bytes host.new.view n) ≡ 0) }
 {
     host.make(NodeKind::Pipe)
 }
@@ -23,15 +23,15 @@ pub fn make(
     host: &mut MemHost,
     alloc: Global,
     pipe: u64,
-    filled: &mut u64,
+    bound: &mut u64,
     call: PipeCall,
 ) -> Result<Outcome, HostErr>
-    requires { HoldsAtMost host.old.view pipe filled.old }
-    ensures { HoldsAtMost host.new.view pipe filled.new }
+    requires { HoldsAtMost host.old.view pipe bound.old }
+    ensures { HoldsAtMost host.new.view pipe bound.new }
 {
     match call {
-        PipeCall::Put(bytes) => put_in_room(host, pipe, filled, bytes),
-        PipeCall::PutAll(bytes) => put_all_in_room(host, pipe, filled, bytes),
+        PipeCall::Put(bytes) => put_in_room(host, pipe, bound, bytes),
+        PipeCall::PutAll(bytes) => put_all_in_room(host, pipe, bound, bytes),
         PipeCall::Take(most, bytes) => brought(take(host, alloc, pipe, most), bytes),
         PipeCall::TakeAll(most, bytes) => brought(take_all(host, alloc, pipe, most), bytes),
         PipeCall::TakeInto(before, after) => take_into(host, alloc, pipe, before, after),
@@ -39,29 +39,29 @@ pub fn make(
 }
 
 // Whether bytes have room beside so many.
-fn has_room(filled: u64, bytes: &[u8]) -> bool
-    ensures { IsTrue result → filled + length bytes.now ≤ PIPE_LIMIT }
+fn has_room(bound: u64, bytes: &[u8]) -> bool
+    ensures { IsTrue result → bound + length bytes.now ≤ PIPE_LIMIT }
 {
-    filled <= PIPE_LIMIT && bytes.len() as u64 <= PIPE_LIMIT - filled
+    bound <= PIPE_LIMIT && bytes.len() as u64 <= PIPE_LIMIT - bound
 }
 
 // Puts bytes into a pipe by one call.
 fn put_in_room(
     host: &mut MemHost,
     pipe: u64,
-    filled: &mut u64,
+    bound: &mut u64,
     bytes: &[u8],
 ) -> Result<Outcome, HostErr>
-    requires { HoldsAtMost host.old.view pipe filled.old }
-    ensures { HoldsAtMost host.new.view pipe filled.new }
+    requires { HoldsAtMost host.old.view pipe bound.old }
+    ensures { HoldsAtMost host.new.view pipe bound.new }
 {
     if bytes.is_empty() {
         return Ok(Outcome::Misused);
     }
-    if !has_room(*filled, bytes) {
+    if !has_room(*bound, bytes) {
         return Ok(Outcome::Misused);
     }
-    *filled += bytes.len() as u64;
+    *bound += bytes.len() as u64;
     count(put(host, pipe, bytes))
 }
 
@@ -69,16 +69,16 @@ fn put_in_room(
 fn put_all_in_room(
     host: &mut MemHost,
     pipe: u64,
-    filled: &mut u64,
+    bound: &mut u64,
     bytes: &[u8],
 ) -> Result<Outcome, HostErr>
-    requires { HoldsAtMost host.old.view pipe filled.old }
-    ensures { HoldsAtMost host.new.view pipe filled.new }
+    requires { HoldsAtMost host.old.view pipe bound.old }
+    ensures { HoldsAtMost host.new.view pipe bound.new }
 {
-    if !has_room(*filled, bytes) {
+    if !has_room(*bound, bytes) {
         return Ok(Outcome::Misused);
     }
-    *filled += bytes.len() as u64;
+    *bound += bytes.len() as u64;
     done(put_all(host, pipe, bytes))
 }
 
@@ -86,9 +86,9 @@ fn put_all_in_room(
 fn put(host: &mut MemHost, pipe: u64, bytes: &[u8]) -> Result<usize, HostErr>
     requires pipe { IsPipe host.old.view pipe }
     requires some { 0 < length bytes.now }
-    requires fits { length (held host.old.view pipe) + length bytes.now ≤ PIPE_LIMIT }
+    requires fits { length (pipe_bytes host.old.view pipe) + length bytes.now ≤ PIPE_LIMIT }
     ensures pipe { IsPipe host.new.view pipe }
-    ensures most { length (held host.new.view pipe) ≤ length (held host.old.view pipe) + length bytes.now }
+    ensures most { length (pipe_bytes host.new.view pipe) ≤ length (pipe_bytes host.old.view pipe) + length bytes.now }
 {
     host.pipe_put(pipe, bytes)
 }
@@ -96,9 +96,9 @@ fn put(host: &mut MemHost, pipe: u64, bytes: &[u8]) -> Result<usize, HostErr>
 // Puts all of these bytes into a pipe.
 fn put_all(host: &mut MemHost, pipe: u64, bytes: &[u8]) -> Result<(), HostErr>
     requires pipe { IsPipe host.old.view pipe }
-    requires fits { length (held host.old.view pipe) + length bytes.now ≤ PIPE_LIMIT }
+    requires fits { length (pipe_bytes host.old.view pipe) + length bytes.now ≤ PIPE_LIMIT }
     ensures pipe { IsPipe host.new.view pipe }
-    ensures most { length (held host.new.view pipe) ≤ length (held host.old.view pipe) + length bytes.now }
+    ensures most { length (pipe_bytes host.new.view pipe) ≤ length (pipe_bytes host.old.view pipe) + length bytes.now }
 {
     put_whole(host, pipe, bytes)
 }
@@ -107,7 +107,7 @@ fn put_all(host: &mut MemHost, pipe: u64, bytes: &[u8]) -> Result<(), HostErr>
 fn take(host: &mut MemHost, alloc: Global, pipe: u64, most: usize) -> Result<Vec<u8>, HostErr>
     requires { IsPipe host.old.view pipe }
     ensures pipe { IsPipe host.new.view pipe }
-    ensures most { length (held host.new.view pipe) ≤ length (held host.old.view pipe) }
+    ensures most { length (pipe_bytes host.new.view pipe) ≤ length (pipe_bytes host.old.view pipe) }
 {
     let mut buf = Vec::new(alloc);
     buf.resize(most, 0)?;
@@ -120,7 +120,7 @@ fn take(host: &mut MemHost, alloc: Global, pipe: u64, most: usize) -> Result<Vec
 fn take_all(host: &mut MemHost, alloc: Global, pipe: u64, most: usize) -> Result<Vec<u8>, HostErr>
     requires { IsPipe host.old.view pipe }
     ensures pipe { IsPipe host.new.view pipe }
-    ensures most { length (held host.new.view pipe) ≤ length (held host.old.view pipe) }
+    ensures most { length (pipe_bytes host.new.view pipe) ≤ length (pipe_bytes host.old.view pipe) }
 {
     let mut buf = Vec::new(alloc);
     buf.resize(most, 0)?;
@@ -139,7 +139,7 @@ fn take_into(
 ) -> Result<Outcome, HostErr>
     requires { IsPipe host.old.view pipe }
     ensures pipe { IsPipe host.new.view pipe }
-    ensures most { length (held host.new.view pipe) ≤ length (held host.old.view pipe) }
+    ensures most { length (pipe_bytes host.new.view pipe) ≤ length (pipe_bytes host.old.view pipe) }
 {
     let mut buf = Vec::from_slice(alloc, before)?;
     let outcome = count(host.pipe_take(pipe, &mut buf))?;

@@ -90,7 +90,7 @@ pub enum Outcome {
     Done,
     /// The host failed.
     Failed,
-    /// A number.
+    /// What a call that answers a number gave: that of a node, of a pipe, or a pid.
     Number(u64),
     /// So many, or an index.
     Count(usize),

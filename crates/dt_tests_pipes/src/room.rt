@@ -63,7 +63,7 @@ fn filling(alloc: Global) -> Result<Vec<Step>, AllocError> {
 }
 
 // The answers to the calls of a row. All that the pipe holds in the end is read at once.
-fn filled(row: Row) -> [i64; 7] {
+fn answers_of(row: Row) -> [i64; 7] {
     let (held, _, answer) = row;
     let moved = if answer < 0 { 0 } else { answer };
     let all = held.saturating_add(moved);
@@ -75,7 +75,7 @@ fn filled(row: Row) -> [i64; 7] {
 fn filling_report(alloc: Global) -> Result<Vec<u8>, AllocError> {
     let mut answers = Vec::new(alloc);
     for row in ROWS {
-        answers.push(filled(*row))?;
+        answers.push(answers_of(*row))?;
     }
     let mut shown: Vec<Shown> = Vec::new(alloc);
     for told in &answers {

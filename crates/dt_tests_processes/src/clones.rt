@@ -299,7 +299,7 @@ fn what_a_child_has_a_copy_of(rt: HostRuntime) -> Result<(), Fail> {
 
 const DESCRIPTORS: &[Case] = &[
     Case {
-        what: "a place is shared",
+        what: "an offset is shared",
         first: &[
             Text(PATH, *b"/f\0\0\0\0\0\0"),
             Calls(OPENAT, &[CWD, PATH, 0, 0]),
@@ -369,7 +369,7 @@ const DESCRIPTORS: &[Case] = &[
         status: 0,
     },
     Case {
-        what: "a place that a child moved stays after its end",
+        what: "an offset that a child moved stays after its end",
         first: &[
             Text(PATH, *b"/f\0\0\0\0\0\0"),
             Calls(OPENAT, &[CWD, PATH, 0, 0]),

@@ -91,7 +91,7 @@ impl Driver {
         &self.core
     }
 
-    /// Lets the segment of one of those that owe arrive: that many places after the first, or the last of them. Its
+    /// Lets the segment of one of those that owe arrive: that many after the first, or the last of them. Its
     /// virtual pid, where one owes.
     pub fn arrive(&mut self, index: usize, costs: &[u32]) -> Option<u32> {
         let owing = self.core.owing();

@@ -67,7 +67,7 @@ const ACTIONS: &[Case] = &[
     },
     // The new action is read before the old one is written.
     Case {
-        what: "both at one place, and the first and the last signal",
+        what: "both at one address, and the first and the last signal",
         first: &[
             Act(1, 5, 6, 7),
             Act(64, 8, 9, 10),

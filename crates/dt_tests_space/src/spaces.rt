@@ -163,21 +163,21 @@ fn forks_are_apart(rt: HostRuntime) -> Result<(), Fail> {
 #[test]
 fn hints_change_no_answer(rt: HostRuntime) -> Result<(), Fail> {
     let mut space = space(rt)?;
-    let mut hint = PageHint::new();
-    space.store8_hinted(&mut hint, 0x2000, 5)?;
+    let mut page_hint = PageHint::new();
+    space.store8_hinted(&mut page_hint, 0x2000, 5)?;
     space.map(0, 1, READ)?;
-    assert_eq!(rt; space.load8_hinted(&mut hint, 0x2000)?, 5);
+    assert_eq!(rt; space.load8_hinted(&mut page_hint, 0x2000)?, 5);
     space.unmap(1, 1);
-    assert_eq!(rt; space.load8_hinted(&mut hint, 0x2000)?, 5);
+    assert_eq!(rt; space.load8_hinted(&mut page_hint, 0x2000)?, 5);
     assert_eq!(rt;
-        space.load8_hinted(&mut hint, 0x1000),
+        space.load8_hinted(&mut page_hint, 0x1000),
         Err(Miss { at: 0x1000 })
     );
     space.unmap(2, 1);
     assert_eq!(rt;
-        space.load8_hinted(&mut hint, 0x2000),
+        space.load8_hinted(&mut page_hint, 0x2000),
         Err(Miss { at: 0x2000 })
     );
-    assert_eq!(rt; space.fetch_hinted(&mut hint, 0x4000)?, 0);
+    assert_eq!(rt; space.fetch_hinted(&mut page_hint, 0x4000)?, 0);
     Ok(())
 }

@@ -10,7 +10,7 @@ use Rattle.dt_host.proofs.Maps.{at_insert, at_remove, get-remove_other}
 use Rattle.dt_tree.specs.declared.limits.TheConstants.{ROOT, NAMES_LIMIT}
 use Rattle.dt_tree.specs.Shape.{names_of, name_count, IsShaped}
 use Rattle.dt_tree.specs.FileTree.{Attributes, FileTree, holds_of, IsGoodNode, IsTreeBut, IsTree}
-use Rattle.dt_tree.specs.Changes.{with_shape, put_back, with_attributes, with_stamp, one_fewer, stamped, is_unused, without, swept, swept_found}
+use Rattle.dt_tree.specs.Changes.{with_shape, put_back, with_attributes, with_stamp, one_fewer, stamped, is_unused, tree_without, swept, swept_found}
 use Rattle.dt_tree.proofs.Namings.{names_of-without_node, name_count-without_node}
 use Rattle.dt_tree.proofs.Shapes.{shaped-without_node, bare_if_nameless}
 
@@ -149,14 +149,14 @@ unused_held t n e = let parts = parts_of (n == 1) (names_of t.shape n == 0) (hol
 
 pub swept-stays : (t : FileTree) (n : ℕ) → is_unused t n ≡ false → t ≡ swept t n
 unfolding swept
-swept-stays t n e = sym (ap (λ b. cond b (without t n) t) e)
+swept-stays t n e = sym (ap (λ b. cond b (tree_without t n) t) e)
 
-pub swept-goes : (t : FileTree) (n : ℕ) → is_unused t n ≡ true → without t n ≡ swept t n
+pub swept-goes : (t : FileTree) (n : ℕ) → is_unused t n ≡ true → tree_without t n ≡ swept t n
 unfolding swept
-swept-goes t n e = sym (ap (λ b. cond b (without t n) t) e)
+swept-goes t n e = sym (ap (λ b. cond b (tree_without t n) t) e)
 
 -- a fact of a swept tree, by whether the node goes
-pub at_swept : (P : FileTree → Type 0) (t : FileTree) (n : ℕ) → (is_unused t n ≡ true → P (without t n)) → (is_unused t n ≡ false → P t) → P (swept t n)
+pub at_swept : (P : FileTree → Type 0) (t : FileTree) (n : ℕ) → (is_unused t n ≡ true → P (tree_without t n)) → (is_unused t n ≡ false → P t) → P (swept t n)
 at_swept P t n goes stays = by_test (is_unused t n) refl
   where
     by_test : (b : Bool) → is_unused t n ≡ b → P (swept t n)
@@ -166,7 +166,7 @@ at_swept P t n goes stays = by_test (is_unused t n) refl
 pub IsTree-swept : (t : FileTree) (n : ℕ) → IsTreeBut (Some n) t → IsTree (swept t n)
 IsTree-swept t n s = at_swept IsTree t n gone stays
   where
-    gone : is_unused t n ≡ true → IsTree (without t n)
+    gone : is_unused t n ≡ true → IsTree (tree_without t n)
     gone e =
         let unused = unused_node t n s e in
         let bare = unused.2 in
@@ -199,7 +199,7 @@ IsTree-swept t n s = at_swept IsTree t n gone stays
         apart : (q : ℕ) → IsLive (without_node t.shape n) q → q ≢ n
         apart q = at_remove nat_cmp_total nat_cmp-IsAntisymmetric (λ found. IsSome found → q ≢ n) t.shape.nodes n q (λ _ h. cc) (λ apart _. apart)
 
-        holds_still : (q : ℕ) → q ≢ n → holds_of (without t n) q ≡ holds_of t q
+        holds_still : (q : ℕ) → q ≢ n → holds_of (tree_without t n) q ≡ holds_of t q
         holds_still q apart = ap (λ found. unwrap_or (option_map (λ a. a.holds) found) 0) (get-remove_other nat_cmp_total nat_cmp-IsAntisymmetric t.attributes n q apart)
 
         fewer : len (remove t.shape.nodes n) ≤ len t.shape.nodes

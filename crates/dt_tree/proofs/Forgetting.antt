@@ -8,7 +8,7 @@ use Rattle.dt_host.specs.World.{Forest, Node, file, dir, link, node_at, dir_name
 use Rattle.dt_host.proofs.Maps.{at_remove, names_tie, get-remove_same, get-remove_other}
 use Rattle.dt_tree.specs.declared.inode.Inode.{Inode}
 use Rattle.dt_tree.specs.Shape.{names_of, name_count}
-use Rattle.dt_tree.specs.Changes.{without}
+use Rattle.dt_tree.specs.Changes.{tree_without}
 use Rattle.dt_host.specs.Values.{map_values}
 use Rattle.dt_tree.specs.Table.{Table, virtual, real_of, renumbered, node_for, shape_of, attributes_of, tree_of, kind_of, IsUp, Keeps, Mirrors}
 use Rattle.dt_tree.specs.inner.Tables.{without_inode}
@@ -81,7 +81,7 @@ module _ (t : Table) (v : Forest) (m : ℕ) (old : Inode) (s : Mirrors t v) (at_
           ap (λ found. Some (renumbered (virtual (without_inode t m old.real)) (unwrap_or found (file [])))) (get-remove_other nat_cmp_total nat_cmp-IsAntisymmetric v.nodes old.real other.real (λ same. apart (one_real t v s.pairs q m other old e at_m same)))
           ∙ ap Some (same_numbers other q e (node_at v other.real) refl)
 
-  pub tree-without : tree_of (without_inode t m old.real) (without_node v old.real) ≡ without (tree_of t v) m
+  pub tree-without : tree_of (without_inode t m old.real) (without_node v old.real) ≡ tree_without (tree_of t v) m
   tree-without = let shape = shape-without in let attributes = map_values-remove nat_cmp_total attributes_of nat_cmp-IsAntisymmetric t.inodes m in λ i. record { shape = shape i; attributes = attributes i; next = t.next }
 
   pub mirrors-without : Mirrors (without_inode t m old.real) (without_node v old.real)

@@ -9,7 +9,7 @@ use Rattle.dt_host.proofs.Maps.{get-remove_same, get-remove_other}
 use Rattle.dt_host.proofs.Gone.{IsFile-without_node, IsDir-without_node, IsLive-without_node}
 use Rattle.dt_tree.specs.Shape.{one_for}
 use Rattle.dt_tree.specs.FileTree.{Attributes, FileTree, holds_of, IsTree, IsTreeBut}
-use Rattle.dt_tree.specs.Changes.{with_shape, with_attributes, one_more, one_fewer, with_stamp, stamped, is_unused, without, swept, swept_found, held, released}
+use Rattle.dt_tree.specs.Changes.{with_shape, with_attributes, one_more, one_fewer, with_stamp, stamped, is_unused, tree_without, swept, swept_found, held, released}
 use Rattle.dt_tree.specs.Calls.{KeepsHeld}
 use Rattle.dt_tree.proofs.Namings.{one_for-same, one_for-other}
 use Rattle.dt_tree.proofs.Changing.{at_attributes, shape-with_attributes, holds-same, unused_node, unused_held, swept-goes, at_swept, IsTreeBut-released}
@@ -40,23 +40,23 @@ pub KeepsHeld-with_shape : (t : FileTree) (w : Forest) → ((n : ℕ) → IsFile
 KeepsHeld-with_shape t w files dirs = record { holds = λ n. refl; files = λ n _ is. files n is; dirs = λ n _ is. dirs n is }
 
 -- without a node nothing holds it
-holds-gone : (t : FileTree) (n : ℕ) → holds_of (without t n) n ≡ 0
+holds-gone : (t : FileTree) (n : ℕ) → holds_of (tree_without t n) n ≡ 0
 holds-gone t n = ap (λ found. unwrap_or (option_map (λ (a : Attributes). a.holds) found) 0) (get-remove_same nat_cmp_total nat_cmp-IsAntisymmetric t.attributes n)
 
-holds-without : (t : FileTree) (n q : ℕ) → q ≢ n → holds_of (without t n) q ≡ holds_of t q
+holds-without : (t : FileTree) (n q : ℕ) → q ≢ n → holds_of (tree_without t n) q ≡ holds_of t q
 holds-without t n q apart = ap (λ found. unwrap_or (option_map (λ (a : Attributes). a.holds) found) 0) (get-remove_other nat_cmp_total nat_cmp-IsAntisymmetric t.attributes n q apart)
 
 -- what goes was not held
 pub KeepsHeld-swept : (t : FileTree) (n : ℕ) → IsTreeBut (Some n) t → KeepsHeld t (swept t n)
 KeepsHeld-swept t n s = at_swept (λ t2. KeepsHeld t t2) t n gone (λ _. KeepsHeld-same t)
   where
-    gone : is_unused t n ≡ true → KeepsHeld t (without t n)
+    gone : is_unused t n ≡ true → KeepsHeld t (tree_without t n)
     gone e =
         let none = unused_held t n e in
         let bare = (unused_node t n s e).2 in
         record {
           holds = λ q. elim (cases_eq q n) [
-            | inl same ↦ ap (holds_of (without t n)) same ∙ holds-gone t n ∙ sym (ap (holds_of t) same ∙ none)
+            | inl same ↦ ap (holds_of (tree_without t n)) same ∙ holds-gone t n ∙ sym (ap (holds_of t) same ∙ none)
             | inr apart ↦ holds-without t n q apart
           ];
           files = λ q some is. IsFile-without_node t.shape n bare q (λ same. let at = ap (holds_of t) same in absurd (omega arith)) is;
@@ -116,7 +116,7 @@ module _ (t : FileTree) (n : ℕ) where
   holds-released some q = at_swept (λ t2. holds_of t2 q + one_for n q ≡ holds_of t q) (with_attributes t n one_fewer) n
       (λ e. elim (cases_eq q n) [
         | inl same ↦
-            let none = ap (holds_of (without (with_attributes t n one_fewer) n)) same ∙ holds-gone (with_attributes t n one_fewer) n in
+            let none = ap (holds_of (tree_without (with_attributes t n one_fewer) n)) same ∙ holds-gone (with_attributes t n one_fewer) n in
             let was = ap (holds_of (with_attributes t n one_fewer)) same ∙ unused_held (with_attributes t n one_fewer) n e in
             let sum = fewer some q in
             omega arith
@@ -134,7 +134,7 @@ module _ (t : FileTree) (n : ℕ) where
       (λ e.
       let gone = ap (λ t2. holds_of t2 q) (swept-goes start n e) in
       stays start.shape (unused_node start n (IsTreeBut-released t n s) e).2 q
-      (λ same. let none = ap (holds_of (without start n)) same ∙ holds-gone start n in let held = some same in absurd (omega arith)) before)
+      (λ same. let none = ap (holds_of (tree_without start n)) same ∙ holds-gone start n in let held = some same in absurd (omega arith)) before)
       (λ _. before)
 
   pub IsFile-released : IsTree t → (q : ℕ) → (q ≡ n → 1 ≤ holds_of (released t n) q) → IsFile t.shape q → (let new = released t n in IsFile new.shape q)

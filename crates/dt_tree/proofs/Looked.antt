@@ -14,7 +14,7 @@ use Rattle.dt_tree.specs.Shape.{names_of, is_dir, is_link, is_removed}
 use Rattle.dt_tree.specs.Listing.{type_of, type_at}
 use Rattle.dt_tree.specs.FileTree.{Attributes}
 use Rattle.dt_tree.specs.declared.meta.Meta.{Meta}
-use Rattle.dt_tree.specs.Meta.{size_of, nlink_of, subdirectories, meta_of}
+use Rattle.dt_tree.specs.Meta.{node_size, nlink_of, subdirectories, meta_of}
 use Rattle.dt_tree.specs.Table.{Table, node_for, attributes_of, shape_of, tree_of, kind_of, Mirrors, Pairs}
 use Rattle.dt_tree.specs.inner.Kinds.{type_for}
 use Rattle.dt_tree.proofs.Mirroring.{node_at-shape, target_at-inode, file_at-inode}
@@ -61,26 +61,26 @@ module _ (t : Table) (v : Forest) (s : Mirrors t v) (n : ℕ) (inode : Inode) (a
       by_node (Some (dir names)) e h = cc
       by_node (Some (link target)) e h = (target, e, sym (target_at-inode t v s.pairs n inode at) ∙ ap (option_and_then link_target) e)
 
-  pub size-file : inode.kind ≡ File → (size : ℕ) → IfSome (file_at v inode.real) (λ bytes. size ≡ length bytes) → option_map size_of (node_at (shape_of t v) n) ≡ Some size
+  pub size-file : inode.kind ≡ File → (size : ℕ) → IfSome (file_at v inode.real) (λ bytes. size ≡ length bytes) → option_map node_size (node_at (shape_of t v) n) ≡ Some size
   size-file is size h =
       let it = kept_file is in
       let told : size ≡ length it.0 = subst (λ found. IfSome found (λ bytes. size ≡ length bytes)) it.2 h in
-      ap (option_map size_of) it.1 ∙ ap Some (sym told)
+      ap (option_map node_size) it.1 ∙ ap Some (sym told)
 
-  pub size-dir : inode.kind ≡ Dir → option_map size_of (node_at (shape_of t v) n) ≡ Some DIR_SIZE
+  pub size-dir : inode.kind ≡ Dir → option_map node_size (node_at (shape_of t v) n) ≡ Some DIR_SIZE
   size-dir is = by_node (node_at (shape_of t v) n) ((s.kept n inode at).kind ∙ ap Some is)
     where
-      by_node : (found : Option Node) → option_map kind_of found ≡ Some Dir → option_map size_of found ≡ Some DIR_SIZE
+      by_node : (found : Option Node) → option_map kind_of found ≡ Some Dir → option_map node_size found ≡ Some DIR_SIZE
       by_node None h = cc
       by_node (Some (file bytes)) h = cc
       by_node (Some (dir names)) h = refl
       by_node (Some (link target)) h = cc
 
-  pub size-link : inode.kind ≡ Link → (target : List ℕ) → target_at v inode.real ≡ Some target → option_map size_of (node_at (shape_of t v) n) ≡ Some (length target)
+  pub size-link : inode.kind ≡ Link → (target : List ℕ) → target_at v inode.real ≡ Some target → option_map node_size (node_at (shape_of t v) n) ≡ Some (length target)
   size-link is target h =
       let it = kept_link is in
       let same : it.0 ≡ target = cc in
-      ap (option_map size_of) it.1 ∙ ap (λ (x : List ℕ). Some (length x)) same
+      ap (option_map node_size) it.1 ∙ ap (λ (x : List ℕ). Some (length x)) same
 
   pub real_link : inode.kind ≡ Link → IsLink v inode.real
   real_link is = let it = kept_link is in subst (λ found. IsSome found) (sym it.2) refl
@@ -95,7 +95,7 @@ module _ (t : Table) (v : Forest) (s : Mirrors t v) (n : ℕ) (inode : Inode) (a
       by_node (Some (link target)) h = cc
 
   -- what is told of a node
-  pub meta-kept : (nlink size : ℕ) → nlink ≡ nlink_of (shape_of t v) n → option_map size_of (node_at (shape_of t v) n) ≡ Some size → meta_of (tree_of t v) n ≡ Some (record { kind = type_for inode.kind; mode = inode.mode; nlink = nlink; size = size; stamp = inode.stamp })
+  pub meta-kept : (nlink size : ℕ) → nlink ≡ nlink_of (shape_of t v) n → option_map node_size (node_at (shape_of t v) n) ≡ Some size → meta_of (tree_of t v) n ≡ Some (record { kind = type_for inode.kind; mode = inode.mode; nlink = nlink; size = size; stamp = inode.stamp })
   meta-kept nlink size links sized =
       by_node (node_at (shape_of t v) n) (type_by (node_at (shape_of t v) n) inode.kind (s.kept n inode at).kind) sized
       ∙ ap (λ k. Some (record { kind = type_for inode.kind; mode = inode.mode; nlink = k; size = size; stamp = inode.stamp })) (sym links)
@@ -106,12 +106,12 @@ module _ (t : Table) (v : Forest) (s : Mirrors t v) (n : ℕ) (inode : Inode) (a
       at_kind : ℕ → ℕ → Meta
       at_kind kind size = record { kind = kind; mode = inode.mode; nlink = nlink_of (shape_of t v) n; size = size; stamp = inode.stamp }
 
-      by_node : (found : Option Node) → option_map type_of found ≡ Some (type_for inode.kind) → option_map size_of found ≡ Some size → option_and_then {U = Meta} (λ node. option_map {U = Meta} (λ a. record { kind = type_of node; mode = a.mode; nlink = nlink_of (shape_of t v) n; size = size_of node; stamp = a.stamp }) (get (map_values attributes_of t.inodes) n)) found ≡ Some (record { kind = type_for inode.kind; mode = inode.mode; nlink = nlink_of (shape_of t v) n; size = size; stamp = inode.stamp })
+      by_node : (found : Option Node) → option_map type_of found ≡ Some (type_for inode.kind) → option_map node_size found ≡ Some size → option_and_then {U = Meta} (λ node. option_map {U = Meta} (λ a. record { kind = type_of node; mode = a.mode; nlink = nlink_of (shape_of t v) n; size = node_size node; stamp = a.stamp }) (get (map_values attributes_of t.inodes) n)) found ≡ Some (record { kind = type_for inode.kind; mode = inode.mode; nlink = nlink_of (shape_of t v) n; size = size; stamp = inode.stamp })
       by_node None e f = cc
       by_node (Some node) e f =
           let kind : type_of node ≡ type_for inode.kind = cc in
-          let sized : size_of node ≡ size = cc in
-          ap (option_map {U = Meta} (λ (a : Attributes). record { kind = type_of node; mode = a.mode; nlink = nlink_of (shape_of t v) n; size = size_of node; stamp = a.stamp })) there
+          let sized : node_size node ≡ size = cc in
+          ap (option_map {U = Meta} (λ (a : Attributes). record { kind = type_of node; mode = a.mode; nlink = nlink_of (shape_of t v) n; size = node_size node; stamp = a.stamp })) there
           ∙ (λ i. Some (at_kind (kind i) (sized i)))
 
 -- the bytes of a file

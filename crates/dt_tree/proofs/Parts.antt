@@ -7,7 +7,7 @@ use Rattle.dt_base.specs.declared.limits.TheConstants.{FILE_LIMIT}
 use Rattle.dt_host.specs.World.{Node, file, dir, link, node_at, file_bytes, IsFile, content}
 use Rattle.dt_tree.specs.declared.meta.Meta.{Meta}
 use Rattle.dt_tree.specs.FileTree.{Attributes, FileTree, IsTree}
-use Rattle.dt_tree.specs.Meta.{meta_of, size_of, nlink_of}
+use Rattle.dt_tree.specs.Meta.{meta_of, node_size, nlink_of}
 use Rattle.dt_tree.specs.Listing.{type_of}
 
 -- the size of a file, as it is told
@@ -19,7 +19,7 @@ sized t n meta is told = by_node (node_at t.shape n) (get t.attributes n) is tol
       kind = type_of node;
       mode = a.mode;
       nlink = nlink_of t.shape n;
-      size = size_of node;
+      size = node_size node;
       stamp = a.stamp;
     }) a) found ≡ Some meta → meta.size ≡ length (unwrap_or (option_and_then file_bytes found) [])
     by_node None a is told = cc

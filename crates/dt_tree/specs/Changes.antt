@@ -50,12 +50,12 @@ abbrev pub is_unused : FileTree → ℕ → Bool
 is_unused t n = not (n == ROOT) && (names_of t.shape n == 0) && (holds_of t n == 0)
 
 -- without a node
-abbrev pub without : FileTree → ℕ → FileTree
-without t n = record t { shape = without_node t.shape n; attributes = remove t.attributes n }
+abbrev pub tree_without : FileTree → ℕ → FileTree
+tree_without t n = record t { shape = without_node t.shape n; attributes = remove t.attributes n }
 
 -- a node goes where nothing names or holds it
 unfoldable pub swept : FileTree → ℕ → FileTree
-swept t n = if is_unused t n then without t n else t
+swept t n = if is_unused t n then tree_without t n else t
 
 -- the same of what stood in an entry, if something did
 abbrev pub swept_found : Option ℕ → FileTree → FileTree

@@ -10,10 +10,10 @@ use Rattle.dt_tree.specs.FileTree.{FileTree}
 use Rattle.dt_tree.specs.Listing.{type_of}
 
 -- the size: a file's bytes, the target's of a link, and one number for every directory
-abbrev pub size_of : Node → ℕ
-size_of (file bytes) = length bytes
-size_of (dir names) = DIR_SIZE
-size_of (link target) = length target
+abbrev pub node_size : Node → ℕ
+node_size (file bytes) = length bytes
+node_size (dir names) = DIR_SIZE
+node_size (link target) = length target
 
 -- how many of a directory's entries are for directories
 abbrev pub subdirectories : Forest → ℕ → ℕ
@@ -31,6 +31,6 @@ meta_of t n = option_and_then (λ node. option_map (λ a. record {
   kind = type_of node;
   mode = a.mode;
   nlink = nlink_of t.shape n;
-  size = size_of node;
+  size = node_size node;
   stamp = a.stamp;
 }) (get t.attributes n)) (node_at t.shape n)

@@ -6,7 +6,7 @@ ghost use Rattle.dt_host.specs.Asks.{Asks};
 ghost use Rattle.dt_host.specs.World.{Forest, IsDir, IsLive, node_at};
 ghost use Rattle.dt_tree.specs.declared.limits.TheConstants.{NAMES_LIMIT};
 ghost use Rattle.dt_tree.specs.Shape.{is_dir, is_removed, is_bare};
-ghost use Rattle.dt_tree.specs.Meta.{nlink_of, meta_of, size_of, subdirectories};
+ghost use Rattle.dt_tree.specs.Meta.{nlink_of, meta_of, node_size, subdirectories};
 ghost use Rattle.dt_tree.specs.Table.{Stands, virtual, shape_of, tree_of};
 
 use crate::inode::Kind;
@@ -61,7 +61,7 @@ impl Tree {
     fn size<H: Host>(&self, host: &mut H, vino: u64) -> Result<u64, HostErr>
         requires stands { Stands self.now (H.view host.old).forest }
         requires live { IsLive (shape_of self.now (H.view host.old).forest) vino }
-        ensures ok { IfOk result (λ size. option_map size_of
+        ensures ok { IfOk result (λ size. option_map node_size
             (node_at (shape_of self.now (H.view host.old).forest) vino) ≡ Some size) }
         ensures asks { Asks H.view H.count host.old host.new result }
     {

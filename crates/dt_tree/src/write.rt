@@ -32,7 +32,7 @@ fn pad<H: Host>(host: &mut H, real: u64, off: u64) -> Result<(), HostErr>
 fn write_padded<H: Host>(host: &mut H, real: u64, off: u64, bytes: &[u8]) -> Result<(), HostErr>
     requires file { IsFile (H.view host.old).forest real }
     requires fits { off + length bytes.now ≤ FILE_LIMIT }
-    ensures written { OnOk result
+    ensures padded { OnOk result
         (H.view host.new ≡ with_written (H.view host.old) real off bytes.now) }
     ensures rest { OnlyForest (H.view host.old) (H.view host.new) }
     ensures cause { HasCause (H.count host.old) (H.count host.new) (IsErrOf result HostErr.Failed) }

@@ -11,7 +11,7 @@ use Rattle.dt_tree.proofs.NodeKinds.{is_dir-true}
 use Rattle.dt_walk.specs.declared.step.Found.{Found}
 use Rattle.dt_walk.specs.declared.step.Found.TheVariants.{Node, Missing, Gone}
 use Rattle.dt_walk.specs.declared.step.Step.TheVariants.{On, Done, Refused, Follow}
-use Rattle.dt_walk.specs.Walk.{node_or, looked_up, ended, arrived, after_look, step_in_dir, step_of}
+use Rattle.dt_walk.specs.Walk.{node_or, looked_up, walk_ended, reached_node, after_look, step_in_dir, step_of}
 
 -- a step ended a walk there: at a short name of a directory, with what was found under it, which is no link if links are followed
 pub record EndedAt (v : Forest) (keep : Bool) (last : List ℕ) (place : Place) : Type 0 where
@@ -38,16 +38,16 @@ module _ (v : Forest) (keep last slash : Bool) (at : ℕ) (name : List ℕ) wher
       by_end true m looked straight h = absurd (cc)
       by_end false m looked straight h = at_place (Some m) looked straight h
 
-      by_stop : (b : Bool) (m : ℕ) → looked_up v at name ≡ Node m → target_at v m ≡ None → cond b (ended v slash at name m) (On m) ≡ Done place → EndedAt v keep name place
+      by_stop : (b : Bool) (m : ℕ) → looked_up v at name ≡ Node m → target_at v m ≡ None → cond b (walk_ended v slash at name m) (On m) ≡ Done place → EndedAt v keep name place
       by_stop true m looked none h = by_end (slash && not (is_dir v m)) m looked (λ _. none) h
       by_stop false m looked none h = absurd (cc)
 
-      by_keep : (b k : Bool) (m : ℕ) (target : List ℕ) → looked_up v at name ≡ Node m → keep ≡ k → cond (b && k) (ended v slash at name m) (Follow target) ≡ Done place → EndedAt v keep name place
+      by_keep : (b k : Bool) (m : ℕ) (target : List ℕ) → looked_up v at name ≡ Node m → keep ≡ k → cond (b && k) (walk_ended v slash at name m) (Follow target) ≡ Done place → EndedAt v keep name place
       by_keep true true m target looked e h = by_end (slash && not (is_dir v m)) m looked (λ off. absurd (cc)) h
       by_keep true false m target looked e h = absurd (cc)
       by_keep false k m target looked e h = absurd (cc)
 
-      by_target : (target : Option (List ℕ)) (m : ℕ) → looked_up v at name ≡ Node m → target_at v m ≡ target → arrived v keep last slash at name m target ≡ Done place → EndedAt v keep name place
+      by_target : (target : Option (List ℕ)) (m : ℕ) → looked_up v at name ≡ Node m → target_at v m ≡ target → reached_node v keep last slash at name m target ≡ Done place → EndedAt v keep name place
       by_target None m looked e h = by_stop last m looked e h
       by_target (Some target) m looked e h = by_keep last keep m target looked refl h
 
@@ -81,15 +81,15 @@ module _ (v : Forest) (keep last slash : Bool) (at : ℕ) (name : List ℕ) wher
     on_end true m h = absurd (cc)
     on_end false m h = absurd (cc)
 
-    on_stop : (b : Bool) (m : ℕ) → cond b (ended v slash at name m) (On m) ≡ Follow target → Followed
+    on_stop : (b : Bool) (m : ℕ) → cond b (walk_ended v slash at name m) (On m) ≡ Follow target → Followed
     on_stop true m h = on_end (slash && not (is_dir v m)) m h
     on_stop false m h = absurd (cc)
 
-    on_keep : (b : Bool) (m : ℕ) (t : List ℕ) → target_at v m ≡ Some t → cond b (ended v slash at name m) (Follow t) ≡ Follow target → Followed
+    on_keep : (b : Bool) (m : ℕ) (t : List ℕ) → target_at v m ≡ Some t → cond b (walk_ended v slash at name m) (Follow t) ≡ Follow target → Followed
     on_keep true m t e h = on_end (slash && not (is_dir v m)) m h
     on_keep false m t e h = let same : t ≡ target = cc in (m, e ∙ ap Some same)
 
-    on_target : (t : Option (List ℕ)) (m : ℕ) → target_at v m ≡ t → arrived v keep last slash at name m t ≡ Follow target → Followed
+    on_target : (t : Option (List ℕ)) (m : ℕ) → target_at v m ≡ t → reached_node v keep last slash at name m t ≡ Follow target → Followed
     on_target None m e h = on_stop last m h
     on_target (Some t) m e h = on_keep (last && keep) m t e h
 

@@ -33,19 +33,19 @@ looked_up v at name =
     else node_or Missing (entry v at name)
 
 -- at the last name: a path that ends in a slash leads to a directory or is refused
-abbrev pub ended : Forest → (slash : Bool) → ℕ → List ℕ → ℕ → Step
-ended v slash at name n =
+abbrev pub walk_ended : Forest → (slash : Bool) → ℕ → List ℕ → ℕ → Step
+walk_ended v slash at name n =
     if slash && not (is_dir v n) then Refused NotDir
     else Done (record { parent = at; name = name; node = Some n; slash = slash })
 
 -- at a node that is no link
 abbrev pub stopped : Forest → (last slash : Bool) → ℕ → List ℕ → ℕ → Step
-stopped v last slash at name n = if last then ended v slash at name n else On n
+stopped v last slash at name n = if last then walk_ended v slash at name n else On n
 
 -- at a node, with its target if it is a link: a link is followed, but for one that is the last name and kept
-abbrev pub arrived : Forest → (keep last slash : Bool) → ℕ → List ℕ → ℕ → Option (List ℕ) → Step
-arrived v keep last slash at name n None = stopped v last slash at name n
-arrived v keep last slash at name n (Some target) = if last && keep then ended v slash at name n else Follow target
+abbrev pub reached_node : Forest → (keep last slash : Bool) → ℕ → List ℕ → ℕ → Option (List ℕ) → Step
+reached_node v keep last slash at name n None = stopped v last slash at name n
+reached_node v keep last slash at name n (Some target) = if last && keep then walk_ended v slash at name n else Follow target
 
 -- at a name that is not there: a place, if it is the last
 abbrev pub missed : (last slash : Bool) → ℕ → List ℕ → Step
@@ -56,7 +56,7 @@ missed last slash at name =
 abbrev pub after_look : Forest → (keep last slash : Bool) → ℕ → List ℕ → Found → Step
 after_look v keep last slash at name Gone = Refused NoEnt
 after_look v keep last slash at name Missing = missed last slash at name
-after_look v keep last slash at name (Node n) = arrived v keep last slash at name n (target_at v n)
+after_look v keep last slash at name (Node n) = reached_node v keep last slash at name n (target_at v n)
 
 -- one name of a path, looked up in a directory
 abbrev pub step_in_dir : Forest → (keep last slash : Bool) → ℕ → List ℕ → Step

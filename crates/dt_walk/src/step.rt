@@ -5,7 +5,7 @@ ghost use Rattle.dt_host.specs.World.{Forest, IsDir, IsLive, target_at};
 ghost use Rattle.dt_tree.specs.Table.{Stands, shape_of};
 ghost use Rattle.dt_tree.specs.Above.{dot_dot};
 ghost use Rattle.dt_walk.specs.declared.step.Found.TheVariants.{Gone};
-ghost use Rattle.dt_walk.specs.Walk.{node_or, looked_up, arrived, missed, step_in_dir, step_of};
+ghost use Rattle.dt_walk.specs.Walk.{node_or, looked_up, reached_node, missed, step_in_dir, step_of};
 
 use crate::place::Place;
 use dt_base::{Blob, Errno, NAME_LIMIT};
@@ -17,7 +17,7 @@ use dt_tree::Tree;
 pub enum Found {
     /// A node.
     Node(u64),
-    /// Nothing.
+    /// No node has that name.
     Missing,
     /// Nothing, nor can anything be: it is the parent of a removed directory.
     Gone,
@@ -131,7 +131,7 @@ fn arrive<H: Host>(
 ) -> Result<Step, HostErr>
     requires stands { Stands tree.now (H.view host.old).forest }
     ensures ok { IfOk result (λ step. step
-        ≡ arrived (shape_of tree.now (H.view host.old).forest) keep last slash at name n
+        ≡ reached_node (shape_of tree.now (H.view host.old).forest) keep last slash at name n
         (target_at (shape_of tree.now (H.view host.old).forest) n)) }
     ensures asks { Asks H.view H.count host.old host.new result }
 {

@@ -7,7 +7,7 @@ pub returns-clause-status : goal.returns-clause-status
 returns-clause-status g c = λ one other.
     let words = map string_bytes c.args.words.now in
     let is = the-is _ (known-wanted (g.S.Store.told c.args.first.now.store) words c.requires.known) in
-    let again = same-wanted _ _ _ _ c.requires.same c.requires.asked ∙ is in
+    let again = same-wanted _ _ _ _ c.requires.same c.requires.request ∙ is in
     let a = c.dettrace-one.ensures in
     let b = c.dettrace-other.ensures in
     agree-status _ _ _ _ _ _ _ _ _
@@ -16,7 +16,7 @@ returns-clause-status g c = λ one other.
 
 pub returns-clause-refused : goal.returns-clause-refused
 returns-clause-refused g c =
-    let again = same-wanted _ _ _ _ c.requires.same c.requires.asked in
+    let again = same-wanted _ _ _ _ c.requires.same c.requires.request in
     let a = c.dettrace-one.ensures in
     let b = c.dettrace-other.ensures in
     (λ two. b.refused_words (again ∙ a.usage two), λ two. a.refused_words (sym again ∙ b.usage two))
@@ -26,7 +26,7 @@ returns-clause-report g c =
     let words = map string_bytes c.args.words.now in
     let known = known-wanted (g.S.Store.told c.args.first.now.store) words c.requires.known in
     let is = the-is _ known in
-    let again = same-wanted _ _ _ _ c.requires.same c.requires.asked ∙ is in
+    let again = same-wanted _ _ _ _ c.requires.same c.requires.request ∙ is in
     let a = c.dettrace-one.ensures in
     let b = c.dettrace-other.ensures in
     let one = answered _ words _ is _ _ _ _ a.some_image a.usage a.image a.nothing in
@@ -47,7 +47,7 @@ returns-clause-line g c = λ one other.
     let words = map string_bytes c.args.words.now in
     let known = known-wanted (g.S.Store.told c.args.first.now.store) words c.requires.known in
     let is = the-is _ known in
-    let again = same-wanted _ _ _ _ c.requires.same c.requires.asked ∙ is in
+    let again = same-wanted _ _ _ _ c.requires.same c.requires.request ∙ is in
     let a = c.dettrace-one.ensures in
     let b = c.dettrace-other.ensures in
     record {
@@ -60,7 +60,7 @@ pub returns-clause-tree : goal.returns-clause-tree
 returns-clause-tree g c = λ one other.
     let words = map string_bytes c.args.words.now in
     let is = the-is _ (known-wanted (g.S.Store.told c.args.first.now.store) words c.requires.known) in
-    let again = same-wanted _ _ _ _ c.requires.same c.requires.asked ∙ is in
+    let again = same-wanted _ _ _ _ c.requires.same c.requires.request ∙ is in
     let a = c.dettrace-one.ensures in
     let b = c.dettrace-other.ensures in
     agree-tree _ _ _ _ _ _ _ _ _ one

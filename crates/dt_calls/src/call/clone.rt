@@ -58,10 +58,10 @@ fn is_supported(flags: u64) -> bool
 }
 
 // The machine with a pid at an address, if a flag asks for it; an address that can't be written is ignored.
-fn put_pid(machine: &mut Machine, asked: bool, address: u64, vpid: u32)
-    ensures { machine.new ≡ with_pid asked address vpid machine.old }
+fn put_pid(machine: &mut Machine, flag: bool, address: u64, vpid: u32)
+    ensures { machine.new ≡ with_pid flag address vpid machine.old }
 {
-    if asked {
+    if flag {
         let _ = machine.space.write_bytes(address, &vpid.to_le_bytes());
     }
 }

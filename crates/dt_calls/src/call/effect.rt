@@ -17,7 +17,7 @@ pub enum Outcome {
     Blocked,
     /// Its call has moved some bytes, and goes on in its next turn.
     Moved,
-    /// It ends.
+    /// It is over, by a code or a signal.
     Ends(End),
     /// Its call, by its number, isn't supported.
     Unsupported(u64),

@@ -1,6 +1,6 @@
 // Calls on a process's memory.
 ghost use Rattle.std.specs.Prelude.{◌≡◌, None, IfOk};
-ghost use Rattle.dt_calls.specs.Effect.{answers};
+ghost use Rattle.dt_calls.specs.Effect.{effect_of_answer};
 ghost use Rattle.dt_calls.specs.MemoryCalls.{brk_call, munmap_call, mmap_call, mprotect_call};
 ghost use Rattle.dt_calls.specs.InCode.{effect_as};
 
@@ -69,7 +69,7 @@ pub fn answered(
     answer: Answer,
 ) -> Result<Effect, NoMemory>
     ensures served { (c : _) → (own : _) → IfOk result
-        (λ e. answers c own machine.old number answer ≡ effect_as c own machine.new e) }
+        (λ e. effect_of_answer c own machine.old number answer ≡ effect_as c own machine.new e) }
     ensures child { IfOk result (λ e. e.child ≡ None) }
 {
     match answer {

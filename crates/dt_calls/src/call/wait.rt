@@ -4,26 +4,22 @@ ghost use Rattle.dt_space.specs.Argument.{may_fill};
 ghost use Rattle.dt_calls.specs.declared.numbers.TheConstants.{RUSAGE_SIZE as RUSAGE};
 ghost use Rattle.dt_procs.specs.declared.member.Reaped.{Reaped as Found};
 ghost use Rattle.dt_procs.specs.Members.{look_for};
-ghost use Rattle.dt_calls.specs.Wait.{wait4_call, by_found, asked, is_group, status_of};
+ghost use Rattle.dt_calls.specs.Wait.{wait4_call, by_found, which_child, is_group, status_of};
 ghost use Rattle.dt_calls.specs.InCode.{shared_of};
 ghost use Rattle.dt_calls.specs.Sound.{IsSoundHand, Serves, hand};
 
 use super::{Effect, Outcome};
 use crate::numbers::RUSAGE_SIZE;
 use crate::shared::{Process, Shared};
-use dt_base::abi::{A0, A1, A2, A3, WAIT_OPTIONS, WAIT4, WNOHANG, low_word};
+use dt_base::abi::{
+    A0, A1, A2, A3, ANY_CHILD, GREATEST_PID, WAIT_OPTIONS, WAIT4, WNOHANG, low_word,
+};
 use dt_base::{End, Errno};
 use dt_host::{Host, HostErr};
 use dt_procs::Reaped;
 use dt_rv64::Machine;
 use dt_space::{Space, fill_unless_null, may_fill};
 use std::alloc::Global;
-
-/// The greatest pid that is not below 0 as a signed number.
-pub const GREATEST_PID: u32 = 0x7fff_ffff;
-
-/// The pid -1, as 32 bits: any child is waited for (wait4(2)).
-pub const ANY_CHILD: u32 = 0xffff_ffff;
 
 /// wait4(2): reaps a child that has ended; the process waits where one may still.
 #[tactic(auto, unfolding(crate::specs::Wait::wait4_call))]
@@ -47,7 +43,7 @@ pub fn wait4<H: Host>(
     if options | WAIT_OPTIONS != WAIT_OPTIONS {
         return Ok(Effect::refused(alloc, machine, Errno::Inval));
     }
-    let which = asked(pid);
+    let which = which_child(pid);
     match shared.pids.look_for(own.caller.vpid, which) {
         Reaped::Got(vpid, end) => reap(alloc, host, shared, own, machine, which, vpid, end),
         Reaped::NoneReady if options & WNOHANG == WNOHANG => Ok(Effect::done(alloc, machine, 0)),
@@ -64,8 +60,8 @@ fn is_group(pid: u32) -> bool
 }
 
 // The child that is waited for: any where the pid is 0 or -1.
-fn asked(pid: u32) -> Option<u32>
-    ensures { result ≡ asked pid }
+fn which_child(pid: u32) -> Option<u32>
+    ensures { result ≡ which_child pid }
 {
     match pid {
         0 | ANY_CHILD => None,

@@ -18,7 +18,7 @@ use Rattle.dt_base.specs.Path.{is_path}
 use Rattle.dt_image.specs.Index.{Source, file, dir, link, IndexEntry, is_good_source}
 use Rattle.dt_base.specs.declared.refusal.Refusal.{Refusal}
 use Rattle.dt_base.specs.declared.refusal.Refusal.TheVariants.{NoParent}
-use Rattle.dt_image.specs.ImageOf.{name_in, makes_dir, lists_parent, with_blobs}
+use Rattle.dt_image.specs.ImageOf.{name_below, makes_dir, lists_parent, with_blobs}
 
 -- what the references of a source point to
 abbrev pub source_in : SourceRef → Source
@@ -40,7 +40,7 @@ keyed e = entry_in (entry_at e)
 
 -- the size of the folder's blob that a file is made from; other entries have none, which counts as 0
 abbrev pub blob_size : Files → List ℕ → Source → Option ℕ
-blob_size held folder (file mode blob) = size_of held (name_in folder blob)
+blob_size held folder (file mode blob) = size_of held (name_below folder blob)
 blob_size held folder (dir mode) = Some 0
 blob_size held folder (link target) = Some 0
 

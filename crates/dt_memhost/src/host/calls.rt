@@ -6,7 +6,7 @@ ghost use Rattle.std.specs.FinMap.{entries};
 ghost use Rattle.std.specs.FinSet.{contains};
 ghost use Rattle.dt_host.specs.Cause.{HasCause};
 ghost use Rattle.dt_host.specs.World.{IsLive, IsFile, IsDir, IsLink, IsPipe, file_at, target_at, names_at};
-ghost use Rattle.dt_host.specs.World.{entry, content, held};
+ghost use Rattle.dt_host.specs.World.{entry, content, pipe_bytes};
 ghost use Rattle.dt_host.specs.Legal.{Makes, Binds, Unbinds, MayGo, Forgets, named, Reads, Writes, Cuts};
 ghost use Rattle.dt_host.specs.Legal.{Takes, Puts, MakesPid, DropsPid};
 ghost use Rattle.dt_memhost.specs.Host.{RootsBy, FindsBy, MakesBy, BindsBy, UnbindsBy, ForgetsBy, NamesBy, RawBy};
@@ -25,8 +25,9 @@ impl Host for MemHost {
     ghost count = { λ h. h.script.faults };
 
     fn faults(&self) -> u64 {
-        // A proof learns here that the forest's numbers have 64 bits, and that those of pipes are others.
+        // A proof learns here that all numbers have 64 bits, and that those of pipes are no node's.
         let _root = self.forest.root();
+        self.pids.bounds();
         self.script.faults()
     }
 
@@ -224,7 +225,7 @@ impl Host for MemHost {
     fn pipe_put(&mut self, ino: u64, bytes: &[u8]) -> Result<usize, HostErr>
         requires pipe { IsPipe self.old.view ino }
         requires some { 0 < length bytes.now }
-        requires fits { length (held self.old.view ino) + length bytes.now ≤ PIPE_LIMIT }
+        requires fits { length (pipe_bytes self.old.view ino) + length bytes.now ≤ PIPE_LIMIT }
         ensures exact { PutsBy self.old ino bytes.now result self.new }
         ensures legal { Puts self.old.view ino bytes.now result self.new.view }
         ensures cause { HasCause self.old.script.faults self.new.script.faults

@@ -4,7 +4,7 @@ ghost use Rattle.std.specs.Prelude.{IfErr, MatchResult};
 ghost use Rattle.dt_space.specs.Space.{IsSpace};
 ghost use Rattle.dt_space.specs.Pages.{pages_from};
 ghost use Rattle.dt_space.specs.Ranges.{map_refusal, IsMapErr, mapped, unmapped, first_missing, protected};
-ghost use Rattle.dt_space.specs.RangeLaws.{KeepsOthers, HasZeros, HasNone, HasRights};
+ghost use Rattle.dt_space.specs.RangeLaws.{KeepsOtherPages, HasZeros, HasNone, HasRights};
 ghost use Rattle.dt_space.specs.inner.Gap.{IsLower, IsGap, IsRun, IsWholeRun};
 
 use super::Space;
@@ -24,7 +24,7 @@ impl Space {
         ensures ok { OnOk result (map_refusal self.old first count ≡ None) }
         ensures mapped { OnOk result (self.new ≡ mapped self.old first count rights) }
         ensures zeros { OnOk result (HasZeros self.new first count rights) }
-        ensures others { OnOk result (KeepsOthers self.old first count self.new) }
+        ensures others { OnOk result (KeepsOtherPages self.old first count self.new) }
         ensures error { IfErr result (IsMapErr (map_refusal self.old first count)) }
         ensures kept { OnErr result (self.new ≡ self.old) }
         ensures sound { IsSpace self.new }
@@ -40,7 +40,7 @@ impl Space {
     pub fn unmap(&mut self, first: u64, count: u64)
         ensures unmapped { self.new ≡ unmapped self.old first count }
         ensures none { HasNone self.new first count }
-        ensures others { KeepsOthers self.old first count self.new }
+        ensures others { KeepsOtherPages self.old first count self.new }
         ensures sound { IsSpace self.new }
     {
         let (start, end) = self.run(first, count);
@@ -55,7 +55,7 @@ impl Space {
             (λ error. first_missing self.old first count ≡ Some error.page) }
         ensures ok { OnOk result (self.new ≡ protected self.old first count rights) }
         ensures rights { OnOk result (HasRights self.old first count rights self.new) }
-        ensures others { OnOk result (KeepsOthers self.old first count self.new) }
+        ensures others { OnOk result (KeepsOtherPages self.old first count self.new) }
         ensures kept { OnErr result (self.new ≡ self.old) }
         ensures sound { IsSpace self.new }
     {

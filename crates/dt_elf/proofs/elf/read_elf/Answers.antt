@@ -14,9 +14,9 @@ read_segments-count-requires-clause-few c = let good : IsFit c.args.bytes.now = 
 pub table_address-requires-clause-placed : goal.table_address-requires-clause-placed
 table_address-requires-clause-placed c =
     let good : IsFit c.args.bytes.now = fit c.args.bytes.now (sym c.refused.ensures ∙ c.in_default.is) in
-    subst (λ (segments : List Segment). ArePlaced c.args.bytes.now segments) (sym c.read_segments-count.ensures.loaded) (are-placed c.args.bytes.now (loads c.args.bytes.now) good.placed)
+    subst (λ (segments : List Segment). ArePlaced c.args.bytes.now segments) (sym c.read_segments-count.ensures.segments) (are-placed c.args.bytes.now (loads c.args.bytes.now) good.placed)
 
 pub returns-clause-low : goal.returns-clause-low
 returns-clause-low c =
     let good : IsFit c.args.bytes.now = fit c.args.bytes.now (sym c.refused.ensures ∙ c.in_default.is) in
-    rw (c.in_ok-extend_from_slice.ensures.items, c.new-segments.ensures.items, c.read_segments-count.ensures.loaded) (ends-low c.args.bytes.now (loads c.args.bytes.now) good.placed)
+    rw (c.in_ok-extend_from_slice.ensures.items, c.new-segments.ensures.items, c.read_segments-count.ensures.segments) (ends-low c.args.bytes.now (loads c.args.bytes.now) good.placed)

@@ -20,7 +20,7 @@ loop-index-preserved c =
           (c.if-loads.array_long, omega (arith, w.count-is), rw (w.table-is, w.count-is) (rw next at c.loop-index.invariant.2))
     ]
 
-pub returns-clause-loaded : goal.returns-clause-loaded
-returns-clause-loaded c =
+pub returns-clause-segments : goal.returns-clause-segments
+returns-clause-segments c =
     let all : e_phnum c.args.bytes.now ≤ c.loop-index.index = rw (← c.phnum-index-end.ensures) c.loop-index-test.false in
     sym (append-nil _) ∙ (rw (loads-end c.args.bytes.now c.loop-index.index all) at c.loop-index.invariant.2)

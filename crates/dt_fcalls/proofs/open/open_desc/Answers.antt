@@ -1,6 +1,6 @@
 use Rattle.std.proofs.Common.{ℕ, Ok, Err, refl, sym, subst, arith}
 use Rattle.dt_base.specs.declared.answer.Answer.TheVariants.{Value}
-use Rattle.dt_fds.specs.Backs.{IsBacked, KeepsOthers as KeepsHolds, Does, at, holding as held_at}
+use Rattle.dt_fds.specs.Backs.{IsBacked, KeepsOthers as KeepsHolds, Does, at, holding_at as held_at}
 use Rattle.dt_fds.specs.Holding.{add_call}
 use Rattle.dt_host.specs.declared.error.CallErr.{CallErr}
 use Rattle.dt_scene.specs.Scene.{holding, by_outcome}

@@ -1,6 +1,6 @@
 use Rattle.std.proofs.Common.{length, take, ap, sym, subst, ◌∙◌, arith, length-take-le, length-append}
 use Rattle.std.proofs.lemmas.Result.{MatchResult-from_err}
-use Rattle.dt_host.specs.World.{IsPipe, held}
+use Rattle.dt_host.specs.World.{IsPipe, pipe_bytes}
 use Rattle.dt_host.specs.Legal.{with_put}
 use Rattle.dt_host.proofs.Pipes.{IsPipe-with_pipe, held-with_pipe, with_put-nil, put_more, part_put}
 use Rattle.dt_host.proofs.pipe.put_whole.Goals as goal
@@ -23,8 +23,8 @@ pipe_put-requires-clause-fits g c =
     let kept = c.loop-done.invariant in
     let old = g.H.Host.view c.args.host.now in
     let prefix = take c.loop-done.done c.args.bytes.now in
-    let holds = ap length (ap (λ w. held w c.args.ino) kept.prefix ∙ held-with_pipe old c.args.ino _) in
-    omega (arith, c.requires.fits, holds, length-append (held old c.args.ino) prefix, length-take-le c.loop-done.done c.args.bytes.now kept.within, c.split_at.ensures.back_len)
+    let holds = ap length (ap (λ w. pipe_bytes w c.args.ino) kept.prefix ∙ held-with_pipe old c.args.ino _) in
+    omega (arith, c.requires.fits, holds, length-append (pipe_bytes old c.args.ino) prefix, length-take-le c.loop-done.done c.args.bytes.now kept.within, c.split_at.ensures.back_len)
 
 pub returns-in_err-done-clause-legal : goal.returns-in_err-done-clause-legal
 returns-in_err-done-clause-legal g c =

@@ -1,11 +1,11 @@
 use Rattle.std.proofs.Common.{◌≡◌, ◌-◌, ◌≤◌, ◌++◌, length, take, drop}
-use Rattle.dt_host.specs.World.{held, with_pipe}
+use Rattle.dt_host.specs.World.{pipe_bytes, with_pipe}
 use Rattle.dt_host.proofs.pipe.take_whole.Given as goal
 
 abbrev pub invariant-loop-done : goal.invariant-loop-done
 invariant-loop-done g l =
     let world = g.H.Host.view l.fn.host in
-    let bytes = held world l.ino in
+    let bytes = pipe_bytes world l.ino in
     record {
       room : l.done ≤ length l.buf;
       there : l.done ≤ length bytes;

@@ -2,7 +2,7 @@ use Rattle.std.proofs.Common.{◌≡◌, length, refl, sym, ap, ◌∙◌, arith
 use Rattle.dt_base.specs.declared.answer.Answer.TheVariants.{Refused}
 use Rattle.dt_base.specs.declared.errno.Errno.TheVariants.{Fault as BadAddress}
 use Rattle.dt_fds.proofs.Piped.{no_zero}
-use Rattle.dt_fds.specs.Backs.{at, holding}
+use Rattle.dt_fds.specs.Backs.{at, holding_at}
 use Rattle.dt_fds.specs.Descriptions.{description_at}
 use Rattle.dt_fds.specs.Holding.{bytes_read, pipe_read_call}
 use Rattle.dt_fds.specs.OpenFiles.{pipes_at}
@@ -21,7 +21,7 @@ returns-in-Err g c =
     let w = g.H.Host.view c.args.host.now in
     let fs = c.args.fs.now in
     let p = c.args.caller.now.vpid in
-    let h = holding (at fs.files fs.tree w) in
+    let h = holding_at (at fs.files fs.tree w) in
     let held = length (held_at (pipes_at fs.files w.pipes) (description_at fs.files.descriptors p c.args.fd)) in
     let most = total_len c.args.ranges.now in
     let gone = stage fs w c.args.caller.now c.args.space.now in
@@ -35,7 +35,7 @@ put-requires g c =
     let w = g.H.Host.view c.args.host.now in
     let fs = c.args.fs.now in
     let p = c.args.caller.now.vpid in
-    let h = holding (at fs.files fs.tree w) in
+    let h = holding_at (at fs.files fs.tree w) in
     let held = length (held_at (pipes_at fs.files w.pipes) (description_at fs.files.descriptors p c.args.fd)) in
     let most = total_len c.args.ranges.now in
     let made = c.pipe_read.ensures.makes fs.tree (backed_sound fs w c.args.caller.now c.args.space.now c.requires.sound) in
@@ -49,7 +49,7 @@ returns g c =
     let v = g.H.Host.view c.pipe_read.new.host in
     let fs = c.args.fs.now in
     let p = c.args.caller.now.vpid in
-    let h = holding (at fs.files fs.tree w) in
+    let h = holding_at (at fs.files fs.tree w) in
     let s = scene (stage fs w c.args.caller.now c.args.space.now) in
     let held = length (held_at (pipes_at fs.files w.pipes) (description_at fs.files.descriptors p c.args.fd)) in
     let most = total_len c.args.ranges.now in

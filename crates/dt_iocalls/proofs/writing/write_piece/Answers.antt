@@ -1,7 +1,7 @@
 use Rattle.std.proofs.Common.{◌≡◌, ℕ, List, length, take, drop, Ok, min, sym, ap, subst, ◌∙◌, arith}
 use Rattle.std.specs.Prelude.{IfOk}
 use Rattle.std.proofs.lemmas.List.{length-drop, length-take-le}
-use Rattle.dt_fds.specs.Backs.{at, holding}
+use Rattle.dt_fds.specs.Backs.{at, holding_at}
 use Rattle.dt_fds.specs.Holding.{pipe_write_call}
 use Rattle.dt_fds.proofs.Moving.{has_ends}
 use Rattle.dt_scene.specs.Sound.{stage, scene}
@@ -34,7 +34,7 @@ returns g c =
     let fd = c.args.fd in
     let pages = c.args.space.now in
     let s = scene (stage fs w caller pages) in
-    let h = holding (at fs.files fs.tree w) in
+    let h = holding_at (at fs.files fs.tree w) in
     let done = c.min-done.result in
     let moved = c.pipe_moves-moved.result in
     let left = c.pipe_moves-moved.ensures.left in

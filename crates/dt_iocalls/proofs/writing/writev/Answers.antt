@@ -1,5 +1,5 @@
 use Rattle.std.proofs.Common.{◌≤◌, sym, subst}
-use Rattle.dt_base.specs.declared.limits.TheConstants.{TRANSFER_LIMIT}
+use Rattle.dt_base.specs.declared.abi.TheConstants.{TRANSFER_LIMIT}
 use Rattle.dt_iocalls.specs.Ranges.{total_len}
 use Rattle.dt_iocalls.proofs.Vectors.{few_at}
 use Rattle.dt_iocalls.proofs.writing.writev.Goals as goal

@@ -17,6 +17,6 @@ write_whole-requires-clause-joined g c =
     subst (λ (w : World). c.args.off ≤ length (content w.forest c.args.real)) (sym c.in_ok-pad.ensures.padded)
     (subst (λ xs. c.args.off ≤ length xs) (sym (content-with_bytes w.forest c.args.real (padded bytes c.args.off))) (reaches bytes c.args.off))
 
-pub returns-clause-written : goal.returns-clause-written
-returns-clause-written g c =
+pub returns-clause-padded : goal.returns-clause-padded
+returns-clause-padded g c =
     writes-padded (g.H.Host.view c.args.host.now) (g.H.Host.view c.pad.new.host) (g.H.Host.view c.write_whole.new.host) c.args.real c.args.off c.args.bytes.now c.write_whole.result c.in_ok-pad.ensures.padded c.write_whole.ensures.legal

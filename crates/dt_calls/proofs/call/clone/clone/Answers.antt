@@ -6,7 +6,7 @@ use Rattle.dt_calls.specs.declared.call.effect.Outcome.TheVariants.{Done}
 use Rattle.dt_calls.specs.Clone.{is_supported, child_process, child_machine, parent_machine, with_child_of}
 use Rattle.dt_calls.specs.Container.{Shared}
 use Rattle.dt_calls.specs.InCode.{shared_of}
-use Rattle.dt_calls.specs.Sound.{hand, Keeps}
+use Rattle.dt_calls.specs.Sound.{hand, LeavesSound}
 use Rattle.dt_calls.proofs.Done.{effect-is, clone_call-made}
 use Rattle.dt_calls.proofs.Held.{keeps-child}
 use Rattle.dt_calls.proofs.call.clone.clone.Goals as goal
@@ -32,6 +32,6 @@ returns-in_ok-copy_machine-in-Ok g c =
     record {
       served = clone_call-made before next own m supported room
           ∙ effect-is (with_child_of before own next) (shared_of new after) own own (parent_machine m next) c.copy_machine.new.machine (Some (child_machine m next)) Done e (sym made) refl (sym machine) child c.in_ok-copy_machine-in-Ok.ensures.events c.in_ok-copy_machine-in-Ok.ensures.outcome;
-      kept = subst (Keeps (hand shared own world) (hand new own after)) (sym child) kept;
+      kept = subst (LeavesSound (hand shared own world) (hand new own after)) (sym child) kept;
       cause = search rules;
     }

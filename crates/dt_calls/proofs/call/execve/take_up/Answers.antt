@@ -6,9 +6,9 @@ use Rattle.dt_fds.specs.Holding.{Holding}
 use Rattle.dt_signals.specs.Signals.{after_exec}
 use Rattle.std.specs.FinMap.{insert}
 use Rattle.dt_calls.specs.Container.{signals_in, with_signals}
-use Rattle.dt_calls.specs.Execve.{with_holding, with_program}
+use Rattle.dt_calls.specs.Execve.{shared_with_holding, with_program}
 use Rattle.dt_calls.specs.InCode.{shared_of}
-use Rattle.dt_calls.specs.Sound.{hand, Keeps}
+use Rattle.dt_calls.specs.Sound.{hand, LeavesSound}
 use Rattle.dt_calls.proofs.Done.{effect-is}
 use Rattle.dt_calls.proofs.Held.{keeps-closed, keeps-signals, keeps-then, own-signalled}
 use Rattle.dt_calls.proofs.Signalled.{still-insert}
@@ -33,8 +33,8 @@ returns g c =
     let kept = keeps-then (hand shared own world) (hand left c.start.new.self after) (hand new c.start.new.self after) None closed
     (keeps-signals left c.start.new.self after closed.sound (insert shared.signals pid states) (still-insert shared.signals pid states)) in
     record {
-      served = effect-is _ (shared_of c.reset_handlers.new.self after) (with_program own c.args.program) c.start.new.self m m None Done c.quiet.result (ap (λ (h : Holding). with_signals (with_holding (shared_of shared world) h) pid states) (sym c.in_ok-close_exec.ensures.made) ∙ ap (λ (s : Shared). shared_of s after) (sym c.reset_handlers.ensures)) (sym c.start.ensures) refl c.quiet.ensures.child c.quiet.ensures.events c.quiet.ensures.outcome;
-      kept = subst (Keeps (hand shared own world) (hand c.reset_handlers.new.self c.start.new.self after)) (sym c.quiet.ensures.child)
-          (subst (λ (s : Shared). Keeps (hand shared own world) (hand s c.start.new.self after) None) (sym c.reset_handlers.ensures) kept);
+      served = effect-is _ (shared_of c.reset_handlers.new.self after) (with_program own c.args.program) c.start.new.self m m None Done c.quiet.result (ap (λ (h : Holding). with_signals (shared_with_holding (shared_of shared world) h) pid states) (sym c.in_ok-close_exec.ensures.made) ∙ ap (λ (s : Shared). shared_of s after) (sym c.reset_handlers.ensures)) (sym c.start.ensures) refl c.quiet.ensures.child c.quiet.ensures.events c.quiet.ensures.outcome;
+      kept = subst (LeavesSound (hand shared own world) (hand c.reset_handlers.new.self c.start.new.self after)) (sym c.quiet.ensures.child)
+          (subst (λ (s : Shared). LeavesSound (hand shared own world) (hand s c.start.new.self after) None) (sym c.reset_handlers.ensures) kept);
       cause = search rules;
     }

@@ -5,7 +5,7 @@ use Rattle.dt_fds.specs.OpenFiles.{pipes_at}
 use Rattle.dt_procs.specs.declared.member.Member.{Member}
 use Rattle.dt_procs.specs.declared.member.Reaped.{Reaped}
 use Rattle.dt_procs.specs.declared.member.Reaped.TheVariants.{Got}
-use Rattle.dt_procs.specs.Members.{reaped, without}
+use Rattle.dt_procs.specs.Members.{reaped, without_member}
 use Rattle.dt_procs.specs.Table.{members_of}
 use Rattle.dt_rv64.specs.Effects.{register, answered}
 use Rattle.dt_space.specs.Argument.{may_fill, with_filled}
@@ -14,7 +14,7 @@ use Rattle.dt_calls.specs.declared.call.effect.Outcome.TheVariants.{Done}
 use Rattle.dt_calls.specs.declared.numbers.TheConstants.{RUSAGE_SIZE}
 use Rattle.dt_calls.specs.declared.shared.Shared.{Shared}
 use Rattle.dt_calls.specs.InCode.{shared_of}
-use Rattle.dt_calls.specs.Sound.{hand, Keeps}
+use Rattle.dt_calls.specs.Sound.{hand, LeavesSound}
 use Rattle.dt_calls.specs.Wait.{status_bytes, usage_bytes}
 use Rattle.dt_calls.proofs.Done.{effect-is, reaps-done}
 use Rattle.dt_calls.proofs.Held.{keeps-reaped}
@@ -36,7 +36,7 @@ returns g c =
     let after = g.H.Host.view c.wait_for.new.host in
     let both : (may_fill m.space (register m A1) 4 && may_fill m.space (register m A3) RUSAGE_SIZE) ≡ true = search rules in
     let found : c.in_ok-wait_for.field-0 ≡ Got c.args.vpid c.args.end = c.in_ok-wait_for.ensures.found ∙ c.requires.found in
-    let members : members_of c.wait_for.new.self ≡ without (members_of shared.pids) c.args.vpid = c.in_ok-wait_for.ensures.members ∙ ap (λ (r : Reaped). reaped (members_of shared.pids) r) found in
+    let members : members_of c.wait_for.new.self ≡ without_member (members_of shared.pids) c.args.vpid = c.in_ok-wait_for.ensures.members ∙ ap (λ (r : Reaped). reaped (members_of shared.pids) r) found in
     let left : Shared = record shared { pids = c.wait_for.new.self } in
     let only = c.wait_for.ensures.rest in
     let tree : shared_of left world ≡ shared_of left after = λ i. record (shared_of left world) { tree = tree_of shared.fs.tree (sym only.forest i); pipes = pipes_at shared.fs.files (sym only.pipes i) } in
@@ -49,6 +49,6 @@ returns g c =
     record {
       served = reaps-done (shared_of shared world) own m (register m A1) (register m A3) c.args.vpid c.args.end both
           ∙ effect-is _ (shared_of left after) own own (answered (record m { space = both_written }) c.args.vpid) c.done.new.machine None Done c.done.result (all ∙ tree) refl machine c.done.ensures.child c.done.ensures.events c.done.ensures.outcome;
-      kept = subst (Keeps (hand shared own world) (hand left own after)) (sym c.done.ensures.child) kept;
+      kept = subst (LeavesSound (hand shared own world) (hand left own after)) (sym c.done.ensures.child) kept;
       cause = search rules;
     }

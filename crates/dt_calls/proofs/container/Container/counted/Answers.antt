@@ -1,4 +1,4 @@
-use Rattle.std.proofs.Common.{ap, subst}
+use Rattle.std.proofs.Common.{subst}
 use Rattle.dt_procs.specs.Table.{IsTable}
 use Rattle.dt_calls.specs.InCode.{ContainerView}
 use Rattle.dt_calls.proofs.Few.{few-places}

@@ -3,7 +3,7 @@ use Rattle.std.specs.Prelude.{IsSome, IfSome}
 use Rattle.std.specs.FinMap.{empty, get, remove}
 use Rattle.dt_procs.specs.declared.member.TheConstants.{FIRST_PID}
 use Rattle.dt_calls.specs.Container.{with_process}
-use Rattle.dt_calls.specs.InCode.{ContainerView, entered, shared_of, effect_as, container_of, turned_as}
+use Rattle.dt_calls.specs.InCode.{ContainerView, with_child_place, shared_of, effect_as, container_of, turned_as}
 use Rattle.dt_calls.specs.declared.container.Served.TheVariants.{Blocked, Moved, Unsupported}
 use Rattle.dt_calls.specs.Settle.{settled_by, all_ended, ends, ends_shown}
 use Rattle.dt_calls.specs.Sound.{IsPaired, with_part}
@@ -110,6 +110,6 @@ returns-in_ok-finish-in-Ends-clause-ok g c = λ m home.
     settle-ended c.args.self.now w c.args.next c.args.own m c.args.effect c.requires.number c.finish.new.self (g.H.Host.view c.finish.new.host) c.in-Ends.end c.in-Ends.is
     (c.in_ok-finish-in-Ends.ensures.shared ∙ ap (λ s. ends p c.in-Ends.end (shared_of s w)) put)
     (c.in_ok-finish-in-Ends.ensures.events ∙ ap (λ s. c.args.effect.events.items ++ ends_shown p c.in-Ends.end (shared_of s w)) put)
-    (c.in_ok-finish-in-Ends.ensures.places ∙ ap (λ x. cond (p == FIRST_PID) empty (entered (remove x p) c.args.next c.args.effect.child)) places)
+    (c.in_ok-finish-in-Ends.ensures.places ∙ ap (λ x. cond (p == FIRST_PID) empty (with_child_place (remove x p) c.args.next c.args.effect.child)) places)
     (c.in_ok-finish-in-Ends.ensures.next ∙ ap (λ s. s.pids.next) put)
     ∙ (λ i. turned_as (container_of c.finish.new.self (g.H.Host.view c.finish.new.host)) (sym c.is_gone-is_gone.ensures i))

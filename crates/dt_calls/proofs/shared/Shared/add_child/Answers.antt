@@ -1,4 +1,4 @@
-use Rattle.std.proofs.Common.{◌≡◌, refl, sym, ap, subst, ◌∙◌}
+use Rattle.std.proofs.Common.{◌≡◌, refl, sym, subst}
 use Rattle.std.specs.FinMap.{insert}
 use Rattle.dt_fds.specs.Backs.{KeepsNodes}
 use Rattle.dt_host.proofs.Spots.{IsLive-IsDir}
@@ -7,7 +7,6 @@ use Rattle.dt_procs.specs.Members.{with_child}
 use Rattle.dt_procs.specs.Table.{members_of}
 use Rattle.dt_signals.specs.Signals.{forked}
 use Rattle.dt_tree.specs.Table.{shape_of}
-use Rattle.dt_calls.specs.declared.shared.Process.{Process}
 use Rattle.dt_calls.specs.declared.shared.Shared.{Shared}
 use Rattle.dt_calls.specs.Clone.{child_process}
 use Rattle.dt_calls.specs.Container.{signals_in}

@@ -1,4 +1,4 @@
-use Rattle.std.proofs.Common.{arith, sym, ap, subst, ◌∙◌}
+use Rattle.std.proofs.Common.{arith, ◌∙◌}
 use Rattle.dt_calls.proofs.Keys.{keys-below}
 use Rattle.dt_calls.proofs.Ended.{part-kept}
 use Rattle.dt_calls.proofs.shared.Shared.end.Goals as goal

@@ -1,7 +1,7 @@
-use Rattle.std.proofs.Common.{arith, ◌≡◌, ◌≢◌, ℕ, ◌<◌, ◌≤◌, length, drop, refl, sym, ap, subst, ◌∙◌}
+use Rattle.std.proofs.Common.{arith, ◌≢◌, ◌<◌, length, refl, sym, subst, ◌∙◌}
 use Rattle.std.proofs.Math.ListN.{get_or}
 use Rattle.std.specs.Prelude.{IsSome}
-use Rattle.std.specs.FinMap.{get, keys}
+use Rattle.std.specs.FinMap.{get}
 use Rattle.dt_calls.proofs.Keys.{key-there, key-apart}
 use Rattle.dt_calls.proofs.Ended.{kills-next, part-kept}
 use Rattle.dt_calls.proofs.shared.Shared.kill_each.Goals as goal

@@ -3,7 +3,7 @@ use Rattle.std.specs.Prelude.{Ok}
 use Rattle.dt_tree.specs.Table.{tree_of}
 use Rattle.dt_fds.specs.Descriptions.{slot_at, duplicated}
 use Rattle.dt_fds.specs.Holding.{Holding, dup_over, dup_within}
-use Rattle.dt_fds.specs.Backs.{KeepsNodes, at, holding}
+use Rattle.dt_fds.specs.Backs.{KeepsNodes, at, holding_at}
 use Rattle.dt_fds.proofs.Ending.{counted-kept}
 use Rattle.dt_fds.proofs.Backing.{KeepsNodes-with_slot, backs-kept, others-kept, KeepsOthers-then}
 use Rattle.dt_fds.proofs.Counting.{open-there}
@@ -12,7 +12,7 @@ use Rattle.dt_fds.proofs.files.Files.dup_within.Goals as goal
 
 pub living-requires : goal.living-requires
 living-requires g c =
-    let h : Holding = holding (at c.args.self.now c.args.tree.now (g.H.Host.view c.args.host.now)) in
+    let h : Holding = holding_at (at c.args.self.now c.args.tree.now (g.H.Host.view c.args.host.now)) in
     record {
       here = ap (λ h. slot_at h.files c.args.pid c.args.old) c.in_ok-free_slot-in-Some.ensures.made
           ∙ slot-without_other h c.args.pid c.args.new c.args.old (slot_at c.args.self.now.descriptors c.args.pid c.args.new) c.requires.apart
@@ -22,7 +22,7 @@ living-requires g c =
 pub share-requires-clause-table : goal.share-requires-clause-table
 unfolding slot_at
 share-requires-clause-table g c =
-    let h : Holding = holding (at c.args.self.now c.args.tree.now (g.H.Host.view c.args.host.now)) in
+    let h : Holding = holding_at (at c.args.self.now c.args.tree.now (g.H.Host.view c.args.host.now)) in
     let here = ap (λ h. slot_at h.files c.args.pid c.args.old) c.in_ok-free_slot-in-Some.ensures.made
     ∙ slot-without_other h c.args.pid c.args.new c.args.old (slot_at c.args.self.now.descriptors c.args.pid c.args.new) c.requires.apart
     ∙ sym c.in-Some.ensures.slot in
@@ -30,7 +30,7 @@ share-requires-clause-table g c =
 
 pub share-requires-clause-free : goal.share-requires-clause-free
 share-requires-clause-free g c =
-    let h : Holding = holding (at c.args.self.now c.args.tree.now (g.H.Host.view c.args.host.now)) in
+    let h : Holding = holding_at (at c.args.self.now c.args.tree.now (g.H.Host.view c.args.host.now)) in
     ap (λ h. slot_at h.files c.args.pid c.args.new) c.in_ok-free_slot-in-Some.ensures.made ∙ slot-without h c.args.pid c.args.new
 
 pub returns-in_ok-share-in-Some : goal.returns-in_ok-share-in-Some
@@ -38,7 +38,7 @@ unfolding dup_within
 returns-in_ok-share-in-Some g c =
     let p = c.args.pid in
     let new = c.args.new in
-    let h : Holding = holding (at c.args.self.now c.args.tree.now (g.H.Host.view c.args.host.now)) in
+    let h : Holding = holding_at (at c.args.self.now c.args.tree.now (g.H.Host.view c.args.host.now)) in
     let free = c.in_ok-free_slot-in-Some.ensures in
     let shared = c.in_ok-share-in-Some.ensures.files in
     let files = sym (shared ∙ ap (λ h. duplicated h.files p new c.in-Some.slot c.args.cloexec) free.made) in
@@ -54,7 +54,7 @@ returns-in_ok-share-in-Some g c =
         ends = counted-kept p c.free_slot.new.self.descriptors _ _ kept free.backed.ends;
         backs = backs-kept p c.free_slot.new.self.descriptors _ left kept free.backed.backs;
       };
-      others = KeepsOthers-then p h (holding (at c.free_slot.new.self c.free_slot.new.tree (g.H.Host.view c.free_slot.new.host))) _ free.others (others-kept p c.free_slot.new.self.descriptors _ left kept);
+      others = KeepsOthers-then p h (holding_at (at c.free_slot.new.self c.free_slot.new.tree (g.H.Host.view c.free_slot.new.host))) _ free.others (others-kept p c.free_slot.new.self.descriptors _ left kept);
       rest = free.rest;
       cause = record { later = free.cause.later; rose = λ never. absurd never };
     }

@@ -6,10 +6,10 @@ use Rattle.dt_tree.specs.Table.{tree_of}
 use Rattle.dt_pipes.specs.Table.{pipes_of}
 use Rattle.dt_pipes.proofs.Held.{has-pipes_of}
 use Rattle.dt_fds.specs.Descriptions.{description_at, writers}
-use Rattle.dt_fds.specs.Pipes.{content, holds, none_held}
+use Rattle.dt_fds.specs.Pipes.{pipe_content, with_pipe_content, none_held}
 use Rattle.dt_fds.specs.Holding.{over, done, pipe_read_call, bytes_read}
 use Rattle.dt_fds.specs.declared.flow.Flow.TheVariants.{Moved}
-use Rattle.dt_fds.specs.Backs.{at, holding}
+use Rattle.dt_fds.specs.Backs.{at, holding_at}
 use Rattle.dt_fds.proofs.Ending.{of-described, read-there, read-by, held-by}
 use Rattle.dt_fds.proofs.Piped.{no_zero, backed-piped, others-piped, if_ok, nothing-came, came}
 use Rattle.dt_fds.proofs.files.Files.pipe_read.Goals as goal
@@ -35,7 +35,7 @@ unfolding bytes_read
 returns-then-held-eq0-clause-bytes g c = λ table.
     let f = c.args.self.now in
     let world = g.H.Host.view c.args.host.now in
-    let h = holding (at f table world) in
+    let h = holding_at (at f table world) in
     let found = description_at f.descriptors c.args.pid c.args.fd in
     let held = held-by h found c.in-Some.q c.in-Some.nonblock (sym c.in-Some.ensures) in
     let count = c.held.ensures.count world.pipes c.requires.stands in
@@ -47,22 +47,22 @@ unfolding bytes_read
 returns-clause-bytes g c = λ table.
     let f = c.args.self.now in
     let world = g.H.Host.view c.args.host.now in
-    let h = holding (at f table world) in
+    let h = holding_at (at f table world) in
     let found = description_at f.descriptors c.args.pid c.args.fd in
     let held = held-by h found c.in-Some.q c.in-Some.nonblock (sym c.in-Some.ensures) in
     let takes = c.in_ok-count.ensures.takes in
     subst (λ bytes. c.take.new.buf ≡ take (length c.args.buf.now) bytes ++ drop (length (take (length c.args.buf.now) bytes)) c.args.buf.now) (sym held)
-    (came (length c.args.buf.now) c.in_ok-count.count (content h.pipes c.in-Some.q) c.args.buf.now c.take.new.buf takes.most takes.prefix)
+    (came (length c.args.buf.now) c.in_ok-count.count (pipe_content h.pipes c.in-Some.q) c.args.buf.now c.take.new.buf takes.most takes.prefix)
 
 pub returns-clause-makes : goal.returns-clause-makes
 unfolding pipe_read_call
 returns-clause-makes g c = λ table backed.
     let f = c.args.self.now in
     let world = g.H.Host.view c.args.host.now in
-    let h = holding (at f table world) in
+    let h = holding_at (at f table world) in
     let found = description_at f.descriptors c.args.pid c.args.fd in
     let q = c.in-Some.q in
-    let bytes = content h.pipes q in
+    let bytes = pipe_content h.pipes q in
     let takes = c.in_ok-count.ensures.takes in
     let took = c.in_ok-count.ensures in
     let count = c.held.ensures.count world.pipes c.requires.stands in
@@ -71,7 +71,7 @@ returns-clause-makes g c = λ table backed.
     let contents = takes.left ∙ ap (λ n. insert (pipes_of f.pipes world.pipes) q (drop n bytes)) takes.most in
     record {
       made = read-by h (length c.args.buf.now) found q c.in-Some.nonblock (sym c.in-Some.ensures)
-          ∙ ap (λ b. if b then record { answer = none_held (writers f.descriptors q) c.in-Some.nonblock; next = h } else done (record h { pipes = holds h.pipes q (drop most bytes) }) (Moved most)) some
+          ∙ ap (λ b. if b then record { answer = none_held (writers f.descriptors q) c.in-Some.nonblock; next = h } else done (record h { pipes = with_pipe_content h.pipes q (drop most bytes) }) (Moved most)) some
           ∙ (λ i. record {
             answer = Ok (Moved (sym takes.most i));
             next = over (tree_of table (sym took.rest.forest i)) (record { contents = sym contents i; next = sym took.next i }) f.descriptors;

@@ -7,10 +7,10 @@ use Rattle.dt_pipes.specs.Table.{pipes_of}
 use Rattle.dt_pipes.proofs.Held.{has-pipes_of}
 use Rattle.dt_fds.specs.Descriptions.{description_at, readers}
 use Rattle.dt_fds.specs.OpenFiles.{pipes_at}
-use Rattle.dt_fds.specs.Pipes.{content, goes, write_flow}
+use Rattle.dt_fds.specs.Pipes.{pipe_content, goes, write_flow}
 use Rattle.dt_fds.specs.Holding.{over, done, write_on, pipe_write_call}
 use Rattle.dt_fds.specs.declared.flow.Flow.TheVariants.{Broken}
-use Rattle.dt_fds.specs.Backs.{at, holding}
+use Rattle.dt_fds.specs.Backs.{at, holding_at}
 use Rattle.dt_fds.proofs.Ending.{of-described, write-there, write-by, none-if}
 use Rattle.dt_fds.proofs.Moving.{goes-left, goes-room, held-within, moves-read}
 use Rattle.dt_fds.proofs.Piped.{backed-piped, others-piped, does-as, unless-as, never-as}
@@ -28,7 +28,7 @@ pub put-requires-clause-fits : goal.put-requires-clause-fits
 put-requires-clause-fits g c =
     let f = c.args.self.now in
     let host = (g.H.Host.view c.args.host.now).pipes in
-    let old = content (pipes_at f host) c.in-Some.q in
+    let old = pipe_content (pipes_at f host) c.in-Some.q in
     let moved = c.requires.moves ∙ moves-read f host c.args.pid c.args.fd c.args.whole c.args.done c.in-Some.q c.in-Some.nonblock c.requires.piped (sym c.in-Some.ensures) (sym c.is_read.ensures ∙ c.if-not-is_read.false) in
     subst (λ n. length old + n ≤ PIPE_LIMIT) (sym moved) (goes-room (length old) c.args.whole c.args.done (held-within f.pipes host c.in-Some.q c.requires.piped.stands))
 
@@ -36,7 +36,7 @@ pub write_flow-requires : goal.write_flow-requires
 write_flow-requires g c =
     let f = c.args.self.now in
     let host = (g.H.Host.view c.args.host.now).pipes in
-    let old = content (pipes_at f host) c.in-Some.q in
+    let old = pipe_content (pipes_at f host) c.in-Some.q in
     let moved = c.requires.moves ∙ moves-read f host c.args.pid c.args.fd c.args.whole c.args.done c.in-Some.q c.in-Some.nonblock c.requires.piped (sym c.in-Some.ensures) (sym c.is_read.ensures ∙ c.if-not-is_read.false) in
     subst (λ n. c.args.done + n ≤ c.args.whole) (sym moved) (goes-left (length old) c.args.whole c.args.done c.requires.within)
 
@@ -45,12 +45,12 @@ unfolding pipe_write_call
 returns-clause-makes g c = λ table bytes backed sized part.
     let f = c.args.self.now in
     let world = g.H.Host.view c.args.host.now in
-    let h = holding (at f table world) in
+    let h = holding_at (at f table world) in
     let found = description_at f.descriptors c.args.pid c.args.fd in
     let q = c.in-Some.q in
     let nonblock = c.in-Some.nonblock in
     let piece = c.args.piece.now in
-    let old = content h.pipes q in
+    let old = pipe_content h.pipes q in
     let whole = c.args.whole in
     let put = c.in_ok-put.ensures in
     let answer = write_flow whole c.args.done (length piece) nonblock in

@@ -40,7 +40,7 @@ returns-clause-bytes c =
     let upper : c.copy_from_slice.new.self ≡ take inside first = c.copy_from_slice.ensures.after ∙ c.split_at-2.ensures.front in
     let lower : c.copy_from_slice-2.new.self ≡ take (count - inside) second = c.copy_from_slice-2.ensures.after ∙ c.split_at-3.ensures.front in
     let size : length c.copy_from_slice.new.self ≡ inside = ap length upper ∙ length-take-le inside first (omega arith) in
-    let older : first ≡ drop c.self.inside.taken c.self.inside.front.items = c.split_at.ensures.back ∙ ap (drop c.self.inside.taken) c.deref.ensures.value in
+    let older : first ≡ drop c.self.inside.taken c.self.inside.oldest.items = c.split_at.ensures.back ∙ ap (drop c.self.inside.taken) c.deref.ensures.value in
     let held : first ++ second ≡ c.args.self.now = (λ i. older i ++ c.deref-2.ensures.value i) ∙ c.self.view_is in
     copied c.args.buf.now c.copy_from_slice.new.self c.copy_from_slice-2.new.self count inside size (omega arith)
     ∙ ap (λ xs. xs ++ drop count c.args.buf.now) ((λ i. upper i ++ lower i) ∙ sym (two_rows first second count inside (omega arith)) ∙ ap (take count) held)

@@ -5,7 +5,7 @@ use Rattle.std.proofs.lemmas.Fn.{filter_same}
 use Rattle.dt_host.specs.World.{World}
 use Rattle.dt_procs.specs.declared.row.Row.{Row}
 use Rattle.dt_procs.specs.declared.member.Member.{Member}
-use Rattle.dt_procs.specs.Members.{has_pid, member_at, without}
+use Rattle.dt_procs.specs.Members.{has_pid, member_at, without_member}
 use Rattle.dt_procs.specs.Table.{Table, Stands, member_of, members_of}
 use Rattle.dt_procs.proofs.Listed.{row_seen, member_at-none, filter-rows}
 use Rattle.dt_procs.proofs.Standing.{real-there, stands-without, table-without}
@@ -35,7 +35,7 @@ pub returns-clause-members : goal.returns-clause-members
 returns-clause-members g c =
     let kept = filter_same _ (λ (r : Row). not (has_pid c.args.vpid r.member)) _ (λ x b f' k. search rules) _ _ c.retain.ensures.filtered in
     ap (map member_of) kept ∙ sym (filter-rows (λ (m : Member). not (has_pid c.args.vpid m)) c.self.inside.rows.items)
-    ∙ ap (λ (t : Table). without (members_of t) c.args.vpid) c.self.view_is
+    ∙ ap (λ (t : Table). without_member (members_of t) c.args.vpid) c.self.view_is
 
 pub returns-clause-stands : goal.returns-clause-stands
 returns-clause-stands g c =

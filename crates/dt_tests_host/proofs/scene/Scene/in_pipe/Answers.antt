@@ -7,4 +7,4 @@ pub make-requires : goal.make-requires
 make-requires c = let old = c.args.self.now in subst (λ (kind : NodeKind). IsOf old.host.view kind old.number old.most) c.in-Pipe.is c.requires
 
 pub returns-in-Pipe : goal.returns-in-Pipe
-returns-in-Pipe c = let old = c.args.self.now in subst (λ (kind : NodeKind). IsOf c.make.new.host.view kind old.number c.make.new.filled) (sym c.in-Pipe.is) c.make.ensures
+returns-in-Pipe c = let old = c.args.self.now in subst (λ (kind : NodeKind). IsOf c.make.new.host.view kind old.number c.make.new.bound) (sym c.in-Pipe.is) c.make.ensures

@@ -1,7 +1,7 @@
 use Rattle.std.proofs.Common.{◌≡◌, Some, sym, ap, subst, ◌∙◌}
 use Rattle.std.specs.Prelude.{option_map}
 use Rattle.dt_host.specs.World.{World, IsLive, node_at}
-use Rattle.dt_tree.specs.Meta.{size_of}
+use Rattle.dt_tree.specs.Meta.{node_size}
 use Rattle.dt_tree.specs.Table.{shape_of}
 use Rattle.dt_tree.proofs.Mirroring.{has_inode}
 use Rattle.dt_tree.proofs.Looked.{meta-kept}
@@ -16,6 +16,6 @@ inode-inode-requires g c = has_inode _ (g.H.Host.view c.args.host.now).forest _ 
 pub returns-clause-ok : goal.returns-clause-ok
 returns-clause-ok g c =
     let v = (g.H.Host.view c.args.host.now).forest in
-    let size = subst (λ (w : World). option_map size_of (node_at (shape_of c.args.self.now w.forest) c.args.vino) ≡ Some c.in_ok-size.size) c.nlink.ensures.asks.stays c.in_ok-size.ensures.ok in
+    let size = subst (λ (w : World). option_map node_size (node_at (shape_of c.args.self.now w.forest) c.args.vino) ≡ Some c.in_ok-size.size) c.nlink.ensures.asks.stays c.in_ok-size.ensures.ok in
     meta-kept c.args.self.now v c.requires.stands.mirrors c.args.vino c.inode-inode.result c.inode-inode.ensures c.in_ok-nlink.nlink c.in_ok-size.size c.in_ok-nlink.ensures.ok size
     ∙ ap (λ k. Some (record { kind = k; mode = c.inode-inode.result.mode; nlink = c.in_ok-nlink.nlink; size = c.in_ok-size.size; stamp = c.inode-inode.result.stamp })) (sym c.type_of.ensures)

@@ -14,17 +14,17 @@ write_padded-requires-clause-file g c = real_file c.args.self.now (g.H.Host.view
 pub returns-clause-tree : goal.returns-clause-tree
 returns-clause-tree g c =
     tree-written c.args.self.now c.stamp.new.self (g.H.Host.view c.args.host.now) (g.H.Host.view c.write_padded.new.host) c.args.vino c.inode.result c.args.stamp c.requires.stands c.inode.ensures c.requires.file
-    c.stamp.ensures.mirrors c.stamp.ensures.tree c.args.off c.args.bytes.now c.in_ok-write_padded.ensures.written
+    c.stamp.ensures.mirrors c.stamp.ensures.tree c.args.off c.args.bytes.now c.in_ok-write_padded.ensures.padded
 
 pub returns-clause-stands : goal.returns-clause-stands
 returns-clause-stands g c =
     stands-written c.args.self.now c.stamp.new.self (g.H.Host.view c.args.host.now) (g.H.Host.view c.write_padded.new.host) c.args.vino c.inode.result c.args.stamp c.requires.stands c.inode.ensures c.requires.file
-    c.stamp.ensures.mirrors c.stamp.ensures.tree c.args.off c.args.bytes.now c.requires.fits c.in_ok-write_padded.ensures.written
+    c.stamp.ensures.mirrors c.stamp.ensures.tree c.args.off c.args.bytes.now c.requires.fits c.in_ok-write_padded.ensures.padded
 
 pub returns-clause-held : goal.returns-clause-held
 returns-clause-held g c =
     let t = tree_of c.args.self.now (g.H.Host.view c.args.host.now).forest in
     subst (KeepsHeld t)
     (sym (tree-written c.args.self.now c.stamp.new.self (g.H.Host.view c.args.host.now) (g.H.Host.view c.write_padded.new.host) c.args.vino c.inode.result c.args.stamp c.requires.stands c.inode.ensures c.requires.file
-    c.stamp.ensures.mirrors c.stamp.ensures.tree c.args.off c.args.bytes.now c.in_ok-write_padded.ensures.written))
+    c.stamp.ensures.mirrors c.stamp.ensures.tree c.args.off c.args.bytes.now c.in_ok-write_padded.ensures.padded))
     (keeps-written t c.args.vino c.args.off c.args.bytes.now c.args.stamp c.requires.file)

@@ -1,12 +1,12 @@
 use Rattle.std.proofs.Common.{ℕ, Option, subst}
 use Rattle.std.specs.Prelude.{Ok}
-use Rattle.dt_calls.specs.Call.{served}
+use Rattle.dt_calls.specs.Call.{serve_stop}
 use Rattle.dt_calls.specs.Delivery.{after_delivery}
 use Rattle.dt_calls.specs.InCode.{shared_of}
 use Rattle.dt_calls.specs.Sound.{Serves, hand}
 use Rattle.dt_calls.proofs.Delivering.{serves-delivered}
 use Rattle.dt_calls.proofs.Held.{own-signalled}
-use Rattle.dt_calls.proofs.call.serve.Goals as goal
+use Rattle.dt_calls.proofs.call.serve_and_deliver.Goals as goal
 
 pub deliver_at-requires : goal.deliver_at-requires
 deliver_at-requires g c =
@@ -22,7 +22,7 @@ returns g c =
     let v = g.H.Host.view c.serve_stop.new.host in
     let e = c.in_ok-effect.effect in
     let d = c.deliver_at in
-    subst (λ (forced : Option ℕ). Serves (after_delivery forced (served (shared_of shared w) shared.pids.next own m c.args.stop)) (hand shared own w)
+    subst (λ (forced : Option ℕ). Serves (after_delivery forced (serve_stop (shared_of shared w) shared.pids.next own m c.args.stop)) (hand shared own w)
     (hand (record mid { signals = d.new.signals }) d.new.own v) d.new.machine (Ok (record e { outcome = d.new.outcome }))
     (g.H.Host.count c.args.host.now) (g.H.Host.count c.serve_stop.new.host)) c.forced_by-forced.ensures
     (serves-delivered _ _ _ mid c.serve_stop.new.own v c.serve_stop.new.machine e d.new.signals d.new.own d.new.machine d.new.outcome _ _

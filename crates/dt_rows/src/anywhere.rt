@@ -1,0 +1,53 @@
+// What a completed run tells of its words, on a store of which nothing may be known.
+ghost use Rattle.std.specs.Prelude.{◌≡◌, List, Some, map, string_bytes, IsTrue};
+ghost use Rattle.dt_base.specs.declared.image.Entry.{Entry};
+ghost use Rattle.dt_base.specs.Image.{IsImage};
+ghost use Rattle.dt_host.specs.World.{IsEmptyStart};
+ghost use Rattle.dt_options.specs.Options.{Request, request_of};
+ghost use Rattle.dt_run.specs.Run.{status_of_run};
+ghost use Rattle.dt_run.specs.Statuses.{is_run_status};
+ghost use Rattle.dt_run.specs.Wanted.{run_on};
+
+use crate::twice::{InMemory, outside};
+use dt_agreement::Outside;
+use dt_host::{Host, NoGate, Sink, Store};
+use dt_run::dettrace;
+use dt_testing::{HELLO_INDEX, RUN_HELLO, hello, strings};
+use std::alloc::Global;
+use std::test::Fail;
+
+// Runs what the words ask for. A run that was completed is one of the words on some image, both well formed, and the
+// status is its own.
+fn run<S: Store, H: Host + Send, O: Sink + Send, E: Sink>(
+    alloc: Global,
+    words: &[String],
+    met: &mut Outside<S, H, O, E>,
+) -> u8
+    requires { IsEmptyStart (H.view met.old.host) }
+    ensures { IsTrue (is_run_status result) → (request : Request) × (image : List Entry)
+        × (request_of (map string_bytes words.now) ≡ Some request) × IsImage image
+        × (result ≡ status_of_run (run_on request image)) }
+{
+    dettrace(
+        alloc,
+        words,
+        &mut met.store,
+        &mut met.host,
+        &mut met.out,
+        &mut met.err,
+        &NoGate,
+    )
+}
+
+#[test]
+fn a_completed_run_is_one_of_the_words_on_an_image(rt: HostRuntime) -> Result<(), Fail> {
+    let alloc = rt.alloc();
+    let program = hello(alloc)?;
+    let words = strings(alloc, RUN_HELLO)?;
+    let mut met: InMemory = outside(alloc, 3, HELLO_INDEX, program.as_slice())?;
+    assert_eq!(rt; run(alloc, &words, &mut met), 0);
+    let mut met: InMemory = outside(alloc, 3, HELLO_INDEX, program.as_slice())?;
+    let words = strings(alloc, "run\nimg")?;
+    assert_eq!(rt; run(alloc, &words, &mut met), 2);
+    Ok(())
+}
