@@ -17,7 +17,7 @@ use Rattle.dt_run.specs.Failure.{failure_status, failure_line}
 use Rattle.dt_run.specs.HoldsTree.{HoldSame}
 use Rattle.dt_run.specs.Run.{Run, report_of}
 use Rattle.dt_run.specs.SomeRun.{SomeRun, AddsReportPart}
-use Rattle.dt_run.specs.Statuses.{is_status, is_run_status, precedes_run, fails_run, status_line, Completes, RefusesImage, AddsLine, AddsRefusal}
+use Rattle.dt_run.specs.Statuses.{is_status, is_run_status, precedes_run, fails_run, status_line, Completes, AddsLine, AddsRefusal}
 use Rattle.dt_run.specs.Wanted.{run_on, run_or_refusal, wanted, wanted_by}
 use Rattle.dt_run.proofs.Ran.{completes-status, never}
 use Rattle.dt_run.proofs.Lines.{run_line}
@@ -90,10 +90,10 @@ no_run NoMemory is = cc
 
 -- what one call says of its answer
 module _ (told : Option Files) (words : List (List ℕ)) (found : Result Run Failure) (is : wanted told words ≡ Some found)
-    (status : ℕ) (old new : Option (List ℕ)) (w : World)
+    (status : ℕ) (old new err err_now : Option (List ℕ)) (before now : ℕ) (w : World)
     (some_image : IsTrue (is_run_status status) → SomeRun told words (λ run. Completes run status old new w))
     (usage : status ≡ 2 → wanted told words ≡ Some (Err Usage))
-    (image : status ≡ 3 → IfSome (wanted told words) RefusesImage)
+    (image_line : status ≡ 3 → AddsRefusal (wanted told words) err err_now before now)
     (nothing : IsTrue (precedes_run status) → new ≡ old) where
   pub by_run : IsTrue (is_run_status status) → Answered found status old new w
   by_run run =
@@ -109,8 +109,9 @@ module _ (told : Option Files) (words : List (List ℕ)) (found : Result Run Fai
 
   by_image : status ≡ 3 → Answered found status old new w
   by_image three =
-      let r : RefusesImage found = subst (λ known. IfSome known RefusesImage) is (image three) in
-      subst (λ f. Answered f status old new w) (sym r.refused) (three, nothing (subst (λ s. IsTrue (precedes_run s)) (sym three) refl))
+      let r = image_line three in
+      let refused : found ≡ Err (Image r.refusal) = subst (λ known. IfSome known (λ f. f ≡ Err (Image r.refusal))) is r.first in
+      subst (λ f. Answered f status old new w) (sym refused) (three, nothing (subst (λ s. IsTrue (precedes_run s)) (sym three) refl))
 
   pub answered : IsTrue (is_decided status) → Answered found status old new w
   answered h =

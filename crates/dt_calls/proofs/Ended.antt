@@ -9,7 +9,7 @@ use Rattle.dt_base.specs.declared.event.End.{End}
 use Rattle.dt_base.specs.declared.event.End.TheVariants.{Signal}
 use Rattle.dt_fds.specs.declared.files.Files.{Files}
 use Rattle.dt_fds.specs.Backs.{AllIn, IsBacked, IsPiped, KeepsOthers as KeepsHolds, at, holding_at, descriptions_of}
-use Rattle.dt_host.specs.Total.{weight}
+use Rattle.dt_host.specs.inner.Weight.{weight}
 use Rattle.dt_host.specs.World.{World, IsDir}
 use Rattle.dt_host.proofs.Maps.{get-remove_same, get-remove_other}
 use Rattle.dt_host.proofs.Totals.{total-remove}

@@ -11,7 +11,7 @@ use Rattle.dt_base.specs.declared.caller.Caller.{Caller}
 use Rattle.dt_base.specs.declared.event.End.{End}
 use Rattle.dt_fds.specs.Backs.{AllIn, KeepsNodes, KeepsOthers as KeepsHolds, OnlyFiles, at, holding_at, IsBacked, IsPiped, descriptions_of}
 use Rattle.dt_fds.specs.declared.files.Files.{Files}
-use Rattle.dt_host.specs.Total.{weight}
+use Rattle.dt_host.specs.inner.Weight.{weight}
 use Rattle.dt_host.specs.World.{World, Forest, IsDir, OnlyPids}
 use Rattle.dt_host.proofs.Maps.{at_insert, get-insert_same, get-insert_other, get-remove_other}
 use Rattle.dt_host.proofs.Spots.{IsLive-IsDir}

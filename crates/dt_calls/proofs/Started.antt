@@ -9,7 +9,7 @@ use Rattle.dt_fds.specs.declared.desc.Desc.{Desc}
 use Rattle.dt_fds.specs.declared.desc.DescKind.TheVariants.{Input, Stream}
 use Rattle.dt_fds.specs.Descriptions.{Descriptions, none_open, opened_at, opened_lowest, first_desc, first_files, with_slot, with_new_description, lowest_free, table_at}
 use Rattle.dt_fds.specs.Backs.{AllIn, IsPiped, descriptions_of}
-use Rattle.dt_host.specs.Total.{weight}
+use Rattle.dt_host.specs.inner.Weight.{weight}
 use Rattle.dt_host.specs.World.{World, Forest, Pipes, IsDir}
 use Rattle.dt_host.proofs.Maps.{at_insert, get-insert_same, get-insert_other}
 use Rattle.dt_host.proofs.Spots.{IsLive-IsDir}

@@ -34,7 +34,7 @@ by_program c own m (Err errno) = refused c own m errno
 by_program c own m (Ok program) =
     quiet (with_exec c own.caller.vpid) (with_program own program) program.machine Done
 
--- execve(2)
+-- the program of a path takes the place of the one that called, with the words it is handed (execve(2))
 unfoldable pub execve_call : Shared → Process → Machine → Effect
 execve_call c own m =
     by_program c own m (execve_program c.tree.shape own.caller.cwd m.space

@@ -1,7 +1,7 @@
 -- The system calls that tell a process who and where it is, and those that do nothing: getpid(2) and its kin, uname(2),
 -- sched_yield(2), set_tid_address(2), set_robust_list(2).
 use Rattle.std.specs.Prelude.{ℕ, ◌-◌, ◌==◌, List, ◌++◌, length, replicate, codes, Result, Ok, Err, unwrap_or, if◌then◌else◌}
-use Rattle.dt_base.specs.declared.abi.TheConstants.{A0, A1}
+use Rattle.dt_base.specs.declared.abi.TheConstants.{A0, A1, ROBUST_LIST_SIZE}
 use Rattle.dt_base.specs.declared.errno.Errno.TheVariants.{Inval, Fault as BadAddress}
 use Rattle.dt_rv64.specs.declared.machine.Machine.{Machine}
 use Rattle.dt_rv64.specs.Effects.{register}
@@ -9,7 +9,7 @@ use Rattle.dt_space.specs.declared.access.Miss.{Miss}
 use Rattle.dt_space.specs.Space.{PageView}
 use Rattle.dt_space.specs.Write.{stored}
 use Rattle.dt_procs.specs.Members.{parent_pid}
-use Rattle.dt_calls.specs.declared.numbers.TheConstants.{ROBUST_LIST_SIZE, UTSNAME_FIELD}
+use Rattle.dt_calls.specs.declared.numbers.TheConstants.{UTSNAME_FIELD}
 use Rattle.dt_calls.specs.declared.shared.Process.{Process}
 use Rattle.dt_calls.specs.Container.{Shared}
 use Rattle.dt_calls.specs.Effect.{Effect, done, refused}

@@ -1,6 +1,6 @@
 -- Signals that a process sends: kill(2), tkill(2), tgkill(2). A process has one thread, whose number is the process's.
-use Rattle.std.specs.Prelude.{ℕ, ◌^◌, ◌==◌, ◌||◌, ◌&&◌, not, nat_lt, nat_le, Bool, is_some, if◌then◌else◌}
-use Rattle.dt_base.specs.declared.abi.TheConstants.{A0, A1, A2, KILL, TKILL, TGKILL, SIGCHLD, SIGNAL_LIMIT}
+use Rattle.std.specs.Prelude.{ℕ, ◌==◌, ◌||◌, ◌&&◌, not, nat_lt, nat_le, Bool, is_some, if◌then◌else◌}
+use Rattle.dt_base.specs.declared.abi.TheConstants.{A0, A1, A2, KILL, TKILL, TGKILL, GREATEST_PID, SIGCHLD, SIGNAL_LIMIT}
 use Rattle.dt_base.specs.Abi.{low_word}
 use Rattle.dt_base.specs.declared.errno.Errno.TheVariants.{Inval, Srch}
 use Rattle.dt_procs.specs.Members.{parent_pid}
@@ -13,7 +13,7 @@ use Rattle.dt_calls.specs.Effect.{Effect, quiet, done, refused}
 
 -- the low 32 bits as a signed number are below 1: no process has this pid
 abbrev pub is_below_one : ℕ → Bool
-is_below_one pid = (pid == 0) || nat_le (2 ^ 31) pid
+is_below_one pid = (pid == 0) || nat_lt GREATEST_PID pid
 
 -- a signal with which these calls are not supported: SIGCHLD is the last that can be sent
 abbrev pub is_unsupported_signal : ℕ → Bool
@@ -43,7 +43,7 @@ kill_call c own m =
     if is_below_one pid || is_unsupported_signal signal then quiet c own m (Unsupported KILL)
     else sends_to c own m pid signal
 
--- tkill(2)
+-- sends a signal to a process by the id of its one thread; EINVAL for an id below 1 (tkill(2))
 unfoldable pub tkill_call : Shared → Process → Machine → Effect
 tkill_call c own m =
     let tid = low_word (register m A0) in

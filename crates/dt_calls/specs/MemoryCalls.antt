@@ -21,11 +21,11 @@ abbrev pub moved_break : Shared → Process → Machine → Moved → Effect
 moved_break c own m r =
     done c (record own { program_break = r.program_break }) (record m { space = r.pages }) r.program_break.end
 
--- brk(2)
+-- moves the end of the break, or leaves it where it is, and answers where it is then (brk(2))
 unfoldable pub brk_call : Shared → Process → Machine → Effect
 brk_call c own m = moved_break c own m (brk_of own.program_break m.space (register m A0))
 
--- munmap(2)
+-- takes away the pages of a range, whichever are there (munmap(2))
 unfoldable pub munmap_call : Shared → Process → Machine → Effect
 munmap_call c own m = effect_of_memory_call c own m MUNMAP (munmap_of m.space (register m A0) (register m A1))
 
@@ -33,6 +33,6 @@ munmap_call c own m = effect_of_memory_call c own m MUNMAP (munmap_of m.space (r
 unfoldable pub mmap_call : Shared → Process → Machine → Effect
 mmap_call c own m = effect_of_memory_call c own m MMAP (mmap_of m.space (register m A0) (register m A1) (register m A2) (register m A3))
 
--- mprotect(2)
+-- gives the pages of a range other rights, if all of them are there (mprotect(2))
 unfoldable pub mprotect_call : Shared → Process → Machine → Effect
 mprotect_call c own m = effect_of_memory_call c own m MPROTECT (mprotect_of m.space (register m A0) (register m A1) (register m A2))

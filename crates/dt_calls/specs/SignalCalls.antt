@@ -21,12 +21,12 @@ abbrev pub effect_of_signal_call : Shared → Process → Machine → ℕ → Ca
 effect_of_signal_call c own m number r =
     effect_of_answer (with_signals c own.caller.vpid r.signals) own (record m { space = r.pages }) number r.answer
 
--- rt_sigaction(2)
+-- tells what the process does about a signal, and may put another action in its place (rt_sigaction(2))
 unfoldable pub sigaction_call : Shared → Process → Machine → Effect
 sigaction_call c own m = effect_of_signal_call c own m RT_SIGACTION
     (sigaction_of (signals_at c own.caller.vpid) m.space (register m A0) (register m A1) (register m A2) (register m A3))
 
--- rt_sigprocmask(2)
+-- tells the process's signal mask, and may change it by a set (rt_sigprocmask(2))
 unfoldable pub sigprocmask_call : Shared → Process → Machine → Effect
 sigprocmask_call c own m = effect_of_signal_call c own m RT_SIGPROCMASK
     (sigprocmask_of (signals_at c own.caller.vpid) m.space (register m A0) (register m A1) (register m A2) (register m A3))
@@ -50,6 +50,6 @@ after_sigreturn g m = after_sigreturn_by g m (returned g m)
 abbrev pub sigreturn_effect : Shared → Process → AfterSigreturn → Effect
 sigreturn_effect c own b = quiet (with_signals c own.caller.vpid b.signals) own b.machine b.outcome
 
--- rt_sigreturn(2)
+-- the process goes on as the frame on its stack says, where a handler has ended (rt_sigreturn(2))
 unfoldable pub sigreturn_call : Shared → Process → Machine → Effect
 sigreturn_call c own m = sigreturn_effect c own (after_sigreturn (signals_at c own.caller.vpid) m)

@@ -55,7 +55,7 @@ by_found c own m (Got vpid end) = reaps c own m (register m A1) (register m A3) 
 by_found c own m NoneReady = if has (low_word (register m A2)) WNOHANG then done c own m 0 else quiet c own m Blocked
 by_found c own m NoChild = refused c own m Child
 
--- wait4(2)
+-- reaps a child that has ended, or waits for one; for a group of processes it isn't supported (wait4(2))
 unfoldable pub wait4_call : Shared → Process → Machine → Effect
 wait4_call c own m =
     if is_group (low_word (register m A0)) then quiet c own m (Unsupported WAIT4)

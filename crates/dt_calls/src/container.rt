@@ -1,4 +1,4 @@
-// A container.
+// A container as a whole: its start, the launch of its program, and the turns of its processes.
 ghost use Rattle.std.specs.Prelude.{◌≡◌, [], None, Some, IsSome, IsOk, IfOk, IsErrOf};
 ghost use Rattle.std.specs.FinMap.{get, insert, remove};
 ghost use Rattle.dt_host.specs.Cause.{HasCause};

@@ -73,7 +73,7 @@ rights_of flags =
     (if has_right flags PF_W then READ + WRITE else if has_right flags PF_R then READ else 0)
     + (if has_right flags PF_X then EXECUTE else 0)
 
--- the segment of a header
+-- where a program header says that a segment lies, in memory and in the file, with the rights that its flags give
 abbrev pub segment_from_header : ProgramHeader → Segment
 segment_from_header header = record {
   vaddr = header.vaddr;

@@ -14,7 +14,7 @@ use Rattle.dt_space.specs.declared.access.Miss.{Miss}
 use Rattle.dt_space.specs.declared.access.TheConstants.{READ}
 use Rattle.dt_space.specs.Space.{PageView, load, loaded_number}
 use Rattle.dt_exec.specs.Arguments.{word_before, word_at, words_from, words_at, one_at_least, within_limit, command_of}
-use Rattle.dt_exec.specs.Listed.{AreListed, IsTooBig}
+use Rattle.dt_exec.specs.inner.Listed.{AreListed, IsTooBig}
 use Rattle.dt_exec.proofs.NoNul.{each, all-append}
 
 -- what was stored of a list

@@ -1,5 +1,5 @@
 pub mod Lookup
 pub mod Arguments
-pub mod Listed
 pub mod Script
 pub mod Program
+pub mod inner

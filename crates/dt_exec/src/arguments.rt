@@ -3,7 +3,7 @@ ghost use Rattle.std.specs.Prelude.{◌≡◌, Err, IfOk, IsTrue, MatchResult, M
 ghost use Rattle.dt_base.specs.Path.{has_no_nul};
 ghost use Rattle.dt_exec.specs.Arguments.{word_at, words_at, list_argument, one_at_least};
 ghost use Rattle.dt_exec.specs.Arguments.{within_limit, command_argument};
-ghost use Rattle.dt_exec.specs.Listed.{AreListed, IsTooBig};
+ghost use Rattle.dt_exec.specs.inner.Listed.{AreListed, IsTooBig};
 
 use crate::limits::{LIST_ENTRY, LIST_LIMIT};
 use crate::word_list::WordList;

@@ -41,7 +41,7 @@ makes s what mode place None = makes_node what mode place s
 abbrev pub dir_mode : ℕ → Caller → ℕ
 dir_mode mode caller = masked (bit_and (low_word mode) DIR_MODES) caller.umask
 
--- mkdirat(2)
+-- makes a directory at the place of a path; EEXIST where something is there (mkdirat(2))
 unfoldable pub mkdirat_row : List ℕ → Scene → Row
 mkdirat_row args s = on_place s (place_at s (argument args 0) (argument args 1) Keep)
     (λ place. makes s Dir (dir_mode (argument args 2) s.caller) place place.node)

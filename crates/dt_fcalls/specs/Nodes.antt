@@ -30,7 +30,7 @@ faccessat_row args s =
 abbrev pub chmods : ℕ → ℕ → Scene → Row
 chmods mode n s = answers (record s { tree = chmodded s.tree n mode }) 0
 
--- fchmodat(2)
+-- gives what a path leads to another mode (fchmodat(2))
 unfoldable pub fchmodat_row : List ℕ → Scene → Row
 fchmodat_row args s = on_path s (argument args 0) (argument args 1) Follow
     (λ n. chmods (bit_and (low_word (argument args 2)) MODE_LIMIT) n s)

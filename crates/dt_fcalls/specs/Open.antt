@@ -2,7 +2,7 @@
 use Rattle.std.specs.Prelude.{ℕ, ◌==◌, ◌&&◌, ◌||◌, Bool, not, List, [], Option, None, Some, Result, Ok, Err, bit_and, if◌then◌else◌}
 use Rattle.std.specs.Option.{is_none}
 use Rattle.dt_base.specs.Abi.{has, low_word}
-use Rattle.dt_base.specs.declared.abi.TheConstants.{O_ACCMODE, O_CREAT, O_EXCL, O_TRUNC, O_APPEND, O_NONBLOCK, O_DIRECTORY, O_NOFOLLOW, O_CLOEXEC}
+use Rattle.dt_base.specs.declared.abi.TheConstants.{O_RDONLY, O_ACCMODE, O_CREAT, O_EXCL, O_TRUNC, O_APPEND, O_NONBLOCK, O_DIRECTORY, O_NOFOLLOW, O_CLOEXEC}
 use Rattle.dt_base.specs.declared.errno.Errno.{Errno}
 use Rattle.dt_base.specs.declared.errno.Errno.TheVariants.{NoEnt, Exist, NotDir, IsDir, Inval, MFile, Loop}
 use Rattle.dt_base.specs.declared.image.What.TheVariants as what
@@ -29,7 +29,7 @@ use Rattle.dt_fcalls.specs.Places.{place_from, on_place}
 use Rattle.dt_scene.specs.Arguments.{argument, has_only}
 use Rattle.dt_scene.specs.Scene.{Scene, Row, refused, unsupported, stamp, changed_to, holding, by_outcome}
 
--- the access mode: 0 to read, 1 to write, 2 for both
+-- the access mode: to read (O_RDONLY), to write (O_WRONLY) or both (O_RDWR)
 abbrev pub access_of : ℕ → ℕ
 access_of flags = bit_and flags O_ACCMODE
 
@@ -95,7 +95,7 @@ abbrev pub open_refusal : Forest → ℕ → ℕ → Option Errno
 open_refusal v flags n =
     if is_exclusive flags then Some Exist
     else if is_link v n then Some Loop
-    else if is_dir v n && (not (access_of flags == 0) || has flags O_CREAT || has flags O_TRUNC) then Some IsDir
+    else if is_dir v n && (not (access_of flags == O_RDONLY) || has flags O_CREAT || has flags O_TRUNC) then Some IsDir
     else if not (is_dir v n) && has flags O_DIRECTORY then Some NotDir
     else None
 

@@ -19,7 +19,7 @@ drawn_into s count (Ok pages) = answers (record s { rand = rest_after s.rand cou
 abbrev pub draws : ℕ → ℕ → Scene → Row
 draws buffer count s = drawn_into s count (stored s.space buffer (drawn s.rand count))
 
--- getrandom(2)
+-- fills a buffer with the next bytes of the seed's words; EINVAL for flags that there are not (getrandom(2))
 unfoldable pub getrandom_row : List ℕ → Scene → Row
 getrandom_row args s =
     if nat_lt GRND_ALL (low_word (argument args 2)) then refused s Inval

@@ -1,11 +1,11 @@
 -- The bytes of a status: `struct stat` of 64-bit RISC-V (asm-generic/stat.h, stat(2), inode(7)).
 use Rattle.std.specs.Prelude.{ℕ, ◌+◌, ◌-◌, ◌/◌, ◌%◌, ◌==◌, List, replicate, bit_or, if◌then◌else◌}
 use Rattle.dt_base.specs.Fields.{with_field}
-use Rattle.dt_tree.specs.declared.limits.TheConstants.{DT_DIR, DT_REG, DT_LNK}
+use Rattle.dt_base.specs.declared.abi.TheConstants.{DT_DIR, DT_REG, DT_LNK, S_IFDIR, S_IFREG, S_IFLNK}
 use Rattle.dt_tree.specs.declared.meta.Meta.{Meta}
-use Rattle.dt_fcalls.specs.declared.stat.TheConstants.{STAT_LEN, ST_DEV, ST_INO, ST_MODE, ST_NLINK, ST_SIZE, ST_BLKSIZE, ST_BLOCKS, ST_ATIME, ST_MTIME, ST_CTIME, NANOSECONDS, S_IFREG, S_IFDIR, S_IFLNK, DEVICE, BLOCK_SIZE, SECTOR_SIZE, STREAM_INODE, STREAM_MODE, PIPE_MODE}
+use Rattle.dt_fcalls.specs.declared.stat.TheConstants.{STAT_LEN, ST_DEV, ST_INO, ST_MODE, ST_NLINK, ST_SIZE, ST_BLKSIZE, ST_BLOCKS, ST_ATIME, ST_MTIME, ST_CTIME, DEVICE, BLOCK_SIZE, SECTOR_SIZE, STREAM_INODE, STREAM_MODE, PIPE_MODE}
 use Rattle.dt_fcalls.specs.declared.stat.Status.{Status}
-use Rattle.dt_fcalls.specs.declared.time.TheConstants.{FIRST_SECOND, SECOND_TICKS}
+use Rattle.dt_fcalls.specs.declared.time.TheConstants.{FIRST_SECOND, SECOND_TICKS, NANOSECONDS}
 
 -- the bits of a mode that tell the type of a node
 abbrev pub type_bits : ℕ → ℕ
@@ -15,7 +15,7 @@ type_bits kind = if kind == DT_DIR then S_IFDIR else if kind == DT_LNK then S_IF
 abbrev pub st_blocks : Meta → ℕ
 st_blocks meta = if meta.kind == DT_REG then (meta.size + (SECTOR_SIZE - 1)) / SECTOR_SIZE else 0
 
--- the status of a node
+-- the status of what is in the tree, by its inode and what is told of it
 abbrev pub node_status : ℕ → Meta → Status
 node_status n meta = record {
   inode = n;

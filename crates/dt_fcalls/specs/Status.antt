@@ -31,7 +31,7 @@ abbrev pub tells_path : Scene → ℕ → ℕ → Option (List ℕ) → Row
 tells_path s buffer size None = refused s NoEnt
 tells_path s buffer size (Some path) = fills_text s buffer size (path ++ (0 ∷ []))
 
--- getcwd(2)
+-- puts the path of the working directory into a buffer (getcwd(2))
 unfoldable pub getcwd_row : List ℕ → Scene → Row
 getcwd_row args s = tells_path s (argument args 0) (argument args 1) (path_of s.tree.shape s.caller.cwd)
 
@@ -44,7 +44,7 @@ fills_target s buffer size (Some target) = fills_whole s buffer (take size targe
 abbrev pub tells_target : ℕ → ℕ → ℕ → Scene → Row
 tells_target buffer size n s = fills_target s buffer size (target_at s.tree.shape n)
 
--- readlinkat(2)
+-- puts the target of a link into a buffer; EINVAL for a buffer's size below 1 (readlinkat(2))
 unfoldable pub readlinkat_row : List ℕ → Scene → Row
 readlinkat_row args s =
     if int_le (signed_word (argument args 3)) (pos 0) then refused s Inval
@@ -73,7 +73,7 @@ tells_kind buffer (Stream stream) s = fills s buffer stream_stat 0
 unfoldable pub tells_descriptor : ℕ → ℕ → Scene → Row
 tells_descriptor fd buffer s = on_description s (described s fd) (λ desc. tells_kind buffer desc.kind s)
 
--- fstat(2)
+-- puts the status of what a descriptor refers to into a buffer (fstat(2))
 unfoldable pub fstat_row : List ℕ → Scene → Row
 fstat_row args s = tells_descriptor (low_word (argument args 0)) (argument args 1) s
 
@@ -97,7 +97,7 @@ is_of_dirfd pages address flags = has flags AT_EMPTY_PATH && is_empty_text (text
 abbrev pub status_rule : ℕ → LastLink
 status_rule flags = if has flags AT_SYMLINK_NOFOLLOW then KeepWithoutSlash else Follow
 
--- newfstatat(2)
+-- puts the status of what a path leads to, or of what its dirfd stands for, into a buffer (newfstatat(2))
 unfoldable pub newfstatat_row : List ℕ → Scene → Row
 newfstatat_row args s =
     let flags = low_word (argument args 3) in

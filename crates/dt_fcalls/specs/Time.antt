@@ -12,7 +12,7 @@ use Rattle.dt_space.specs.Write.{stored}
 use Rattle.dt_virt.specs.declared.clock.TheConstants.{READING_TICKS, TICK_LIMIT}
 use Rattle.dt_virt.specs.Clock.{later}
 use Rattle.dt_base.specs.declared.abi.TheConstants.{CLOCK_REALTIME, CLOCK_MONOTONIC, CLOCK_REALTIME_COARSE, CLOCK_BOOTTIME, TIMER_ABSTIME}
-use Rattle.dt_fcalls.specs.declared.time.TheConstants.{FIRST_SECOND, SECOND_TICKS, MICROSECOND_TICKS, TIME_LEN, TIMEZONE_LEN}
+use Rattle.dt_fcalls.specs.declared.time.TheConstants.{FIRST_SECOND, SECOND_TICKS, MICROSECOND_TICKS, TIME_LEN, TIMEZONE_LEN, NANOSECONDS}
 use Rattle.dt_fcalls.specs.declared.time.Timespec.{Timespec}
 use Rattle.dt_scene.specs.Arguments.{argument}
 use Rattle.dt_scene.specs.Scene.{Scene, Row, refused, answers}
@@ -64,7 +64,7 @@ tells_time_of_day time zone s = answers (record s {
   space = with_filled (with_filled s.space time (timeval_bytes (reading s))) zone (replicate TIMEZONE_LEN 0);
 }) 0
 
--- gettimeofday(2)
+-- tells the wall time and a time zone of zeros; EFAULT where a buffer may not be written (gettimeofday(2))
 unfoldable pub gettimeofday_row : List ℕ → Scene → Row
 gettimeofday_row args s =
     if may_fill s.space (argument args 0) TIME_LEN && may_fill s.space (argument args 1) TIMEZONE_LEN
@@ -86,7 +86,7 @@ read_time (Ok seconds) (Ok nanoseconds) = good_time seconds nanoseconds
 -- the time that a call is handed
 abbrev pub time_at : List PageView → ℕ → Result Timespec Errno
 time_at pages address = read_time (loaded_number (load pages READ address 8))
-    (loaded_number (load pages READ ((address + 8) % 2 ^ 64) 8))
+    (loaded_number (load pages READ ((address + NANOSECONDS) % 2 ^ 64) 8))
 
 -- a row for a time that was read, or the reason why there is none
 abbrev pub on_time : Scene → Result Timespec Errno → (Timespec → Row) → Row
@@ -109,7 +109,7 @@ sleeps ticks s = answers (record s { clock = later s.clock ticks }) 0
 abbrev pub sleeps_until : ℕ → Scene → Row
 sleeps_until ticks s = answers (record s { clock = min (max s.clock ticks) TICK_LIMIT }) 0
 
--- nanosleep(2)
+-- lets the time pass that stands at an address (nanosleep(2))
 unfoldable pub nanosleep_row : List ℕ → Scene → Row
 nanosleep_row args s = on_time s (time_at s.space (argument args 0)) (λ time. sleeps (ticks_in time) s)
 
@@ -122,7 +122,7 @@ abbrev pub sleeps_by : ℕ → ℕ → Timespec → Scene → Row
 sleeps_by clock flags time s =
     if flags == TIMER_ABSTIME then sleeps_until (ticks_at clock time) s else sleeps (ticks_in time) s
 
--- clock_nanosleep(2)
+-- lets a time pass, or lets it become what a clock tells; EINVAL for other clocks and flags (clock_nanosleep(2))
 unfoldable pub clock_nanosleep_row : List ℕ → Scene → Row
 clock_nanosleep_row args s =
     let clock = low_word (argument args 0) in

@@ -42,7 +42,7 @@ unlinks removes_dir place s =
     if is_special place.name then refused s (special_refusal removes_dir place.name)
     else on_node s place.node (λ n. drops_node removes_dir place n s)
 
--- unlinkat(2)
+-- takes away the name that a path ends in, with AT_REMOVEDIR that of a directory (unlinkat(2))
 unfoldable pub unlinkat_row : List ℕ → Scene → Row
 unlinkat_row args s =
     if not (has_only (low_word (argument args 2)) AT_REMOVEDIR) then refused s Inval

@@ -63,7 +63,8 @@ fn make<H: Host>(
     }
 }
 
-/// mkdirat(2)
+/// mkdirat(2): a dirfd, a path and a mode, which loses the bits of the umask. It answers 0. The errors are those of the
+/// path; then EEXIST where something is there, ENOENT in a removed directory, and ENOSPC where the tree is full.
 #[tactic(auto, using(crate::proofs::Kept::after_asking))]
 pub fn mkdirat<H: Host>(
     alloc: Global,

@@ -20,7 +20,7 @@ use crate::names::masked;
 use crate::places::{LastLink, walk_from};
 use dt_base::abi::{
     O_ACCMODE, O_APPEND, O_CLOEXEC, O_CREAT, O_DIRECTORY, O_EXCL, O_LARGEFILE, O_NOCTTY,
-    O_NOFOLLOW, O_NONBLOCK, O_RDWR, O_TRUNC, O_WRONLY, has, low_word,
+    O_NOFOLLOW, O_NONBLOCK, O_RDONLY, O_RDWR, O_TRUNC, O_WRONLY, has, low_word,
 };
 use dt_base::{Answer, Blob, Caller, Errno, MODE_LIMIT, What};
 use dt_fds::{Desc, DescKind, Spot};
@@ -247,7 +247,9 @@ fn open_refusal(tree: &Tree, flags: u32, n: u64) -> Option<Errno>
     if tree.is_link(n) {
         return Some(Errno::Loop);
     }
-    if tree.is_dir(n) && (access_of(flags) != 0 || has(flags, O_CREAT) || has(flags, O_TRUNC)) {
+    if tree.is_dir(n)
+        && (u32::from(access_of(flags)) != O_RDONLY || has(flags, O_CREAT) || has(flags, O_TRUNC))
+    {
         return Some(Errno::IsDir);
     }
     if !tree.is_dir(n) && has(flags, O_DIRECTORY) {

@@ -21,7 +21,7 @@ use std::alloc::Global;
 /// What becomes of a link that is the last name of a path.
 #[derive(Clone, Copy, Debug)]
 pub enum LastLink {
-    /// It is followed.
+    /// It is followed: the call is about what it leads to.
     Follow,
     /// It is not followed.
     Keep,

@@ -1,14 +1,18 @@
 //! The layout of `struct stat` on 64-bit RISC-V, and what its fields hold (asm-generic/stat.h).
 ghost use Rattle.std.specs.Prelude.{◌≡◌, ◌+◌, ◌≤◌, length};
-ghost use Rattle.dt_fcalls.specs.declared.stat.TheConstants.{STAT_LEN as LEN, NANOSECONDS as HALF};
+ghost use Rattle.dt_fcalls.specs.declared.stat.TheConstants.{STAT_LEN as LEN};
+ghost use Rattle.dt_fcalls.specs.declared.time.TheConstants.{NANOSECONDS as HALF};
 ghost use Rattle.dt_fcalls.specs.Stat.{type_bits, st_blocks, node_status, outer_status, stream_status, pipe_status};
 ghost use Rattle.dt_fcalls.specs.Stat.{with_identity, with_size_fields, with_time, stat_bytes};
 ghost use Rattle.dt_fcalls.specs.Stat.{stat_of, stream_stat, pipe_stat};
 
-use crate::time::{FIRST_SECOND, SECOND_TICKS};
-use dt_base::abi::{AT_EMPTY_PATH, AT_NO_AUTOMOUNT, AT_SYMLINK_NOFOLLOW};
+use crate::time::{FIRST_SECOND, NANOSECONDS, SECOND_TICKS};
+use dt_base::abi::{
+    AT_EMPTY_PATH, AT_NO_AUTOMOUNT, AT_SYMLINK_NOFOLLOW, DT_DIR, DT_LNK, DT_REG, S_IFCHR, S_IFDIR,
+    S_IFIFO, S_IFLNK, S_IFREG,
+};
 use dt_base::{put32, put64};
-use dt_tree::{DT_DIR, DT_LNK, DT_REG, Meta};
+use dt_tree::Meta;
 
 /// The flags that newfstatat(2) takes.
 pub const STAT_FLAGS: u32 = AT_SYMLINK_NOFOLLOW | AT_NO_AUTOMOUNT | AT_EMPTY_PATH;
@@ -46,24 +50,12 @@ pub const ST_MTIME: usize = 88;
 /// The time of the last change of what is kept of the node.
 pub const ST_CTIME: usize = 104;
 
-/// Where in a time its nanoseconds stand, behind its seconds.
-pub const NANOSECONDS: usize = 8;
-
-/// A file, in st_mode (inode(7), as the next two).
-pub const S_IFREG: u32 = 0o100_000;
-
-/// A directory.
-pub const S_IFDIR: u32 = 0o040_000;
-
-/// A symbolic link.
-pub const S_IFLNK: u32 = 0o120_000;
-
 /// The type and the mode of the input and of the output streams: a character device that its owner reads and writes,
 /// and its group writes.
-pub const STREAM_MODE: u32 = 0o020_620;
+pub const STREAM_MODE: u32 = S_IFCHR | 0o620;
 
 /// The type and the mode of either end of a pipe: a FIFO that its owner reads and writes.
-pub const PIPE_MODE: u32 = 0o010_600;
+pub const PIPE_MODE: u32 = S_IFIFO | 0o600;
 
 /// The inode of the input and of the output streams, past all inodes of a tree. A pipe's is this plus its number.
 pub const STREAM_INODE: u64 = 0x1_0000_0000;

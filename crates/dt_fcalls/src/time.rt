@@ -32,6 +32,9 @@ pub const TIME_LEN: usize = 16;
 /// Bytes of `struct timezone`.
 pub const TIMEZONE_LEN: usize = 8;
 
+/// Where in a time its nanoseconds stand, behind its seconds.
+pub const NANOSECONDS: usize = 8;
+
 // The lowest number of 64 bits that stands for a negative one.
 const LOWEST_NEGATIVE: u64 = 0x8000_0000_0000_0000;
 
@@ -51,7 +54,7 @@ impl Timespec {
         let Ok(seconds) = space.load8(at) else {
             return Err(Errno::Fault);
         };
-        let Ok(nanoseconds) = space.load8(at.wrapping_add(8)) else {
+        let Ok(nanoseconds) = space.load8(at.wrapping_add(NANOSECONDS as u64)) else {
             return Err(Errno::Fault);
         };
         if seconds >= LOWEST_NEGATIVE || nanoseconds >= SECOND_TICKS {

@@ -8,7 +8,8 @@ use Rattle.dt_host.specs.World.{Forest, IsFile, IsDir, IsLive}
 use Rattle.dt_host.proofs.Maps.{at_insert, at_remove, get-insert_other, get-remove_other}
 use Rattle.dt_host.proofs.Spots.{IsLive-IsDir, IsLive-IsFile}
 use Rattle.dt_host.proofs.Totals.{total-insert, total-remove}
-use Rattle.dt_host.specs.Total.{total, weight}
+use Rattle.dt_host.specs.Total.{total}
+use Rattle.dt_host.specs.inner.Weight.{weight}
 use Rattle.dt_tree.proofs.Namings.{one_for-same}
 use Rattle.dt_tree.specs.FileTree.{FileTree, IsTree, holds_of}
 use Rattle.dt_tree.specs.Shape.{one_for}

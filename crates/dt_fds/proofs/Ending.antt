@@ -6,7 +6,8 @@ use Rattle.std.specs.Option.{option_and_then}
 use Rattle.std.specs.Ordering.{nat_cmp}
 use Rattle.std.specs.Cmp.{nat_cmp_total}
 use Rattle.std.specs.FinMap.{FinMap, get, remove, nat_cmp-IsAntisymmetric}
-use Rattle.dt_host.specs.Total.{total, weight}
+use Rattle.dt_host.specs.Total.{total}
+use Rattle.dt_host.specs.inner.Weight.{weight}
 use Rattle.dt_host.proofs.Totals.{total-insert, total-remove}
 use Rattle.dt_fds.specs.declared.desc.Desc.{Desc}
 use Rattle.dt_fds.specs.declared.desc.DescKind.{DescKind}

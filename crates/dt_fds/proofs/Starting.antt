@@ -7,7 +7,8 @@ use Rattle.std.specs.Cmp.{nat_cmp_total}
 use Rattle.std.specs.FinMap.{FinMap, empty, get, insert, get-empty, nat_cmp-IsAntisymmetric}
 use Rattle.dt_host.proofs.Maps.{at_insert}
 use Rattle.dt_host.proofs.Totals.{total-insert, total-empty}
-use Rattle.dt_host.specs.Total.{total, weight}
+use Rattle.dt_host.specs.Total.{total}
+use Rattle.dt_host.specs.inner.Weight.{weight}
 use Rattle.dt_host.specs.World.{Forest}
 use Rattle.dt_fds.specs.declared.desc.TheConstants.{DESCRIPTOR_LIMIT}
 use Rattle.dt_fds.specs.declared.desc.Desc.{Desc}

@@ -10,7 +10,8 @@ use Rattle.std.specs.FinMap.{FinMap, entries, entries_sorted, get, get-entries}
 use Rattle.std.specs.FinMap.Entries.{find, below_all, is_sorted}
 use Rattle.dt_host.proofs.Conjuncts.{first, second}
 use Rattle.dt_host.proofs.Sorted.{below-tie, not_found}
-use Rattle.dt_host.specs.Total.{total_in, total, weight}
+use Rattle.dt_host.specs.Total.{total_in, total}
+use Rattle.dt_host.specs.inner.Weight.{weight}
 use Rattle.dt_fds.specs.declared.desc.Desc.{Desc}
 use Rattle.dt_fds.specs.declared.desc.DescKind.{DescKind}
 use Rattle.dt_fds.specs.declared.desc.DescKind.TheVariants.{File, Dir, PipeRead, PipeWrite, Input, Stream}

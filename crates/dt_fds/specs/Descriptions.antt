@@ -4,6 +4,7 @@ use Rattle.std.specs.Option.{is_none, option_flatten, option_and_then}
 use Rattle.std.specs.List.{position, sum_by}
 use Rattle.std.specs.Ordering.{nat_cmp}
 use Rattle.std.specs.FinMap.{FinMap, empty, get, insert, remove}
+use Rattle.dt_base.specs.declared.abi.TheConstants.{O_RDONLY, O_WRONLY, O_RDWR}
 use Rattle.dt_host.specs.Total.{total}
 use Rattle.dt_tree.specs.Changes.{put_back}
 use Rattle.dt_tree.specs.Shape.{one_for}
@@ -80,11 +81,11 @@ IsKind Input = Unit {0}
 IsKind (Stream stream) = (1 ≤ stream) × (stream ≤ 2)
 
 -- a description: its stream is 1 or 2, if it is of one; its spot is a point in a listing exactly if it is of a directory; and
--- its access is 0, 1 or 2
+-- its access is one of the three modes, of which O_RDWR is the greatest
 pub record IsDesc (desc : Desc) : Type 0 where
   pub kind : IsKind desc.kind
   pub spot : is_after desc.spot ≡ is_of_dir desc.kind
-  pub access : desc.access ≤ 2
+  pub access : desc.access ≤ O_RDWR
 
 -- a table of descriptors: at the index of each its slot, or nothing where it is free
 abbrev pub Table : Type 0
@@ -238,5 +239,5 @@ first_desc kind access = record { kind = kind; spot = At 0; access = access; app
 -- the first process has the input and the streams 1 and 2 under its lowest descriptors, in this order
 unfoldable pub first_files : ℕ → Descriptions
 first_files p =
-    opened_lowest p (first_desc (Stream 2) 1)
-    (opened_lowest p (first_desc (Stream 1) 1) (opened_lowest p (first_desc Input 0) (none_open p)))
+    opened_lowest p (first_desc (Stream 2) O_WRONLY)
+    (opened_lowest p (first_desc (Stream 1) O_WRONLY) (opened_lowest p (first_desc Input O_RDONLY) (none_open p)))

@@ -4,7 +4,7 @@
 use Rattle.std.specs.Prelude.{ℕ, zero, suc, ◌+◌, ◌==◌, min, Bool, false, nat_lt, if◌then◌else◌, Option, None, Some, option_map, unwrap_or}
 use Rattle.std.specs.Prelude.{List, [], ◌++◌, length, take, drop, Result, Ok, Err}
 use Rattle.dt_base.specs.Abi.{has}
-use Rattle.dt_base.specs.declared.abi.TheConstants.{O_CLOEXEC, O_NONBLOCK}
+use Rattle.dt_base.specs.declared.abi.TheConstants.{O_RDONLY, O_WRONLY, O_CLOEXEC, O_NONBLOCK}
 use Rattle.dt_base.specs.declared.errno.Errno.{Errno}
 use Rattle.dt_base.specs.declared.errno.Errno.TheVariants.{BadF, MFile}
 use Rattle.dt_tree.specs.FileTree.{FileTree}
@@ -162,11 +162,11 @@ without_process p h =
 -- the end of a pipe that is read from, and the one that is written to, as they begin
 abbrev pub read_end : ℕ → ℕ → Desc
 read_end q flags =
-    record { kind = PipeRead q; spot = At 0; access = 0; append = false; nonblock = has flags O_NONBLOCK }
+    record { kind = PipeRead q; spot = At 0; access = O_RDONLY; append = false; nonblock = has flags O_NONBLOCK }
 
 abbrev pub write_end : ℕ → ℕ → Desc
 write_end q flags =
-    record { kind = PipeWrite q; spot = At 0; access = 1; append = false; nonblock = has flags O_NONBLOCK }
+    record { kind = PipeWrite q; spot = At 0; access = O_WRONLY; append = false; nonblock = has flags O_NONBLOCK }
 
 -- a new pipe, whose ends stand under these descriptors
 abbrev pub with_pipe_opened : Holding → ℕ → ℕ → ℕ → ℕ → Holding

@@ -14,6 +14,7 @@ ghost use Rattle.dt_fds.specs.Descriptions.{forgotten};
 
 use crate::desc::{DESCRIPTOR_LIMIT, Desc, DescKind, Slot, Spot};
 use dt_base::NoMemory;
+use dt_base::abi::O_RDONLY;
 use dt_numbered::Numbered;
 use std::alloc::Global;
 use std::marker::Model;
@@ -319,7 +320,7 @@ fn blank() -> Desc {
     Desc {
         kind: DescKind::Input,
         spot: Spot::At(0),
-        access: 0,
+        access: O_RDONLY as u8,
         append: false,
         nonblock: false,
     }

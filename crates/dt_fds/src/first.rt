@@ -14,6 +14,7 @@ use crate::desc::{Desc, DescKind, Spot};
 use crate::descriptors::Descriptors;
 use crate::files::Files;
 use dt_base::NoMemory;
+use dt_base::abi::{O_RDONLY, O_WRONLY};
 use dt_numbered::Numbered;
 use dt_pipes::Pipes;
 use std::alloc::Global;
@@ -52,9 +53,9 @@ impl Descriptors {
         ensures writing { IfOk result (λ files. (q : ℕ) → writers files q ≡ 0) }
     {
         let mut files = Descriptors::none(alloc, pid)?;
-        files.enter_lowest(pid, first_desc(DescKind::Input, 0))?;
-        files.enter_lowest(pid, first_desc(DescKind::Stream(1), 1))?;
-        files.enter_lowest(pid, first_desc(DescKind::Stream(2), 1))?;
+        files.enter_lowest(pid, first_desc(DescKind::Input, O_RDONLY as u8))?;
+        files.enter_lowest(pid, first_desc(DescKind::Stream(1), O_WRONLY as u8))?;
+        files.enter_lowest(pid, first_desc(DescKind::Stream(2), O_WRONLY as u8))?;
         Ok(files)
     }
 

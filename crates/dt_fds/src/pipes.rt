@@ -24,7 +24,7 @@ use crate::desc::{DESCRIPTOR_LIMIT, Desc, DescKind, Spot};
 use crate::ends::Ends;
 use crate::files::Files;
 use crate::flow::Flow;
-use dt_base::abi::{O_CLOEXEC, O_NONBLOCK, has};
+use dt_base::abi::{O_CLOEXEC, O_NONBLOCK, O_RDONLY, O_WRONLY, has};
 use dt_base::{Errno, PIPE_BUF, PIPE_LIMIT};
 use dt_host::{CallErr, Host, HostErr};
 
@@ -302,7 +302,7 @@ fn read_end(q: u32, flags: u32) -> Desc
     Desc {
         kind: DescKind::PipeRead(q),
         spot: Spot::At(0),
-        access: 0,
+        access: O_RDONLY as u8,
         append: false,
         nonblock: has(flags, O_NONBLOCK),
     }
@@ -315,7 +315,7 @@ fn write_end(q: u32, flags: u32) -> Desc
     Desc {
         kind: DescKind::PipeWrite(q),
         spot: Spot::At(0),
-        access: 1,
+        access: O_WRONLY as u8,
         append: false,
         nonblock: has(flags, O_NONBLOCK),
     }

@@ -10,7 +10,8 @@ use Rattle.std.specs.FinMap.Entries.{find, put, by_order, below_all, is_sorted}
 use Rattle.dt_host.proofs.Conjuncts.{first, second}
 use Rattle.dt_host.proofs.Sorted.{below-less, not_found}
 use Rattle.dt_host.proofs.Maps.{get-remove_same, get-remove_other, at_insert, remove_none}
-use Rattle.dt_host.specs.Total.{total_in, total, weight}
+use Rattle.dt_host.specs.Total.{total_in, total}
+use Rattle.dt_host.specs.inner.Weight.{weight}
 
 module _ {K X : Type 0} {R : K → K → Ordering} (o : IsTotalOrder R) (g : X → ℕ) where
   total_in-put : (k : K) (v : X) (es : List (K × X)) → T (is_sorted R es) → total_in g (put R k v es) + weight g (find R k es) ≡ total_in g es + g v

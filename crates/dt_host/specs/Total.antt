@@ -1,5 +1,5 @@
 -- A sum over the values of a finite map.
-use Rattle.std.specs.Prelude.{ℕ, ◌+◌, List, [], ◌∷◌, Option, None, Some}
+use Rattle.std.specs.Prelude.{ℕ, ◌+◌, List, [], ◌∷◌}
 use Rattle.std.specs.declared.cmp.Ordering.{Ordering}
 use Rattle.std.specs.FinMap.{FinMap, entries}
 
@@ -11,8 +11,3 @@ total_in g (e ∷ es) = g e.1 + total_in g es
 -- the sum over a map's values
 unfoldable pub total : {K X : Type 0} {R : K → K → Ordering} → (X → ℕ) → FinMap R X → ℕ
 total g m = total_in g (entries m)
-
--- what a value that may be there adds to a sum
-abbrev pub weight : {X : Type 0} → (X → ℕ) → Option X → ℕ
-weight g None = 0
-weight g (Some x) = g x

@@ -11,7 +11,7 @@ use Rattle.dt_scene.specs.Arguments.{argument, has_only}
 use Rattle.dt_base.specs.Abi.{has}
 use Rattle.dt_scene.specs.Scene.{Scene, Row, answers, refused, unsupported, holding, by_outcome, described, on_description}
 
--- close(2)
+-- takes a descriptor away from the process, and answers 0 (close(2))
 unfoldable pub close_row : List ℕ → Scene → Row
 close_row args s = by_outcome (λ done. 0) s (close_call s.caller.vpid (low_word (argument args 0)) (holding s))
 
@@ -24,7 +24,7 @@ abbrev pub dups_at : ℕ → ℕ → ℕ → Scene → Row
 dups_at old new flags s =
     by_outcome (λ done. new) s (dup_at_call s.caller.vpid old new (has flags O_CLOEXEC) (holding s))
 
--- dup3(2)
+-- makes a given descriptor a duplicate of another one; EINVAL where they are the same (dup3(2))
 unfoldable pub dup3_row : List ℕ → Scene → Row
 dup3_row args s =
     let old = low_word (argument args 0) in

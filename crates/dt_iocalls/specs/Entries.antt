@@ -82,7 +82,7 @@ lists_kind fd buffer count (PipeWrite q) last s = refused s NotDir
 lists_kind fd buffer count Input last s = refused s NotDir
 lists_kind fd buffer count (Stream stream) last s = refused s NotDir
 
--- getdents64(2)
+-- puts the next entries of a directory into a buffer, as many as fit (getdents64(2))
 unfoldable pub getdents64_row : List ℕ → Scene → Row
 getdents64_row args s =
     let fd = low_word (argument args 0) in

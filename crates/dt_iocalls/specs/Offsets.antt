@@ -1,6 +1,6 @@
 -- Where a description goes on: offsets of files, names of listings.
 use Rattle.std.specs.Prelude.{ℕ, ◌==◌, Bool, not, List, Option, None}
-use Rattle.dt_base.specs.declared.abi.TheConstants.{O_WRONLY}
+use Rattle.dt_base.specs.declared.abi.TheConstants.{O_RDONLY, O_WRONLY}
 use Rattle.dt_fds.specs.declared.desc.Desc.{Desc}
 use Rattle.dt_fds.specs.declared.desc.Spot.{Spot}
 use Rattle.dt_fds.specs.declared.desc.Spot.TheVariants.{At, After}
@@ -13,7 +13,7 @@ is_readable desc = not (desc.access == O_WRONLY)
 
 -- the description may be written
 abbrev pub is_writable : Desc → Bool
-is_writable desc = not (desc.access == 0)
+is_writable desc = not (desc.access == O_RDONLY)
 
 -- the offset at which a file is read or written next; a directory has none, which is told as 0
 abbrev pub offset_of : Spot → ℕ

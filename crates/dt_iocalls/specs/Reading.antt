@@ -65,7 +65,7 @@ abbrev pub reads : ℕ → List Range → Desc → Scene → Row
 reads fd ranges desc s =
     if not (is_readable desc) then refused s BadF else reads_kind fd ranges desc.kind (offset_of desc.spot) s
 
--- read(2)
+-- fills a buffer from where the description of a descriptor stands (read(2))
 unfoldable pub read_row : List ℕ → Scene → Row
 read_row args s =
     let fd = low_word (argument args 0) in

@@ -52,7 +52,7 @@ seeks fd by whence (PipeWrite q) spot s = refused s SPipe
 seeks fd by whence Input spot s = refused s SPipe
 seeks fd by whence (Stream stream) spot s = refused s SPipe
 
--- lseek(2)
+-- moves the offset at which a description goes on, and answers it (lseek(2))
 unfoldable pub lseek_row : List ℕ → Scene → Row
 lseek_row args s =
     let fd = low_word (argument args 0) in

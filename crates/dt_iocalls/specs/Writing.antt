@@ -76,7 +76,7 @@ writes fd ranges desc s =
 abbrev pub writes_to : ℕ → List Range → Scene → Row
 writes_to fd ranges s = on_description s (described s fd) (λ desc. writes fd ranges desc s)
 
--- write(2)
+-- writes the bytes of a buffer where the description of a descriptor stands (write(2))
 unfoldable pub write_row : List ℕ → Scene → Row
 write_row args s =
     writes_to (low_word (argument args 0)) (one_range (argument args 1) (byte_count (argument args 2))) s

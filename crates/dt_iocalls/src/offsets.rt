@@ -2,7 +2,7 @@
 ghost use Rattle.std.specs.Prelude.{◌≡◌};
 ghost use Rattle.dt_iocalls.specs.Offsets.{is_readable, is_writable, offset_of};
 
-use dt_base::abi::O_WRONLY;
+use dt_base::abi::{O_RDONLY, O_WRONLY};
 use dt_fds::{Desc, Spot};
 
 // Whether the description may be read.
@@ -16,7 +16,7 @@ pub(crate) fn is_readable(desc: &Desc) -> bool
 pub(crate) fn is_writable(desc: &Desc) -> bool
     ensures { result ≡ is_writable desc.now }
 {
-    desc.access != 0
+    u32::from(desc.access) != O_RDONLY
 }
 
 // The offset at which a file is read or written next; a directory has none, which is told as 0.

@@ -1,5 +1,5 @@
 -- What is accepted by its fields is an executable.
-use Rattle.std.proofs.Common.{◌≡◌, ◌≤◌, ℕ, true, false, ◌<◌, List, [], ◌∷◌, length, take, drop, Some, None, nat_le, refl, ap, subst, arith}
+use Rattle.std.proofs.Common.{◌≡◌, ◌≤◌, ℕ, true, false, ◌<◌, List, [], ◌∷◌, length, take, drop, Some, nat_le, refl, ap, subst, arith}
 use Rattle.std.specs.Prelude.{IsSomeAnd, IsOk, IfOk, Result, Ok, Err, nat_eq, unwrap_or}
 use Rattle.std.specs.List.{starts_with, list_any}
 use Rattle.std.proofs.lemmas.Bool.Decides.{nat_tests}

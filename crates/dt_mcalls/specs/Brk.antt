@@ -1,4 +1,4 @@
--- brk(2)
+-- The call that moves the break of a process: brk(2).
 use Rattle.std.specs.Prelude.{ℕ, ◌+◌, ◌-◌, ◌≤◌, List, Bool, not, ◌&&◌, ◌||◌, nat_lt, is_some, if◌then◌else◌}
 use Rattle.dt_base.specs.declared.limits.TheConstants.{ADDRESS_LIMIT}
 use Rattle.dt_space.specs.declared.access.TheConstants.{READ, WRITE}

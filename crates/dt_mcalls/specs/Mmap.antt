@@ -1,10 +1,10 @@
--- mmap(2)
-use Rattle.std.specs.Prelude.{ℕ, ◌+◌, ◌*◌, ◌/◌, List, length, Bool, not, ◌&&◌, ◌||◌, ◌==◌, nat_lt, bit_and, bit_or, Option, Some, None, if◌then◌else◌}
+-- The call that maps pages of zeros: mmap(2).
+use Rattle.std.specs.Prelude.{ℕ, ◌+◌, ◌*◌, ◌/◌, List, length, Bool, not, ◌&&◌, ◌||◌, ◌==◌, nat_lt, bit_or, Option, Some, None, if◌then◌else◌}
 use Rattle.dt_base.specs.declared.abi.TheConstants.{PROT_ALL, MAP_FIXED}
 use Rattle.dt_base.specs.declared.answer.Answer.TheVariants.{Unsupported}
 use Rattle.dt_base.specs.declared.errno.Errno.TheVariants.{Inval, NoMem}
 use Rattle.dt_base.specs.declared.limits.TheConstants.{PAGE_SIZE, PAGE_LIMIT, MMAP_START}
-use Rattle.dt_base.specs.Abi.{low_word}
+use Rattle.dt_base.specs.Abi.{low_word, has}
 use Rattle.dt_space.specs.Space.{PageView}
 use Rattle.dt_space.specs.Ranges.{mapped, unmapped}
 use Rattle.dt_space.specs.Gaps.{lowest_gap}
@@ -12,13 +12,9 @@ use Rattle.dt_mcalls.specs.declared.mapping.TheConstants.{MAP_REQUIRED, MAP_KNOW
 use Rattle.dt_mcalls.specs.Called.{Called, done, refused}
 use Rattle.dt_mcalls.specs.Lengths.{is_page_start, whole_pages, ends_past}
 
--- the flags have each of these
-abbrev pub have : ℕ → ℕ → Bool
-have flags wanted = bit_and flags wanted == wanted
-
 -- the flags have all that are needed, and none that isn't known
 abbrev pub is_supported : ℕ → Bool
-is_supported flags = have flags MAP_REQUIRED && bit_or flags MAP_KNOWN == MAP_KNOWN
+is_supported flags = has flags MAP_REQUIRED && bit_or flags MAP_KNOWN == MAP_KNOWN
 
 -- so many pages of zeros are mapped at a range, which must be free; ENOMEM where there would be too many
 unfoldable pub map_free : List PageView → ℕ → ℕ → ℕ → Called
@@ -51,5 +47,5 @@ unfoldable pub mmap_of : List PageView → ℕ → ℕ → ℕ → ℕ → Calle
 mmap_of pages address len prot flags =
     if not (is_supported flags) then record { pages = pages; answer = Unsupported }
     else if len == 0 || nat_lt PROT_ALL (low_word prot) then refused pages Inval
-    else if have flags MAP_FIXED then map_at pages address (whole_pages len) (low_word prot)
+    else if has flags MAP_FIXED then map_at pages address (whole_pages len) (low_word prot)
     else map_anywhere pages (whole_pages len) (low_word prot)

@@ -1,4 +1,4 @@
--- mprotect(2)
+-- The call that gives pages other rights: mprotect(2).
 use Rattle.std.specs.Prelude.{ℕ, ◌/◌, List, Bool, not, ◌||◌, ◌==◌, nat_lt, is_some, if◌then◌else◌}
 use Rattle.dt_base.specs.declared.abi.TheConstants.{PROT_ALL}
 use Rattle.dt_base.specs.declared.errno.Errno.TheVariants.{Inval, NoMem}

@@ -1,4 +1,4 @@
--- munmap(2)
+-- The call that takes pages away: munmap(2).
 use Rattle.std.specs.Prelude.{ℕ, ◌/◌, List, not, ◌||◌, ◌==◌, if◌then◌else◌}
 use Rattle.dt_base.specs.declared.errno.Errno.TheVariants.{Inval}
 use Rattle.dt_base.specs.declared.limits.TheConstants.{PAGE_SIZE}

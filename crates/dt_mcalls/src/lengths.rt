@@ -2,7 +2,7 @@
 ghost use Rattle.std.specs.Prelude.{◌≡◌};
 ghost use Rattle.dt_mcalls.specs.Lengths.{is_page_start, whole_pages, ends_past};
 
-use dt_base::{ADDRESS_LIMIT, PAGE_SIZE};
+use dt_base::{PAGE_NUMBERS, PAGE_SIZE};
 
 /// Whether an address is that of a page.
 pub fn is_page_start(address: u64) -> bool
@@ -22,6 +22,5 @@ pub fn whole_pages(bytes: u64) -> u64
 pub fn ends_past(first: u64, count: u64) -> bool
     ensures { result ≡ ends_past first count }
 {
-    const PAGE_NUMBERS: u64 = ADDRESS_LIMIT / PAGE_SIZE;
     count > PAGE_NUMBERS || first > PAGE_NUMBERS - count
 }

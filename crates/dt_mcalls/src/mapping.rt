@@ -1,4 +1,4 @@
-// mmap(2)
+// The call that maps pages of zeros (mmap(2)).
 ghost use Rattle.std.specs.Prelude.{◌≡◌, ◌+◌, ◌<◌, ◌≤◌, ◌^◌, true, IfOk, IfErr, OnErr};
 ghost use Rattle.dt_space.specs.Space.{IsSpace};
 ghost use Rattle.dt_space.specs.Gaps.{is_free};

@@ -1,4 +1,4 @@
-// brk(2)
+// The break of a process, and the call that moves it (brk(2)).
 ghost use Rattle.std.specs.Prelude.{◌≡◌, true, IfOk, IfErr, OnErr};
 ghost use Rattle.dt_space.specs.Space.{IsSpace};
 ghost use Rattle.dt_mcalls.specs.Brk.{IsBreak, brk_of, brk_maps};

@@ -1,4 +1,4 @@
-// munmap(2), mprotect(2)
+// The calls that take the pages of a range away, or give them other rights (munmap(2), mprotect(2)).
 ghost use Rattle.std.specs.Prelude.{◌≡◌};
 ghost use Rattle.dt_space.specs.Space.{IsSpace};
 ghost use Rattle.dt_mcalls.specs.Munmap.{munmap_of};

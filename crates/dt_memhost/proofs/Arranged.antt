@@ -5,11 +5,11 @@ use Rattle.std.specs.List.Sorted.{IsPermutation}
 use Rattle.std.proofs.lemmas.List.{drop-drop, take-append-drop, take-map, drop-map, map-append, length-map}
 use Rattle.std.proofs.lemmas.List.Sorted.{IsPermutation-refl, IsPermutation-trans, IsPermutation-append_left, IsPermutation-append_right, IsPermutation-append_comm}
 use Rattle.dt_memhost.specs.Picks.{next_words, after_words}
-use Rattle.dt_memhost.specs.Script.{Script, picked, picked_all, picked_word, words_of}
+use Rattle.dt_memhost.specs.Script.{Script, picked, picked_all, coming_word, words_of}
 use Rattle.dt_memhost.specs.Order.{picked_order}
 
 -- the first word, and those after it
-pub words_of-suc : (more : ℕ) (s : Script) → words_of (suc more) s ≡ picked_word s ∷ words_of more (picked s)
+pub words_of-suc : (more : ℕ) (s : Script) → words_of (suc more) s ≡ coming_word s ∷ words_of more (picked s)
 unfolding next_words
 words_of-suc more s = refl
 
@@ -41,14 +41,14 @@ module _ {A : Type 0} where
   picked_order-nil left = refl
 
   -- one entry more, which the next word chose
-  pub picked_order-more : (moved left rest : List A) (entry : A) (done n : ℕ) (s : Script) → done < n → length left ≡ n - done → entry ∷ [] ≡ take 1 (drop (picked_word s % (n - done)) left) → rest ≡ remove left (picked_word s % (n - done)) → moved ++ picked_order (words_of (n - done) s) left ≡ (moved ++ entry ∷ []) ++ picked_order (words_of (n - (done + 1)) (picked s)) rest
+  pub picked_order-more : (moved left rest : List A) (entry : A) (done n : ℕ) (s : Script) → done < n → length left ≡ n - done → entry ∷ [] ≡ take 1 (drop (coming_word s % (n - done)) left) → rest ≡ remove left (coming_word s % (n - done)) → moved ++ picked_order (words_of (n - done) s) left ≡ (moved ++ entry ∷ []) ++ picked_order (words_of (n - (done + 1)) (picked s)) rest
   picked_order-more moved left rest entry done n s here many chosen goes =
-      let at = picked_word s % (n - done) in
+      let at = coming_word s % (n - done) in
       let words = words_of (n - (done + 1)) (picked s) in
       let step : picked_order (words_of (n - done) s) left ≡ (entry ∷ []) ++ picked_order words rest =
       ap (λ ws. picked_order ws left) (ap (λ m. words_of m s) (one_left done n here) ∙ words_of-suc (n - (done + 1)) s)
-      ∙ picked_order-cons (picked_word s) words left
-      ∙ ap (λ k. take 1 (drop k left) ++ picked_order words (remove left k)) (ap (λ k. picked_word s % k) many)
+      ∙ picked_order-cons (coming_word s) words left
+      ∙ ap (λ k. take 1 (drop k left) ++ picked_order words (remove left k)) (ap (λ k. coming_word s % k) many)
       ∙ ap (λ xs. xs ++ picked_order words (remove left at)) (sym chosen)
       ∙ ap (λ xs. (entry ∷ []) ++ picked_order words xs) (sym goes) in
       ap (λ xs. moved ++ xs) step ∙ sym (append_assoc moved (entry ∷ []) (picked_order words rest))

@@ -10,7 +10,7 @@ use Rattle.dt_host.specs.declared.error.HostErr.TheVariants.{Failed, NoMemory}
 use Rattle.dt_host.specs.World.{World, empty_world, with_forest, with_pids, with_pipe, with_entry, without_entry, entry, content, target_at, pipe_bytes}
 use Rattle.dt_host.specs.Legal.{with_new, without, named, with_write, with_size, with_put}
 use Rattle.dt_memhost.specs.Picks.{Picks, length_by}
-use Rattle.dt_memhost.specs.Script.{Script, script_from, fails_next, counted, failed, picked, picked_all, restarted, picked_word, words_of}
+use Rattle.dt_memhost.specs.Script.{Script, script_from, fails_next, counted, failed, picked, picked_all, restarted, coming_word, words_of}
 use Rattle.dt_memhost.specs.Order.{Orders, order_at, with_new_order, with_last, without_name, picked_order}
 use Rattle.dt_memhost.specs.declared.number.TheConstants.{INODE_NUMBERS, PID_NUMBERS}
 use Rattle.dt_memhost.specs.Number.{Numbers, either_has}
@@ -60,7 +60,7 @@ FindsBy old d name result new =
 
 -- a word chooses the number of the new node or pipe, where those of nodes and pipes are live
 pub record MakesNumber (old : HostState) (kind : NodeKind) (new : HostState) (n : ℕ) : Type 0 where
-  pub chosen : Numbers (either_has old.view.forest.nodes old.view.pipes) INODE_NUMBERS (picked_word old.script) n
+  pub chosen : Numbers (either_has old.view.forest.nodes old.view.pipes) INODE_NUMBERS (coming_word old.script) n
   pub view : new.view ≡ with_new old.view n kind
   pub orders : new.orders ≡ with_new_order old.orders n kind
   pub script : new.script ≡ picked (counted old.script)
@@ -107,7 +107,7 @@ ForgetsBy old n answer result new = UnlessListed old result new (ForgetsNumber o
 
 -- a word chooses the pid, which is live
 pub record AddsPid (old new : HostState) (p : ℕ) : Type 0 where
-  pub chosen : Numbers (set.contains old.view.pids) PID_NUMBERS (picked_word old.script) p
+  pub chosen : Numbers (set.contains old.view.pids) PID_NUMBERS (coming_word old.script) p
   pub view : new.view ≡ with_pids old.view (set.insert old.view.pids p)
   pub orders : new.orders ≡ old.orders
   pub script : new.script ≡ picked (counted old.script)
@@ -155,9 +155,9 @@ NamesBy old d result new =
 abbrev pub raw_by : World → ℕ → Script → RawStat
 raw_by w n s = record {
   size = length (content w.forest n);
-  device = picked_word s;
-  mtime = picked_word (picked s);
-  blocks = picked_word (picked (picked s));
+  device = coming_word s;
+  mtime = coming_word (picked s);
+  blocks = coming_word (picked (picked s));
 }
 
 -- an answer by a choice, which leaves what the host keeps
@@ -185,12 +185,12 @@ TargetBy old n result new =
 abbrev pub StopsBy : HostState → ℕ → Result ℕ HostErr → HostState → Type 0
 StopsBy old count result new =
     UnlessListed old result new
-    (Chooses old (picked_word old.script % count) (picked (counted old.script)) result new)
+    (Chooses old (coming_word old.script % count) (picked (counted old.script)) result new)
 
 -- how it answers `clock` and `cycles`: a word
 abbrev pub WordBy : HostState → Result ℕ HostErr → HostState → Type 0
 WordBy old result new =
-    UnlessListed old result new (Chooses old (picked_word old.script) (picked (counted old.script)) result new)
+    UnlessListed old result new (Chooses old (coming_word old.script) (picked (counted old.script)) result new)
 
 -- each byte of a buffer is the lowest of a word
 pub record Fills {A : Type 0} (old : HostState) (before after : List ℕ) (answer : A) (result : Result A HostErr) (new : HostState) : Type 0 where
@@ -218,9 +218,9 @@ script_moved s most = if most == 0 then counted s else picked (counted s)
 -- so much of a file comes as a word chooses
 pub record ReadsCount (old : HostState) (n off : ℕ) (before after : List ℕ) (result : Result ℕ HostErr) (new : HostState) : Type 0 where
   pub chosen : let most = most_read (content old.view.forest n) off before in
-      result ≡ Ok (count_moved (picked_word old.script) most)
+      result ≡ Ok (count_moved (coming_word old.script) most)
   pub prefix : let bytes = content old.view.forest n in
-      let count = count_moved (picked_word old.script) (most_read bytes off before) in
+      let count = count_moved (coming_word old.script) (most_read bytes off before) in
       after ≡ take count (drop off bytes) ++ drop count before
   pub kept : let most = most_read (content old.view.forest n) off before in
       new ≡ record old { script = script_moved old.script most }
@@ -232,7 +232,7 @@ ReadsBy old n off before after result new =
 
 -- so much is written as a word chooses
 pub record WritesCount (old : HostState) (n off : ℕ) (bytes : List ℕ) (new : HostState) (count : ℕ) : Type 0 where
-  pub chosen : count ≡ length_by (picked_word old.script) (length bytes)
+  pub chosen : count ≡ length_by (coming_word old.script) (length bytes)
   pub view : new.view ≡ with_write old.view n off (take count bytes)
   pub orders : new.orders ≡ old.orders
   pub script : new.script ≡ picked (counted old.script)
@@ -250,12 +250,12 @@ most_taken bytes buffer = min (length buffer) (length bytes)
 -- so much of what a pipe holds comes as a word chooses, the oldest first, and is gone from it
 pub record TakesCount (old : HostState) (n : ℕ) (before after : List ℕ) (result : Result ℕ HostErr) (new : HostState) : Type 0 where
   pub chosen : let most = most_taken (pipe_bytes old.view n) before in
-      result ≡ Ok (count_moved (picked_word old.script) most)
+      result ≡ Ok (count_moved (coming_word old.script) most)
   pub prefix : let bytes = pipe_bytes old.view n in
-      let count = count_moved (picked_word old.script) (most_taken bytes before) in
+      let count = count_moved (coming_word old.script) (most_taken bytes before) in
       after ≡ take count bytes ++ drop count before
   pub left : let bytes = pipe_bytes old.view n in
-      let count = count_moved (picked_word old.script) (most_taken bytes before) in
+      let count = count_moved (coming_word old.script) (most_taken bytes before) in
       new.view ≡ with_pipe old.view n (drop count bytes)
   pub orders : new.orders ≡ old.orders
   pub script : let most = most_taken (pipe_bytes old.view n) before in
@@ -268,7 +268,7 @@ TakesBy old n before after result new =
 
 -- so much is put into a pipe as a word chooses
 pub record PutsCount (old : HostState) (n : ℕ) (bytes : List ℕ) (new : HostState) (count : ℕ) : Type 0 where
-  pub chosen : count ≡ length_by (picked_word old.script) (length bytes)
+  pub chosen : count ≡ length_by (coming_word old.script) (length bytes)
   pub view : new.view ≡ with_put old.view n (take count bytes)
   pub orders : new.orders ≡ old.orders
   pub script : new.script ≡ picked (counted old.script)

@@ -39,8 +39,8 @@ abbrev pub restarted : Script → ℕ → Script
 restarted s number = record s { picks = picks_of [] number }
 
 -- the next word
-abbrev pub picked_word : Script → ℕ
-picked_word s = (next_pick s.picks).0
+abbrev pub coming_word : Script → ℕ
+coming_word s = (next_pick s.picks).0
 
 -- the next words, so many
 abbrev pub words_of : ℕ → Script → List ℕ

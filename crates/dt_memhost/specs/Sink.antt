@@ -3,7 +3,7 @@ use Rattle.std.specs.Prelude.{◌≡◌, ℕ, ◌-◌, ◌||◌, min, Bool, fals
 use Rattle.dt_host.specs.declared.error.SinkErr.{SinkErr}
 use Rattle.dt_host.specs.declared.error.SinkErr.TheVariants.{Failed, NoMemory}
 use Rattle.dt_memhost.specs.Picks.{Picks, length_by}
-use Rattle.dt_memhost.specs.Script.{Script, script_from, fails_next, counted, failed, picked, picked_word}
+use Rattle.dt_memhost.specs.Script.{Script, script_from, fails_next, counted, failed, picked, coming_word}
 
 -- the bytes so far, how many may stand if that is limited, and the script
 pub record SinkState : Type 0 where
@@ -35,8 +35,8 @@ pub record FailsAtSink (old : SinkState) (result : Result ℕ SinkErr) (new : Si
   pub counts : new ≡ record old { script = failed old.script }
 
 -- a word chooses how much of a piece is taken
-pub record TakesPiece (old : SinkState) (piece : List ℕ) (new : SinkState) (count : ℕ) : Type 0 where
-  pub chosen : count ≡ length_by (picked_word old.script) (fitting old.room (length old.bytes) (length piece))
+pub record TakesPart (old : SinkState) (piece : List ℕ) (new : SinkState) (count : ℕ) : Type 0 where
+  pub chosen : count ≡ length_by (coming_word old.script) (fitting old.room (length old.bytes) (length piece))
   pub taken : new ≡ record old { bytes = old.bytes ++ take count piece; script = picked (counted old.script) }
 
 -- memory ran out: nothing is taken but the word
@@ -47,4 +47,4 @@ pub record TakesNone (old new : SinkState) (error : SinkErr) : Type 0 where
 -- how a sink in memory answers
 abbrev pub WritesSinkBy : SinkState → List ℕ → Result ℕ SinkErr → SinkState → Type 0
 WritesSinkBy old piece result new =
-    MatchBool (refuses old) (FailsAtSink old result new) (MatchResult result (TakesPiece old piece new) (TakesNone old new))
+    MatchBool (refuses old) (FailsAtSink old result new) (MatchResult result (TakesPart old piece new) (TakesNone old new))

@@ -6,7 +6,7 @@ use Rattle.dt_host.specs.Store.{Files, bytes_of, size_of}
 use Rattle.dt_host.specs.declared.error.StoreErr.{StoreErr}
 use Rattle.dt_host.specs.declared.error.StoreErr.TheVariants.{Failed}
 use Rattle.dt_memhost.specs.Picks.{Picks, length_by}
-use Rattle.dt_memhost.specs.Script.{Script, script_from, fails_next, counted, failed, picked, picked_word}
+use Rattle.dt_memhost.specs.Script.{Script, script_from, fails_next, counted, failed, picked, coming_word}
 
 -- the files of a list of names and bytes
 abbrev pub files_of : {Y Z : Type 0} → List (String Y × Vec ℕ Z) → Files
@@ -38,8 +38,8 @@ SizesBy old name result new =
 
 -- a word chooses how much of the buffer is filled
 pub record ReadsSome (old : StoreState) (name : List ℕ) (off : ℕ) (before after : List ℕ) (result : Result ℕ StoreErr) (new : StoreState) : Type 0 where
-  pub chosen : result ≡ Ok (length_by (picked_word old.script) (length before))
-  pub prefix : let count = length_by (picked_word old.script) (length before) in
+  pub chosen : result ≡ Ok (length_by (coming_word old.script) (length before))
+  pub prefix : let count = length_by (coming_word old.script) (length before) in
       after ≡ take count (drop off (bytes_of old.files name)) ++ drop count before
   pub counts : new ≡ record old { script = picked (counted old.script) }
 

@@ -1,7 +1,7 @@
 // The order in which words name the entries of a directory.
 ghost use Rattle.std.specs.Prelude.{◌≡◌, ◌%◌, ◌<◌, [], ◌∷◌, length, take, drop, remove, IfOk, OnOk, OnErr};
 ghost use Rattle.dt_memhost.specs.Order.{picked_order};
-ghost use Rattle.dt_memhost.specs.Script.{picked, picked_all, picked_word, words_of};
+ghost use Rattle.dt_memhost.specs.Script.{picked, picked_all, coming_word, words_of};
 ghost use Rattle.dt_memhost.specs.inner.EntryTree.{entries, IsCounted};
 
 use crate::entry_tree::EntryTree;
@@ -38,8 +38,8 @@ fn pick(left: &mut EntryTree, count: usize, script: &mut Script) -> HostEntry
     requires count { length (entries left.old) ≡ count }
     requires some { 0 < count }
     ensures chosen { result ∷ []
-        ≡ take 1 (drop (picked_word script.old % count) (entries left.old)) }
-    ensures left { entries left.new ≡ remove (entries left.old) (picked_word script.old % count) }
+        ≡ take 1 (drop (coming_word script.old % count) (entries left.old)) }
+    ensures left { entries left.new ≡ remove (entries left.old) (coming_word script.old % count) }
     ensures counted { IsCounted left.new }
     ensures after { script.new ≡ picked script.old }
 {

@@ -5,7 +5,7 @@ ghost use Rattle.dt_host.specs.declared.error.StoreErr.TheVariants.{Failed as st
 ghost use Rattle.dt_host.specs.declared.error.SinkErr.TheVariants.{Failed as sink_failed};
 ghost use Rattle.dt_memhost.specs.Picks.{length_by};
 ghost use Rattle.dt_memhost.specs.Script.{script_from, fails_next, counted, failed, picked, picked_all, restarted};
-ghost use Rattle.dt_memhost.specs.Script.{picked_word, words_of};
+ghost use Rattle.dt_memhost.specs.Script.{coming_word, words_of};
 
 use crate::picker::Picker;
 use dt_host::{HostErr, SinkErr, StoreErr};
@@ -105,7 +105,7 @@ impl Script {
 
     /// The next word, which chooses what the host does where it may do several things.
     pub(crate) fn word(&mut self) -> u32
-        ensures word { result ≡ picked_word self.old }
+        ensures word { result ≡ coming_word self.old }
         ensures after { self.new ≡ picked self.old }
     {
         self.picker.word()
@@ -114,7 +114,7 @@ impl Script {
     /// A length from 1 to `most`, by a word.
     pub(crate) fn length(&mut self, most: usize) -> usize
         requires { 0 < most }
-        ensures word { result ≡ length_by (picked_word self.old) most }
+        ensures word { result ≡ length_by (coming_word self.old) most }
         ensures after { self.new ≡ picked self.old }
     {
         1 + self.index(most)
@@ -123,7 +123,7 @@ impl Script {
     /// An index below `count`, by a word.
     pub(crate) fn index(&mut self, count: usize) -> usize
         requires { 0 < count }
-        ensures word { result ≡ picked_word self.old % count }
+        ensures word { result ≡ coming_word self.old % count }
         ensures after { self.new ≡ picked self.old }
     {
         self.word() as usize % count
@@ -141,7 +141,7 @@ impl Script {
 
     // A byte, by a word.
     fn byte(&mut self) -> u8
-        ensures word { result ≡ picked_word self.old % 256 }
+        ensures word { result ≡ coming_word self.old % 256 }
         ensures after { self.new ≡ picked self.old }
     {
         (self.word() % 256) as u8

@@ -1,5 +1,5 @@
 -- What the pipes of a table hold, pipe by pipe.
-use Rattle.std.proofs.Common.{◌≡◌, ℕ, List, [], ◌++◌, length, Option, None, Some, refl, sym, ap, subst, ◌∙◌, append-nil, arith}
+use Rattle.std.proofs.Common.{◌≡◌, ℕ, List, [], ◌++◌, length, Option, None, Some, refl, sym, ap, subst, ◌∙◌, append-nil}
 use Rattle.std.proofs.lemmas.List.{nil_from_length}
 use Rattle.std.specs.Prelude.{option_map, unwrap_or, is_some, IfSome, IsSome}
 use Rattle.std.specs.Cmp.{nat_cmp_total}

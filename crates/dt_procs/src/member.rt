@@ -57,7 +57,7 @@ impl Member {
         }
     }
 
-    // Whether it has this pid.
+    // Whether it is found by this virtual pid, which a zombie keeps until it is reaped.
     pub(crate) fn has_pid(self, vpid: u32) -> bool
         ensures { result ≡ has_pid vpid self }
     {

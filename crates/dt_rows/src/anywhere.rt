@@ -1,9 +1,10 @@
-// What a completed run tells of its words, on a store of which nothing may be known.
-ghost use Rattle.std.specs.Prelude.{◌≡◌, List, Some, map, string_bytes, IsTrue};
+// What a run tells of its words, on a store of which nothing may be known.
+ghost use Rattle.std.specs.Prelude.{◌≡◌, ◌⊎◌, List, Some, None, map, string_bytes, IsTrue};
 ghost use Rattle.dt_base.specs.declared.image.Entry.{Entry};
 ghost use Rattle.dt_base.specs.Image.{IsImage};
 ghost use Rattle.dt_host.specs.World.{IsEmptyStart};
 ghost use Rattle.dt_options.specs.Options.{Request, request_of};
+ghost use Rattle.dt_run.specs.declared.status.TheConstants.{WORDS_REFUSED, OUT_OF_MEMORY};
 ghost use Rattle.dt_run.specs.Run.{status_of_run};
 ghost use Rattle.dt_run.specs.Statuses.{is_run_status};
 ghost use Rattle.dt_run.specs.Wanted.{run_on};
@@ -17,16 +18,18 @@ use std::alloc::Global;
 use std::test::Fail;
 
 // Runs what the words ask for. A run that was completed is one of the words on some image, both well formed, and the
-// status is its own.
+// status is its own. Words that ask for nothing are refused, or memory is wanting: both add nothing to the report.
 fn run<S: Store, H: Host + Send, O: Sink + Send, E: Sink>(
     alloc: Global,
     words: &[String],
     met: &mut Outside<S, H, O, E>,
 ) -> u8
     requires { IsEmptyStart (H.view met.old.host) }
-    ensures { IsTrue (is_run_status result) → (request : Request) × (image : List Entry)
+    ensures completed { IsTrue (is_run_status result) → (request : Request) × (image : List Entry)
         × (request_of (map string_bytes words.now) ≡ Some request) × IsImage image
         × (result ≡ status_of_run (run_on request image)) }
+    ensures refused { request_of (map string_bytes words.now) ≡ None
+        → ((result ≡ WORDS_REFUSED) ⊎ (result ≡ OUT_OF_MEMORY)) × (O.told met.new.out ≡ O.told met.old.out) }
 {
     dettrace(
         alloc,

@@ -100,11 +100,6 @@ module _ (status : ℕ) (told : Option Files) (words : List (List ℕ)) (old new
   image f by fails three =
       own_image f (sym (own_status f status by (λ seven. let bad : 3 ≡ 7 = sym three ∙ seven in cc)) ∙ three) fails
 
-  pub refuses_image : (f : Failure) → Answers f status → Fails f told words old new → status ≡ 3 → IfSome (wanted told words) RefusesImage
-  refuses_image f by fails three =
-      let r = image f by fails three in
-      if_some (wanted told words) r.first (λ found is. record { refusal = r.refusal; refused = is })
-
   -- where the words are refused
   pub refused_words : (f : Failure) → Answers f status → Fails f told words old new → wanted told words ≡ Some (Err Usage) → (status ≡ 2) ⊎ (status ≡ 7)
   refused_words Usage by fails is = by

@@ -6,7 +6,8 @@ use Rattle.std.specs.List.{AllByRecursion}
 use Rattle.std.specs.Ordering.{nat_cmp}
 use Rattle.std.specs.Cmp.{nat_cmp_total}
 use Rattle.std.specs.FinMap.{FinMap, empty, entries, keys, get, insert, remove, nat_cmp-IsAntisymmetric}
-use Rattle.dt_host.specs.Total.{total, total_in, weight}
+use Rattle.dt_host.specs.Total.{total, total_in}
+use Rattle.dt_host.specs.inner.Weight.{weight}
 use Rattle.dt_host.proofs.Maps.{at_insert, at_remove, get-insert_same, get-remove_other}
 use Rattle.dt_host.proofs.Totals.{total-remove}
 use Rattle.dt_rv64.specs.declared.machine.Machine.{Machine}

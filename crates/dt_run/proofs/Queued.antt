@@ -11,7 +11,7 @@ use Rattle.dt_sched.specs.declared.settled.Head.TheVariants.{NotArrived, Ready, 
 use Rattle.dt_sched.specs.declared.settled.Settled.{Settled}
 use Rattle.dt_sched.specs.declared.settled.Settled.TheVariants.{Again, Child, LastChild, Waits as Blocked, Moved, Gone, Stopped}
 use Rattle.dt_sched.specs.Core as sched
-use Rattle.dt_sched.specs.Core.{CoreView, IsCore, head, head_at, head_by, owes, owing, is_owing, is_counted, all_counted, arrived, arrived_at, settled, settled_at, verdict_after}
+use Rattle.dt_sched.specs.Core.{CoreView, IsCore, head, head_by, owes, owing, is_owing, is_counted, arrived, arrived_at, settled, settled_at, verdict_after}
 use Rattle.dt_run.specs.declared.phase.Phase.{Phase}
 use Rattle.dt_run.specs.declared.phase.Phase.TheVariants.{Owes, Ran, Waits}
 use Rattle.dt_run.specs.Work.{turn_cost}

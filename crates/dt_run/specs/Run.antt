@@ -76,7 +76,7 @@ abbrev pub status_by : Option End → ℕ
 status_by None = NOT_ENDED
 status_by (Some end) = ended_status end
 
--- the status of a run
+-- with which status the program ends after a run: its first process, whose pid is 1, decides
 abbrev pub status_of_run : Run → ℕ
 status_of_run run = status_by (end_of run.last.members FIRST_PID)
 

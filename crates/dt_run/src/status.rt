@@ -6,10 +6,10 @@ pub const ENDED_ZERO: u8 = 0;
 /// The run has ended, and its first process with another code or by a signal.
 pub const ENDED_OTHERWISE: u8 = 1;
 
-/// The words are refused.
+/// The words of the command line ask for no run, and none was made.
 pub const WORDS_REFUSED: u8 = 2;
 
-/// The image is refused.
+/// Something is wrong with the image, and no run was made.
 pub const IMAGE_REFUSED: u8 = 3;
 
 /// The store failed.

@@ -54,11 +54,9 @@ pub fn dettrace<S: Store, H: Host + Send, O: Sink + Send, E: Sink, G: Gate + Syn
         ⊎ (O.told out.new ≡ O.told out.old) }
     ensures nothing { IsTrue (precedes_run result) → O.told out.new ≡ O.told out.old }
 
-    // Each refusal and each fault has its cause.
+    // Refused words and each fault have their cause; that of a refused image stands with its line below.
     ensures usage { result ≡ WORDS_REFUSED
         → wanted (S.told store.old) (map string_bytes words.now) ≡ Some (Err Failure.Usage) }
-    ensures image { result ≡ IMAGE_REFUSED
-        → IfSome (wanted (S.told store.old) (map string_bytes words.now)) RefusesImage }
     ensures store { HasCause (S.count store.old) (S.count store.new) (result ≡ STORE_FAULT) }
     ensures host { HasCause (H.count host.old) (H.count host.new) (result ≡ HOST_FAULT) }
     ensures output { HasCause (O.count out.old) (O.count out.new) (result ≡ OUTPUT_FAULT) }

@@ -22,7 +22,7 @@ use Rattle.dt_fds.specs.Holding.{Outcome}
 use Rattle.dt_base.specs.declared.errno.Errno.{Errno}
 use Rattle.dt_fds.proofs.Backing.{named}
 use Rattle.dt_host.proofs.Asking.{cause-from}
-use Rattle.dt_host.specs.Total.{weight}
+use Rattle.dt_host.specs.inner.Weight.{weight}
 use Rattle.dt_host.specs.World.{World, Forest, IsFile, IsDir, OnlyForest}
 use Rattle.dt_host.specs.declared.error.HostErr.{HostErr}
 use Rattle.dt_space.specs.Space.{PageView}

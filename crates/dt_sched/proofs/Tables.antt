@@ -7,7 +7,7 @@ use Rattle.std.specs.List.{filter}
 use Rattle.dt_sched.specs.declared.queue.TheConstants.{QUEUE_LIMIT}
 use Rattle.dt_sched.specs.declared.settled.Head.TheVariants.{Ready, Over}
 use Rattle.dt_base.specs.declared.event.Verdict.{Verdict}
-use Rattle.dt_sched.specs.Queue.{IsQueue, owing_from, moved_up, head_of, head_is_ready, queue_at}
+use Rattle.dt_sched.specs.inner.Queue.{IsQueue, owing_from, moved_up, head_of, head_is_ready, queue_at}
 use Rattle.dt_sched.specs.declared.process.Process.{Process}
 use Rattle.dt_sched.specs.declared.process.Phase.TheVariants.{Arrived}
 use Rattle.dt_sched.specs.declared.settled.Settled.{Settled}

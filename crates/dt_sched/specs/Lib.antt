@@ -1,3 +1,3 @@
 pub mod Core
-pub mod Queue
 pub mod Laws
+pub mod inner

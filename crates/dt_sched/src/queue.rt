@@ -4,7 +4,7 @@ ghost use Rattle.std.specs.Prelude.{map, if◌then◌else◌, ◌==◌};
 ghost use Rattle.std.specs.List.{slice_index_or};
 ghost use Rattle.dt_sched.specs.Core.{owes, holds, each_once, owing, waits, arrived_at, is_owing, is_waiting, has_room};
 ghost use Rattle.dt_sched.specs.declared.queue.TheConstants.{QUEUE_LIMIT};
-ghost use Rattle.dt_sched.specs.Queue.{head_of, head_is_ready, queue_at, moved_up, owing_from};
+ghost use Rattle.dt_sched.specs.inner.Queue.{head_of, head_is_ready, queue_at, moved_up, owing_from};
 
 use crate::process::{Phase, Process};
 use crate::settled::Settled;
@@ -45,7 +45,7 @@ impl Model for Queue {
     ghost use Rattle.std.specs.Prelude.{List, vec_capacity};
     ghost use Rattle.std.specs.VecDeque.{deque_capacity};
     ghost use Rattle.dt_sched.specs.declared.process.Process.{Process};
-    ghost use Rattle.dt_sched.specs.Queue.{IsQueue, HasRoom};
+    ghost use Rattle.dt_sched.specs.inner.Queue.{IsQueue, HasRoom};
 
     ghost Value = { List Process };
 

@@ -1,4 +1,4 @@
--- rt_sigaction(2)
+-- The call that tells and changes what a process does about a signal: rt_sigaction(2).
 use Rattle.std.specs.Prelude.{ℕ, ◌==◌, ◌||◌, ◌&&◌, not, Bool, List, ◌++◌, Option, None, Some, Result, Ok, Err, if◌then◌else◌}
 use Rattle.dt_base.specs.Abi.{low_word}
 use Rattle.dt_base.specs.Fields.{low_bytes}

@@ -1,4 +1,4 @@
--- rt_sigprocmask(2)
+-- The call that tells and changes which signals a process blocks: rt_sigprocmask(2).
 use Rattle.std.specs.Prelude.{ℕ, ◌-◌, ◌^◌, ◌==◌, not, nat_lt, bit_and, bit_or, List, Option, None, Some, Result, Ok, Err, if◌then◌else◌}
 use Rattle.dt_base.specs.Abi.{low_word}
 use Rattle.dt_base.specs.Fields.{low_bytes}

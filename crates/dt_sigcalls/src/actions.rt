@@ -1,4 +1,4 @@
-// rt_sigaction(2)
+// The call that tells and changes what a process does about a signal (rt_sigaction(2)).
 ghost use Rattle.std.specs.Prelude.{◌≡◌, ◌≤◌};
 ghost use Rattle.dt_space.specs.Space.{IsSpace};
 ghost use Rattle.dt_sigcalls.specs.Called.{called};

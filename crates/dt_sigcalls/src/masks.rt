@@ -1,4 +1,4 @@
-// rt_sigprocmask(2)
+// The call that tells and changes which signals a process blocks (rt_sigprocmask(2)).
 ghost use Rattle.std.specs.Prelude.{◌≡◌, Ok};
 ghost use Rattle.dt_space.specs.Space.{IsSpace};
 ghost use Rattle.dt_sigcalls.specs.Called.{called};

@@ -26,6 +26,6 @@ returned_by g m (Err miss) = Err miss
 returned_by g m (Ok frame) =
     Ok (came_back (with_mask (word_in frame FRAME_MASK) g) (given_back frame m))
 
--- sigreturn(2)
+-- what the frame at the stack pointer gives back; a miss where a byte of it cannot be read (sigreturn(2))
 unfoldable pub returned : Sig → Machine → Result Returned Miss
 returned g m = returned_by g m (load m.space READ (register m SP) FRAME_SIZE)

@@ -137,7 +137,7 @@ fn clocks_tell_wall_time_or_that_since_the_start(rt: HostRuntime) -> Result<(), 
     let alloc = rt.alloc();
     let acts = [
         put(0, 3),
-        put(8, 7),
+        put(8, 900_000_007),
         Does::Call(NANOSLEEP, MEMORY, 0, 0),
         Does::Call(CLOCK_GETTIME, 5, MEMORY + 16, 0),
         Does::Call(CLOCK_GETTIME, 7, MEMORY + 32, 0),
@@ -149,8 +149,16 @@ fn clocks_tell_wall_time_or_that_since_the_start(rt: HostRuntime) -> Result<(), 
         show(16, 56),
         read_counter(),
     ];
-    let told = [YEAR_2000 + 3, 1_007, 3, 2_007, YEAR_2000 + 3, 3, 0];
-    let answers = [0, 0, 0, 0, 0, 0, 56, 3_000_004_007];
+    let told = [
+        YEAR_2000 + 3,
+        900_001_007,
+        3,
+        900_002_007,
+        YEAR_2000 + 3,
+        900_003,
+        0,
+    ];
+    let answers = [0, 0, 0, 0, 0, 0, 56, 3_900_004_007];
     expect(&rt, alloc, &acts, &[&words(alloc, &told)?], &answers)
 }
 

@@ -1,6 +1,6 @@
 // The pids of a host in memory: which one a word chooses, and what a failing call leaves.
-ghost use Rattle.std.specs.Prelude.{◌≡◌};
-ghost use Rattle.dt_host.specs.World.{ArePids};
+ghost use Rattle.std.specs.Prelude.{◌≡◌, ◌<◌, ◌^◌, ℕ};
+ghost use Rattle.dt_host.specs.World.{ArePids, IsLive, IsPipe};
 
 use crate::ask::number;
 use crate::pids::PidCall::{Faults, Greatest, New, NewAndDrop};
@@ -64,9 +64,13 @@ fn make(host: &mut MemHost, call: PidCall) -> Result<Outcome, HostErr> {
     }
 }
 
-// How many calls of a host failed, whichever host it is: the pids that are live there have 64 bits.
+// How many calls of a host failed, whichever host it is: its root has a number of 64 bits, and so have the nodes, the
+// pipes and the pids that are live there.
 fn faults_of<H: Host>(host: &H) -> u64
     ensures value { result ≡ H.count host.now }
+    ensures root { (H.view host.now).forest.root < 2 ^ 64 }
+    ensures nodes { (n : ℕ) → IsLive (H.view host.now).forest n → n < 2 ^ 64 }
+    ensures pipes { (n : ℕ) → IsPipe (H.view host.now) n → n < 2 ^ 64 }
     ensures pids { ArePids (H.view host.now).pids }
 {
     host.faults()

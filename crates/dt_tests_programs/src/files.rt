@@ -58,7 +58,7 @@ pub fn headers_alone(alloc: Global, headers: &[Header]) -> Result<Vec<u8>, NoMem
     let mut file = Vec::new(alloc);
     file.extend_from_slice(&[0x7f, 0x45, 0x4c, 0x46, 2, 1, 1, 0, 0, 0, 0, 0, 0, 0, 0, 0])?;
     file.extend_from_slice(&[2, 0, 0xf3, 0, 1, 0, 0, 0])?;
-    push_doubles(&mut file, &[0x1_0078, 64, 0])?;
+    put_numbers(&mut file, &[0x1_0078, 64, 0])?;
     file.extend_from_slice(&[0, 0, 0, 0, 64, 0, 56, 0])?;
     file.push((headers.len() % 256) as u8)?;
     file.extend_from_slice(&[0; 7])?;
@@ -71,7 +71,7 @@ pub fn headers_alone(alloc: Global, headers: &[Header]) -> Result<Vec<u8>, NoMem
 fn push_header(file: &mut Vec<u8>, header: Header) -> Result<(), NoMemory> {
     file.extend_from_slice(&header.kind.to_le_bytes())?;
     file.extend_from_slice(&header.flags.to_le_bytes())?;
-    push_doubles(
+    put_numbers(
         file,
         &[
             header.offset,
@@ -84,7 +84,7 @@ fn push_header(file: &mut Vec<u8>, header: Header) -> Result<(), NoMemory> {
     )
 }
 
-fn push_doubles(file: &mut Vec<u8>, numbers: &[u64]) -> Result<(), NoMemory> {
+fn put_numbers(file: &mut Vec<u8>, numbers: &[u64]) -> Result<(), NoMemory> {
     for number in numbers {
         file.extend_from_slice(&number.to_le_bytes())?;
     }

@@ -34,6 +34,22 @@ fn a_file_whose_headers_run_past_its_end_is_short(rt: HostRuntime) -> Result<(),
     Ok(())
 }
 
+// The table of no program headers stands at offset 0, so it ends before the file does.
+#[test]
+fn a_file_without_program_headers_is_short_below_64_bytes(rt: HostRuntime) -> Result<(), Fail> {
+    let alloc = rt.alloc();
+    let whole = patched(alloc, &headers_alone(alloc, &[])?, 32, &[0])?;
+    assert_eq!(rt; whole.len(), 64);
+    for (length, refusal) in [(63, ElfErr::Short), (64, ElfErr::Header)] {
+        let (cut, _) = whole.split_at(length.min(whole.len()));
+        assert_eq!(rt;
+            (length, read_elf(alloc, cut).err()),
+            (length, Some(refusal))
+        );
+    }
+    Ok(())
+}
+
 #[test]
 fn the_table_of_program_headers_may_stand_anywhere_in_the_file(
     rt: HostRuntime,

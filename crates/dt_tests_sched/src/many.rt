@@ -1,7 +1,7 @@
 // As many processes as have room.
 use crate::driver::{Came, Driver};
 use dt_base::Verdict;
-use dt_sched::Head;
+use dt_sched::{Head, QUEUE_LIMIT};
 use std::test::Fail;
 
 // Process 1 with 63 children that go on.
@@ -20,6 +20,12 @@ fn full(rt: HostRuntime) -> Result<Driver, Fail> {
         driver.turn(came);
     }
     Ok(driver)
+}
+
+#[test]
+fn the_limit_is_64(rt: HostRuntime) -> Result<(), Fail> {
+    assert_eq!(rt; QUEUE_LIMIT, 64);
+    Ok(())
 }
 
 #[test]

@@ -161,7 +161,7 @@ fn forks_are_apart(rt: HostRuntime) -> Result<(), Fail> {
 }
 
 #[test]
-fn hints_change_no_answer(rt: HostRuntime) -> Result<(), Fail> {
+fn page_hints_change_no_answer(rt: HostRuntime) -> Result<(), Fail> {
     let mut space = space(rt)?;
     let mut page_hint = PageHint::new();
     space.store8_hinted(&mut page_hint, 0x2000, 5)?;

@@ -3,7 +3,8 @@ use crate::play::play;
 use crate::row::Call::List;
 use crate::row::Outcome::Lists;
 use crate::row::Row;
-use dt_tree::{DT_DIR, DT_LNK, DT_REG, ROOT};
+use dt_base::abi::{DT_DIR, DT_LNK, DT_REG};
+use dt_tree::ROOT;
 use std::test::Fail;
 
 const PIECES: &[Row] = &[

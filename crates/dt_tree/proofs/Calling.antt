@@ -10,7 +10,7 @@ use Rattle.std.specs.FinMap.{get, len, empty_of_len, get-empty, nat_cmp-IsAntisy
 use Rattle.dt_base.specs.declared.image.What.{What}
 use Rattle.dt_base.specs.declared.limits.TheConstants.{MODE_LIMIT}
 use Rattle.dt_host.specs.World.{Forest, Node, Names, file, dir, link, node_at, dir_names, link_target, names_at, entry, with_node, with_entry, without_entry, IsDir, IsLive, IsBare}
-use Rattle.dt_host.specs.Total.{weight}
+use Rattle.dt_host.specs.inner.Weight.{weight}
 use Rattle.dt_host.proofs.Maps.{get-insert_same, get-insert_other}
 use Rattle.dt_host.proofs.Changes.{IsFile-bound}
 use Rattle.dt_host.proofs.Spots.{is_some-with_entry, len-with_entry, IsDir-with_entry, root-with_entry, IsFile-with_new, IsDir-with_new}

@@ -4,7 +4,7 @@ use Rattle.std.specs.Prelude.{not, ◌&&◌, ◌==◌, IsSome, is_some, unwrap_o
 use Rattle.std.specs.Cmp.{nat_cmp_total}
 use Rattle.std.specs.FinMap.{get, insert, nat_cmp-IsAntisymmetric}
 use Rattle.dt_host.specs.World.{Forest, Node, Names, file, dir, link, node_at, dir_names, entry, with_node, with_entry, without_entry, IsDir, IsLive}
-use Rattle.dt_host.specs.Total.{weight}
+use Rattle.dt_host.specs.inner.Weight.{weight}
 use Rattle.dt_host.specs.Values.{map_values}
 use Rattle.dt_host.proofs.Maps.{at_insert, put_back as insert-there}
 use Rattle.dt_host.proofs.Spots.{IsDir-entry, at_with_entry, is_some-with_entry, IsLive-with_entry, root-with_entry}

@@ -3,7 +3,7 @@ use Rattle.std.proofs.Common.{arith, ◌≡◌, ◌≢◌, ℕ, zero, suc, ◌+�
 use Rattle.std.proofs.lemmas.Bool.{cases_eq}
 use Rattle.std.specs.Prelude.{IfSome, unwrap_or}
 use Rattle.dt_host.specs.World.{Forest, entry, with_entry, without_entry, IsDir, IsFile, IsLive, IsBare}
-use Rattle.dt_host.specs.Total.{weight}
+use Rattle.dt_host.specs.inner.Weight.{weight}
 use Rattle.dt_host.proofs.Changes.{IsFile-bound}
 use Rattle.dt_host.proofs.Spots.{IsDir-entry, at_with_entry, IsDir-with_entry, IsDir-from_with_entry, IsLive-with_entry, is_some-with_entry, len-with_entry, root-with_entry}
 use Rattle.dt_host.proofs.Gone.{at_without_entry, IsDir-without_entry, IsDir-from_without_entry, IsFile-without_entry, IsLive-without_entry, is_some-without_entry, len-without_entry, root-without_entry, without_entry-none, with_entry-cleared}

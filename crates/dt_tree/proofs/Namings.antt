@@ -8,7 +8,8 @@ use Rattle.std.specs.FinMap.{empty, entries, len, len-entries, len-empty, len-in
 use Rattle.std.specs.Ordering.{nat_cmp}
 use Rattle.std.specs.Cmp.Lexicographic.{slice_cmp}
 use Rattle.dt_host.specs.World.{Forest, Node, Names, file, dir, link, node_at, dir_names, names_at, entry, with_node, with_entry, without_entry, without_node, IsBare}
-use Rattle.dt_host.specs.Total.{total, total_in, weight}
+use Rattle.dt_host.specs.Total.{total, total_in}
+use Rattle.dt_host.specs.inner.Weight.{weight}
 use Rattle.dt_host.proofs.Maps.{at_insert, names_tie, get-remove_same}
 use Rattle.dt_host.proofs.Totals.{total-insert, total-remove, total-empty, put_again}
 use Rattle.dt_tree.specs.Shape.{one_for, entries_for, names_of, name_count}

@@ -4,7 +4,7 @@ use Rattle.std.proofs.lemmas.Bool.{cases_eq}
 use Rattle.std.specs.Prelude.{IsSome, unwrap_or}
 use Rattle.std.specs.FinMap.{empty}
 use Rattle.dt_host.specs.World.{Forest, Node, dir_names, with_node, node_at, entry, with_entry, without_entry, without_node, IsDir, IsLive, IsBare}
-use Rattle.dt_host.specs.Total.{weight}
+use Rattle.dt_host.specs.inner.Weight.{weight}
 use Rattle.dt_host.proofs.Spots.{IsDir-entry, IsLive-IsDir, entry-with_new, IsDir-with_new, IsDir-from_with_new, IsLive-with_new, at_with_entry, IsDir-with_entry, IsDir-from_with_entry, IsLive-with_entry, root-with_entry}
 use Rattle.dt_host.proofs.Gone.{at_without_entry, IsDir-without_entry, IsDir-from_without_entry, IsLive-without_entry, root-without_entry, entry-without_node, IsLive-without_node, IsDir-without_node, IsDir-from_without_node}
 use Rattle.dt_tree.specs.Shape.{one_for, names_of, LeadsUp, IsBelow, IsUnder, IsRemoved, IsShaped}

@@ -12,7 +12,7 @@ use Rattle.dt_base.specs.declared.image.What.TheVariants.{File, Dir, Link}
 use Rattle.dt_base.specs.declared.limits.TheConstants.{FILE_LIMIT, MODE_LIMIT, LINK_MODE}
 use Rattle.dt_base.specs.Image.{is_good_what, is_target}
 use Rattle.dt_host.specs.World.{Node, Names, file, dir, link, node_at, names_at, entry, dir_names, with_node, with_entry, IsLive, IsDir}
-use Rattle.dt_host.specs.Total.{weight}
+use Rattle.dt_host.specs.inner.Weight.{weight}
 use Rattle.dt_host.proofs.Maps.{at_insert, names_tie, get-insert_same, get-insert_other}
 use Rattle.dt_host.proofs.Worlds.{node_at-with_node_other}
 use Rattle.dt_host.proofs.Spots.{IsLive-IsDir, is_some-with_entry, len-with_entry, IsDir-with_new, entry-with_new, root-with_entry}

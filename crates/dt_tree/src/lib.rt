@@ -19,9 +19,7 @@ mod tree;
 mod unlink;
 mod write;
 
-pub use limits::{
-    DIR_SIZE, DT_DIR, DT_LNK, DT_REG, FIRST_INODE, NAMES_LIMIT, NODE_LIMIT, ROOT, ROOT_MODE,
-};
+pub use limits::{DIR_SIZE, FIRST_INODE, NAMES_LIMIT, NODE_LIMIT, ROOT, ROOT_MODE};
 pub use list::Listed;
 pub use meta::Meta;
 pub use tree::Tree;

@@ -17,12 +17,3 @@ pub const NAMES_LIMIT: u64 = 0x8000_0000;
 
 /// What stat(2) gives as the size of a directory.
 pub const DIR_SIZE: u64 = 4_096;
-
-/// A directory, as a type of an entry (dirent.h, as the next two).
-pub const DT_DIR: u8 = 4;
-
-/// A file.
-pub const DT_REG: u8 = 8;
-
-/// A symbolic link.
-pub const DT_LNK: u8 = 10;

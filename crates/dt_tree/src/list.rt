@@ -9,8 +9,8 @@ ghost use Rattle.dt_tree.specs.inner.Lists.{added, listed_real};
 ghost use Rattle.dt_tree.specs.inner.Kinds.{type_for};
 
 use crate::inode::Kind;
-use crate::limits::{DT_DIR, DT_LNK, DT_REG};
 use crate::tree::Tree;
+use dt_base::abi::{DT_DIR, DT_LNK, DT_REG};
 use dt_base::{Blob, NoMemory};
 use dt_host::{Host, HostEntry, HostErr, sorted_names};
 

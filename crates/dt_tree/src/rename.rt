@@ -1,4 +1,4 @@
-// Names that move.
+// The change of the tree by which a name moves.
 ghost use Rattle.std.specs.Prelude.{◌≡◌, OnOk, IsErrOf};
 ghost use Rattle.dt_host.specs.declared.error.CallErr.TheVariants.{Host as host_failed};
 ghost use Rattle.dt_host.specs.World.{OnlyForest};

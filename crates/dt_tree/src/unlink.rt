@@ -1,4 +1,4 @@
-// Names that go.
+// The change of the tree by which a name goes.
 ghost use Rattle.std.specs.Prelude.{◌≡◌, true, IfSome, OnOk, IsErrOf};
 ghost use Rattle.dt_host.specs.declared.error.CallErr.TheVariants.{Host as host_failed};
 ghost use Rattle.dt_host.specs.Cause.{HasCause};

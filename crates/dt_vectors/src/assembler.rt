@@ -137,7 +137,8 @@ fn listed(alloc: Global, code: &[u32], data: &[u8]) -> Result<Vec<u8>, AllocErro
     Ok(file)
 }
 
-fn put_numbers(file: &mut Vec<u8>, numbers: &[u64]) -> Result<(), AllocError> {
+// Appends numbers of 8 bytes, the lowest byte first.
+pub(crate) fn put_numbers(file: &mut Vec<u8>, numbers: &[u64]) -> Result<(), AllocError> {
     for number in numbers {
         file.extend_from_slice(&number.to_le_bytes())?;
     }

@@ -1,5 +1,6 @@
 // The numbers that code and definitions share, each tried beside its neighbours: the limits of executables, and the
 // steps of a segment.
+use crate::assembler::put_numbers;
 use dt_elf::{ElfErr, read_elf};
 use dt_rv64::{Machine, Seg, Stop, segment};
 use dt_space::Space;
@@ -22,21 +23,14 @@ fn executable(
     let mut file = Vec::new(alloc);
     file.extend_from_slice(&[0x7f, 0x45, 0x4c, 0x46, 2, 1, 1, 0, 0, 0, 0, 0, 0, 0, 0, 0])?;
     file.extend_from_slice(&[2, 0, 0xf3, 0, 1, 0, 0, 0])?;
-    add_numbers(&mut file, &[entry, 64, 0])?;
+    put_numbers(&mut file, &[entry, 64, 0])?;
     file.extend_from_slice(&[0, 0, 0, 0, 64, 0, 56, 0, headers, 0, 0, 0, 0, 0, 0, 0])?;
     file.extend_from_slice(&[1, 0, 0, 0, 5, 0, 0, 0])?;
-    add_numbers(&mut file, &[0, vaddr, vaddr, 0, memsz, 4096])?;
+    put_numbers(&mut file, &[0, vaddr, vaddr, 0, memsz, 4096])?;
     for _ in 1..headers {
         file.extend_from_slice(&[0; 56])?;
     }
     Ok(file)
-}
-
-fn add_numbers(file: &mut Vec<u8>, numbers: &[u64]) -> Result<(), AllocError> {
-    for number in numbers {
-        file.extend_from_slice(&number.to_le_bytes())?;
-    }
-    Ok(())
 }
 
 #[test]

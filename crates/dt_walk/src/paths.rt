@@ -1,4 +1,4 @@
-// A whole path.
+// The walk along a whole path.
 ghost use Rattle.std.specs.Prelude.{◌≡◌, ◌++◌, ◌||◌, ◌&&◌, reverse, Err, IfOk, OnErr, IsTrue};
 ghost use Rattle.dt_host.specs.declared.error.CallErr.TheVariants.{Host as host_failed};
 ghost use Rattle.dt_host.specs.declared.error.HostErr.TheVariants.{NoMemory as no_memory};

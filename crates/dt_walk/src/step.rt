@@ -12,7 +12,7 @@ use dt_base::{Blob, Errno, NAME_LIMIT};
 use dt_host::{Host, HostErr};
 use dt_tree::Tree;
 
-/// What is under a name.
+/// What a look-up of one name, at the node where the walk stands, comes to.
 #[derive(Clone, Copy, Debug)]
 pub enum Found {
     /// A node.

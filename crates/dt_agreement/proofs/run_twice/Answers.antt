@@ -11,8 +11,8 @@ returns-clause-status g c = λ one other.
     let a = c.dettrace-one.ensures in
     let b = c.dettrace-other.ensures in
     agree-status _ _ _ _ _ _ _ _ _
-    (answered _ words _ is _ _ _ _ a.some_image a.usage a.image a.nothing one)
-    (answered _ _ _ again _ _ _ _ b.some_image b.usage b.image b.nothing other)
+    (answered _ words _ is _ _ _ _ _ _ _ _ a.some_image a.usage a.image_line a.nothing one)
+    (answered _ _ _ again _ _ _ _ _ _ _ _ b.some_image b.usage b.image_line b.nothing other)
 
 pub returns-clause-refused : goal.returns-clause-refused
 returns-clause-refused g c =
@@ -29,8 +29,8 @@ returns-clause-report g c =
     let again = same-wanted _ _ _ _ c.requires.same c.requires.request ∙ is in
     let a = c.dettrace-one.ensures in
     let b = c.dettrace-other.ensures in
-    let one = answered _ words _ is _ _ _ _ a.some_image a.usage a.image a.nothing in
-    let other = answered _ _ _ again _ _ _ _ b.some_image b.usage b.image b.nothing in
+    let one = answered _ words _ is _ _ _ _ _ _ _ _ a.some_image a.usage a.image_line a.nothing in
+    let other = answered _ _ _ again _ _ _ _ _ _ _ _ b.some_image b.usage b.image_line b.nothing in
     record {
       bytes = bytes_of (the _ known);
       part = adds-part _ words _ is _ _ _ _ a.statuses one a.part a.memory a.nothing;
@@ -52,8 +52,8 @@ returns-clause-line g c = λ one other.
     let b = c.dettrace-other.ensures in
     record {
       line = line_of (the _ known);
-      one = tells _ words _ _ _ _ _ _ _ _ one a.line a.image_line _ is (answered _ words _ is _ _ _ _ a.some_image a.usage a.image a.nothing one);
-      other = tells _ _ _ _ _ _ _ _ _ _ other b.line b.image_line _ again (answered _ _ _ again _ _ _ _ b.some_image b.usage b.image b.nothing other);
+      one = tells _ words _ _ _ _ _ _ _ _ one a.line a.image_line _ is (answered _ words _ is _ _ _ _ _ _ _ _ a.some_image a.usage a.image_line a.nothing one);
+      other = tells _ _ _ _ _ _ _ _ _ _ other b.line b.image_line _ again (answered _ _ _ again _ _ _ _ _ _ _ _ b.some_image b.usage b.image_line b.nothing other);
     }
 
 pub returns-clause-tree : goal.returns-clause-tree
@@ -64,8 +64,8 @@ returns-clause-tree g c = λ one other.
     let a = c.dettrace-one.ensures in
     let b = c.dettrace-other.ensures in
     agree-tree _ _ _ _ _ _ _ _ _ one
-    (by_run _ words _ is _ _ _ _ a.some_image a.usage a.image a.nothing one)
-    (by_run _ _ _ again _ _ _ _ b.some_image b.usage b.image b.nothing other)
+    (by_run _ words _ is _ _ _ _ _ _ _ _ a.some_image a.usage a.image_line a.nothing one)
+    (by_run _ _ _ again _ _ _ _ _ _ _ _ b.some_image b.usage b.image_line b.nothing other)
 
 pub returns-clause-caused : goal.returns-clause-caused
 returns-clause-caused g c =

@@ -25,7 +25,7 @@ pub fn read_counter(alloc: Global, shared: &mut Shared, machine: &mut Machine, r
     Effect::quiet(alloc, Outcome::Done)
 }
 
-/// exit(2), exit_group(2)
+/// Ends the process with the lowest byte of its argument as its code (exit(2), exit_group(2)).
 #[tactic(auto, unfolding(crate::specs::Call::exit_call))]
 pub fn exit(alloc: Global, machine: &Machine) -> Effect
     ensures served { (c : _) → (own : _) → exit_call c own machine.now ≡ effect_as c own machine.now result }

@@ -7,14 +7,14 @@ ghost use Rattle.dt_calls.specs.InCode.{shared_of, effect_as};
 ghost use Rattle.dt_calls.specs.declared.numbers.TheConstants.{UTSNAME_FIELD as WIDTH};
 
 use super::Effect;
-use crate::numbers::{ROBUST_LIST_SIZE, UTSNAME_FIELD};
+use crate::numbers::UTSNAME_FIELD;
 use crate::shared::{Process, Shared};
-use dt_base::abi::{A0, A1};
+use dt_base::abi::{A0, A1, ROBUST_LIST_SIZE};
 use dt_base::{Errno, NoMemory};
 use dt_rv64::Machine;
 use std::alloc::Global;
 
-/// getpid(2), gettid(2), set_tid_address(2)
+/// Tells the process's pid, which is also the id of its one thread (getpid(2), gettid(2), set_tid_address(2)).
 #[tactic(auto, unfolding(crate::specs::Identity::getpid_call))]
 pub fn getpid(alloc: Global, own: &Process, machine: &mut Machine) -> Effect
     ensures served { (c : _) → getpid_call c own.now machine.old ≡ effect_as c own.now machine.new result }
@@ -23,7 +23,7 @@ pub fn getpid(alloc: Global, own: &Process, machine: &mut Machine) -> Effect
     Effect::done(alloc, machine, u64::from(own.caller.vpid))
 }
 
-/// getppid(2)
+/// Tells the pid of the process's parent, and 0 to the first process (getppid(2)).
 #[tactic(auto, unfolding(crate::specs::Identity::getppid_call))]
 pub fn getppid(alloc: Global, shared: &Shared, own: &Process, machine: &mut Machine) -> Effect
     ensures served { (w : World) → getppid_call (shared_of shared.now w) own.now machine.old
@@ -34,7 +34,8 @@ pub fn getppid(alloc: Global, shared: &Shared, own: &Process, machine: &mut Mach
     Effect::done(alloc, machine, u64::from(parent))
 }
 
-/// set_robust_list(2)
+/// Does nothing, since a process has one thread. EINVAL where the size of the list's head is another
+/// (set_robust_list(2)).
 #[tactic(auto, unfolding(crate::specs::Identity::set_robust_list_call))]
 pub fn set_robust_list(alloc: Global, machine: &mut Machine) -> Effect
     ensures served { (c : _) → (own : _) → set_robust_list_call c own machine.old
@@ -48,7 +49,7 @@ pub fn set_robust_list(alloc: Global, machine: &mut Machine) -> Effect
     }
 }
 
-/// uname(2)
+/// Puts the names of the system into a buffer. EFAULT where a byte of it can't be written (uname(2)).
 #[tactic(auto, unfolding(crate::specs::Identity::uname_call))]
 pub fn uname(alloc: Global, machine: &mut Machine) -> Result<Effect, NoMemory>
     ensures served { (c : _) → (own : _) → IfOk result

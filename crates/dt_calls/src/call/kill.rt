@@ -9,7 +9,9 @@ ghost use Rattle.dt_calls.specs.Sound.{StillSignalled};
 use super::{Effect, Outcome};
 use crate::shared::Shared;
 use dt_base::Errno;
-use dt_base::abi::{A0, A1, A2, KILL, SIGCHLD, SIGNAL_LIMIT, TGKILL, TKILL, low_word};
+use dt_base::abi::{
+    A0, A1, A2, GREATEST_PID, KILL, SIGCHLD, SIGNAL_LIMIT, TGKILL, TKILL, low_word,
+};
 use dt_rv64::Machine;
 use std::alloc::Global;
 
@@ -29,7 +31,7 @@ pub fn kill(alloc: Global, shared: &mut Shared, machine: &mut Machine) -> Effect
     send(alloc, shared, machine, pid, signal)
 }
 
-/// tkill(2)
+/// Sends a signal to a process by the id of its one thread. EINVAL for an id below 1 (tkill(2)).
 #[tactic(auto, unfolding(crate::specs::Kill::tkill_call))]
 pub fn tkill(alloc: Global, shared: &mut Shared, machine: &mut Machine) -> Effect
     ensures served { (w : World) → (own : _) → tkill_call (shared_of shared.old w) own machine.old
@@ -75,7 +77,7 @@ pub fn tgkill(alloc: Global, shared: &mut Shared, machine: &mut Machine) -> Effe
 fn is_below_one(pid: u32) -> bool
     ensures { result ≡ is_below_one pid }
 {
-    pid == 0 || pid >= 0x8000_0000
+    pid == 0 || pid > GREATEST_PID
 }
 
 // Whether these calls are not supported with a signal.

@@ -11,7 +11,7 @@ use dt_base::{Answer, NoMemory};
 use dt_rv64::Machine;
 use std::alloc::Global;
 
-/// brk(2)
+/// Moves the end of the process's break, or leaves it where it is, and answers where it is then (brk(2)).
 #[tactic(auto, unfolding(crate::specs::MemoryCalls::brk_call))]
 pub fn brk(alloc: Global, own: &mut Process, machine: &mut Machine) -> Result<Effect, NoMemory>
     ensures served { (c : _) → IfOk result (λ e. brk_call c own.old machine.old ≡ effect_as c own.new machine.new e) }
@@ -24,7 +24,7 @@ pub fn brk(alloc: Global, own: &mut Process, machine: &mut Machine) -> Result<Ef
     Ok(Effect::done(alloc, machine, end))
 }
 
-/// munmap(2)
+/// Takes away the pages of a range, whichever are there (munmap(2)).
 #[tactic(auto, unfolding(crate::specs::MemoryCalls::munmap_call))]
 pub fn munmap(alloc: Global, machine: &mut Machine) -> Result<Effect, NoMemory>
     ensures served { (c : _) → (own : _) → IfOk result
@@ -36,7 +36,7 @@ pub fn munmap(alloc: Global, machine: &mut Machine) -> Result<Effect, NoMemory>
     answered(alloc, machine, MUNMAP, answer)
 }
 
-/// mmap(2)
+/// Maps pages of zeros, with MAP_FIXED at the address, and answers where they begin (mmap(2)).
 #[tactic(auto, unfolding(crate::specs::MemoryCalls::mmap_call))]
 pub fn mmap(alloc: Global, machine: &mut Machine) -> Result<Effect, NoMemory>
     ensures served { (c : _) → (own : _) → IfOk result
@@ -49,7 +49,7 @@ pub fn mmap(alloc: Global, machine: &mut Machine) -> Result<Effect, NoMemory>
     answered(alloc, machine, MMAP, answer)
 }
 
-/// mprotect(2)
+/// Gives the pages of a range other rights, if all of them are there (mprotect(2)).
 #[tactic(auto, unfolding(crate::specs::MemoryCalls::mprotect_call))]
 pub fn mprotect(alloc: Global, machine: &mut Machine) -> Result<Effect, NoMemory>
     ensures served { (c : _) → (own : _) → IfOk result

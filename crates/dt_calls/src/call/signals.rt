@@ -20,7 +20,7 @@ use dt_rv64::Machine;
 use dt_signals::{Sig, sigreturn};
 use std::alloc::Global;
 
-/// rt_sigaction(2)
+/// Tells what the process does about a signal, and may put another action in its place (rt_sigaction(2)).
 #[tactic(auto, unfolding(crate::specs::SignalCalls::sigaction_call))]
 pub fn rt_sigaction(
     alloc: Global,
@@ -40,7 +40,7 @@ pub fn rt_sigaction(
     answered(alloc, machine, RT_SIGACTION, answer)
 }
 
-/// rt_sigprocmask(2)
+/// Tells the process's signal mask, and may change it by a set (rt_sigprocmask(2)).
 #[tactic(auto, unfolding(crate::specs::SignalCalls::sigprocmask_call))]
 pub fn rt_sigprocmask(
     alloc: Global,

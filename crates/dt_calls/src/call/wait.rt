@@ -12,7 +12,7 @@ use super::{Effect, Outcome};
 use crate::numbers::RUSAGE_SIZE;
 use crate::shared::{Process, Shared};
 use dt_base::abi::{
-    A0, A1, A2, A3, ANY_CHILD, GREATEST_PID, WAIT_OPTIONS, WAIT4, WNOHANG, low_word,
+    A0, A1, A2, A3, ANY_CHILD, GREATEST_PID, WAIT_OPTIONS, WAIT4, WNOHANG, has, low_word,
 };
 use dt_base::{End, Errno};
 use dt_host::{Host, HostErr};
@@ -46,7 +46,7 @@ pub fn wait4<H: Host>(
     let which = which_child(pid);
     match shared.pids.look_for(own.caller.vpid, which) {
         Reaped::Got(vpid, end) => reap(alloc, host, shared, own, machine, which, vpid, end),
-        Reaped::NoneReady if options & WNOHANG == WNOHANG => Ok(Effect::done(alloc, machine, 0)),
+        Reaped::NoneReady if has(options, WNOHANG) => Ok(Effect::done(alloc, machine, 0)),
         Reaped::NoneReady => Ok(Effect::quiet(alloc, Outcome::Blocked)),
         Reaped::NoChild => Ok(Effect::refused(alloc, machine, Errno::Child)),
     }

@@ -1,4 +1,4 @@
-// Names that are added.
+// The call that adds a name to a node (linkat(2)).
 ghost use Rattle.std.specs.Prelude.{◌≡◌, true, IfOk};
 ghost use Rattle.dt_base.specs.Abi.{low_word};
 ghost use Rattle.dt_host.specs.World.{IsLive};
@@ -11,7 +11,7 @@ ghost use Rattle.dt_scene.specs.Sound.{Sound, Serves, Ends, stage, scene};
 
 use super::new_refusal;
 use crate::places::{LastLink, place_at};
-use dt_base::abi::{AT_SYMLINK_FOLLOW, low_word};
+use dt_base::abi::{AT_SYMLINK_FOLLOW, has, low_word};
 use dt_base::{Answer, Caller, Errno};
 use dt_host::{CallErr, Host, HostErr};
 use dt_scene::Fs;
@@ -59,7 +59,7 @@ pub fn linkat<H: Host>(
 fn old_rule(flags: u32) -> LastLink
     ensures { result ≡ old_rule flags }
 {
-    if flags & AT_SYMLINK_FOLLOW == AT_SYMLINK_FOLLOW {
+    if has(flags, AT_SYMLINK_FOLLOW) {
         LastLink::Follow
     } else {
         LastLink::KeepWithoutSlash

@@ -1,4 +1,4 @@
-// Names that move.
+// The call that moves a name (renameat2(2)).
 ghost use Rattle.std.specs.Prelude.{◌≡◌, true, false, Some, IfOk};
 ghost use Rattle.dt_base.specs.Abi.{low_word};
 ghost use Rattle.dt_host.specs.Asks.{Asks};
@@ -12,7 +12,7 @@ ghost use Rattle.dt_fcalls.specs.Rename.{moves_to, renameat2_row};
 ghost use Rattle.dt_scene.specs.Sound.{Sound, Serves, Ends, stage, scene};
 
 use crate::places::{LastLink, place_at};
-use dt_base::abi::{RENAME_NOREPLACE, low_word};
+use dt_base::abi::{RENAME_NOREPLACE, has, low_word};
 use dt_base::{Answer, Caller, Errno};
 use dt_host::{CallErr, Host, HostErr};
 use dt_scene::Fs;
@@ -79,7 +79,7 @@ fn rename<H: Host>(
         (H.count host.old) (H.count host.new) }
 {
     let _before = host.faults();
-    let noreplace = low_word(args[4]) & RENAME_NOREPLACE == RENAME_NOREPLACE;
+    let noreplace = has(low_word(args[4]), RENAME_NOREPLACE);
     let from = match found {
         Ok(from) => from,
         Err(errno) => return Ok(Answer::Refused(errno)),

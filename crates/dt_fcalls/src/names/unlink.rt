@@ -1,4 +1,4 @@
-// Names that go.
+// The call that takes a name away (unlinkat(2)).
 ghost use Rattle.std.specs.Prelude.{◌≡◌, true, Some, IfOk};
 ghost use Rattle.dt_base.specs.Abi.{low_word};
 ghost use Rattle.dt_host.specs.Asks.{Asks};

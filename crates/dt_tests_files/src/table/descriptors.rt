@@ -11,7 +11,7 @@ use crate::table::numbers::{
     CLOSE, CWD, DUP, DUP3, FCNTL, FSTAT, IOCTL, LSEEK, OPENAT, READ, UNLINKAT, WRITE, ZERO,
 };
 
-/// close(2), dup(2), ioctl(2).
+/// The rows of close(2), dup(2) and ioctl(2).
 pub const CLOSES: &[Row] = &[
     (CLOSE, &[N(-1)], EBADF, Stays),
     (CLOSE, &[N(3)], EBADF, Stays),

@@ -2,7 +2,7 @@
 use Rattle.std.specs.Prelude.{ℕ}
 use Rattle.dt_tree.specs.declared.inode.Kind.{Kind}
 use Rattle.dt_tree.specs.declared.inode.Kind.TheVariants.{File, Dir, Link}
-use Rattle.dt_tree.specs.declared.limits.TheConstants.{DT_DIR, DT_REG, DT_LNK}
+use Rattle.dt_base.specs.declared.abi.TheConstants.{DT_DIR, DT_REG, DT_LNK}
 
 -- the type of an entry for a node of this kind
 abbrev pub type_for : Kind → ℕ

@@ -2,7 +2,7 @@ use Rattle.std.proofs.Common.{◌≡◌, ◌+◌, ◌-◌, ◌%◌, ◌<◌, ◌
 use Rattle.std.proofs.Math.Nat.{mod-lt}
 use Rattle.std.proofs.lemmas.List.Edits.{length-remove}
 use Rattle.dt_memhost.specs.Order.{picked_order}
-use Rattle.dt_memhost.specs.Script.{picked, picked_all, picked_word, words_of}
+use Rattle.dt_memhost.specs.Script.{picked, picked_all, coming_word, words_of}
 use Rattle.dt_memhost.specs.inner.EntryTree.{entries}
 use Rattle.dt_memhost.proofs.Arranged.{picked_order-more, picked_order-end, picked_all-suc, picked_all-none, one_left}
 use Rattle.dt_memhost.proofs.order.arrange.Goals as goal
@@ -17,10 +17,10 @@ loop-done-preserved c =
     let more = n - (done + 1) in
     let count : c.len-count.result - done ≡ n - done = omega arith in
     let some : 0 < n - done = omega arith in
-    let at = picked_word before % (n - done) in
-    let below : at < n - done = mod-lt (picked_word before) some in
-    let chosen = c.pick-entry.ensures.chosen ∙ ap (λ k. take 1 (drop (picked_word before % k) left)) count in
-    let goes = c.pick-entry.ensures.left ∙ ap (λ k. remove left (picked_word before % k)) count in
+    let at = coming_word before % (n - done) in
+    let below : at < n - done = mod-lt (coming_word before) some in
+    let chosen = c.pick-entry.ensures.chosen ∙ ap (λ k. take 1 (drop (coming_word before % k) left)) count in
+    let goes = c.pick-entry.ensures.left ∙ ap (λ k. remove left (coming_word before % k)) count in
     let gone : length rest ≡ length (remove left at) = ap length goes in
     record {
       order =

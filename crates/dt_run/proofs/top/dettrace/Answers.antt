@@ -1,5 +1,5 @@
 use Rattle.std.proofs.Common.{◌≡◌, Err, refl, sym, ap, ◌∙◌}
-use Rattle.dt_run.specs.declared.status.TheConstants.{WORDS_REFUSED, IMAGE_REFUSED, STORE_FAULT, HOST_FAULT, OUTPUT_FAULT, OUT_OF_MEMORY}
+use Rattle.dt_run.specs.declared.status.TheConstants.{WORDS_REFUSED, STORE_FAULT, HOST_FAULT, OUTPUT_FAULT, OUT_OF_MEMORY}
 use Rattle.dt_run.proofs.Ran as ran
 use Rattle.dt_run.proofs.Failing as failing
 use Rattle.dt_run.proofs.Lines.{own_line, refusal_line, no_line, no_refusal}
@@ -19,9 +19,6 @@ returns-in-Ok-clause-nothing g c = λ early. absurd (ran.not_before c.in-Ok.stat
 
 pub returns-in-Ok-clause-usage : goal.returns-in-Ok-clause-usage
 returns-in-Ok-clause-usage g c = λ is. absurd (ran.never c.in-Ok.status WORDS_REFUSED (ran.status-of _ _ _ _ _ _ c.in-Ok.ensures.completed) refl is)
-
-pub returns-in-Ok-clause-image : goal.returns-in-Ok-clause-image
-returns-in-Ok-clause-image g c = λ is. absurd (ran.never c.in-Ok.status IMAGE_REFUSED (ran.status-of _ _ _ _ _ _ c.in-Ok.ensures.completed) refl is)
 
 pub returns-in-Ok-clause-store : goal.returns-in-Ok-clause-store
 returns-in-Ok-clause-store g c = record {
@@ -67,9 +64,6 @@ returns-in-Err-clause-nothing g c = failing.nothing _ _ _ _ _ _ c.write_failure.
 
 pub returns-in-Err-clause-usage : goal.returns-in-Err-clause-usage
 returns-in-Err-clause-usage g c = failing.usage _ _ _ _ _ _ c.write_failure.ensures.status c.in-Err.ensures.failed
-
-pub returns-in-Err-clause-image : goal.returns-in-Err-clause-image
-returns-in-Err-clause-image g c = failing.refuses_image _ _ _ _ _ _ c.write_failure.ensures.status c.in-Err.ensures.failed
 
 pub returns-in-Err-clause-complete : goal.returns-in-Err-clause-complete
 returns-in-Err-clause-complete g c =

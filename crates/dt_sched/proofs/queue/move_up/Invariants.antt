@@ -1,5 +1,5 @@
 use Rattle.std.proofs.Common.{◌≡◌, ◌++◌, take, drop}
-use Rattle.dt_sched.specs.Queue.{moved_up}
+use Rattle.dt_sched.specs.inner.Queue.{moved_up}
 use Rattle.dt_sched.proofs.queue.move_up.Given as goal
 
 -- those so far have moved up, and the others stand as they did

@@ -1,19 +1,19 @@
 use Rattle.std.proofs.Common.{◌≡◌, ℕ, ◌+◌, ◌%◌, ◌<◌, List, [], ◌∷◌, ◌++◌, length, map, take, slice_set, refl, sym, ap, ◌∙◌, add-one, arith}
 use Rattle.std.proofs.Math.Seq.{take-suc-set, take-length}
 use Rattle.std.proofs.lemmas.List.{map-append}
-use Rattle.dt_memhost.specs.Script.{Script, picked, picked_all, picked_word, words_of}
+use Rattle.dt_memhost.specs.Script.{Script, picked, picked_all, coming_word, words_of}
 use Rattle.dt_memhost.proofs.Arranged.{words_of-none, picked_all-none}
 use Rattle.dt_memhost.proofs.Worded.{next_words-push, after_words-push}
 use Rattle.dt_memhost.proofs.script.Script.fill.Goals as goal
 
 -- one byte more
-filled : (buf : List ℕ) (i byte : ℕ) (start before : Script) → i < length buf → take i buf ≡ map (λ word. word % 256) (words_of i start) → before ≡ picked_all i start → byte ≡ picked_word before % 256 → take (i + 1) (slice_set buf i byte) ≡ map (λ word. word % 256) (words_of (i + 1) start)
+filled : (buf : List ℕ) (i byte : ℕ) (start before : Script) → i < length buf → take i buf ≡ map (λ word. word % 256) (words_of i start) → before ≡ picked_all i start → byte ≡ coming_word before % 256 → take (i + 1) (slice_set buf i byte) ≡ map (λ word. word % 256) (words_of (i + 1) start)
 filled buf i byte start before h prefix stands is =
     ap (λ k. take k (slice_set buf i byte)) (add-one i)
     ∙ take-suc-set buf i byte h
     ∙ ap (λ xs. xs ++ byte ∷ []) prefix
-    ∙ ap (λ b. map (λ word. word % 256) (words_of i start) ++ b ∷ []) (is ∙ ap (λ s. picked_word s % 256) stands)
-    ∙ sym (map-append (λ word. word % 256) (words_of i start) (picked_word (picked_all i start) ∷ []))
+    ∙ ap (λ b. map (λ word. word % 256) (words_of i start) ++ b ∷ []) (is ∙ ap (λ s. coming_word s % 256) stands)
+    ∙ sym (map-append (λ word. word % 256) (words_of i start) (coming_word (picked_all i start) ∷ []))
     ∙ ap (map (λ word. word % 256)) (sym (next_words-push i start.picks))
 
 pub loop-byte-init : goal.loop-byte-init

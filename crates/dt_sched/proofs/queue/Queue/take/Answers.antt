@@ -1,5 +1,5 @@
 use Rattle.std.proofs.Common.{ap, ◌∙◌, arith}
-use Rattle.dt_sched.specs.Queue.{moved_up}
+use Rattle.dt_sched.specs.inner.Queue.{moved_up}
 use Rattle.dt_sched.proofs.Tables.{moved-whole, table-taken, ready-first}
 use Rattle.dt_sched.proofs.queue.Queue.take.Goals as goal
 

@@ -2,15 +2,15 @@ use Rattle.std.proofs.Common.{◌≡◌, ℕ, Bool, ap, subst, ◌∙◌}
 use Rattle.dt_host.specs.Legal.{MadeAt}
 use Rattle.dt_memhost.specs.declared.number.TheConstants.{INODE_NUMBERS}
 use Rattle.dt_memhost.specs.Number.{Numbers, either_has}
-use Rattle.dt_memhost.specs.Script.{Script, fails_next, counted, picked, picked_word}
+use Rattle.dt_memhost.specs.Script.{Script, fails_next, counted, picked, coming_word}
 use Rattle.dt_memhost.specs.Host.{MakesNumber}
 use Rattle.dt_memhost.specs.inner.Forest.{Ordered, world_of}
 use Rattle.dt_memhost.proofs.Worlds.{host_of, unlisted, made_world, made_orders}
 use Rattle.dt_memhost.proofs.host.calls.MemHostHost.make.Goals as goal
 
 -- the number is the word's
-by_word : (live : ℕ → Bool) (script begun : Script) (word n : ℕ) → begun ≡ counted script → word ≡ picked_word begun → Numbers live INODE_NUMBERS word n → Numbers live INODE_NUMBERS (picked_word script) n
-by_word live script begun word n begins is chosen = subst (λ word. Numbers live INODE_NUMBERS word n) (is ∙ ap picked_word begins) chosen
+by_word : (live : ℕ → Bool) (script begun : Script) (word n : ℕ) → begun ≡ counted script → word ≡ coming_word begun → Numbers live INODE_NUMBERS word n → Numbers live INODE_NUMBERS (coming_word script) n
+by_word live script begun word n begins is chosen = subst (λ word. Numbers live INODE_NUMBERS word n) (is ∙ ap coming_word begins) chosen
 
 pub returns-clause-exact : goal.returns-clause-exact
 returns-clause-exact c =

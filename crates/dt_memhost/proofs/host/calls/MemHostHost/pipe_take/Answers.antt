@@ -2,7 +2,7 @@ use Rattle.std.proofs.Common.{◌≡◌, ℕ, List, ◌++◌, take, drop, Ok, ar
 use Rattle.dt_host.specs.World.{Pids, IsPipe, pipe_bytes, with_pipe}
 use Rattle.dt_host.specs.Legal.{TakesSome}
 use Rattle.dt_host.proofs.Pipes.{with_pipe-held}
-use Rattle.dt_memhost.specs.Script.{Script, fails_next, counted, picked_word}
+use Rattle.dt_memhost.specs.Script.{Script, fails_next, counted, coming_word}
 use Rattle.dt_memhost.specs.Host.{HostState, TakesCount, count_moved, script_moved, most_taken}
 use Rattle.dt_memhost.specs.inner.Forest.{Ordered, world_of}
 use Rattle.dt_memhost.proofs.Worlds.{host_of, unlisted}
@@ -13,7 +13,7 @@ module _ (o : Ordered) (pids : Pids) (n : ℕ) (buffer : List ℕ) (is : IsPipe 
   takes_none : (script begun : Script) → begun ≡ counted script → TakesCount (host_of o pids script) n buffer buffer (Ok 0) (host_of o pids begun)
   takes_none script begun begins =
       let w = world_of o pids in
-      let word = picked_word script in
+      let word = coming_word script in
       record {
         chosen = ap (λ most. Ok (count_moved word most)) (sym none);
         prefix = ap (λ most. take (count_moved word most) (pipe_bytes w n) ++ drop (count_moved word most) buffer) (sym none);

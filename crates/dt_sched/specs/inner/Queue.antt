@@ -1,4 +1,4 @@
--- The table of the processes.
+-- Inner words: no public clause cites these. The table of the processes.
 use Rattle.std.specs.Prelude.{ℕ, ◌≡◌, ◌+◌, ◌-◌, ◌≤◌, Bool, false, not, List, [], ◌∷◌, map, length, Option, Some, None, IsTrue, if◌then◌else◌}
 use Rattle.dt_sched.specs.declared.queue.TheConstants.{QUEUE_LIMIT}
 use Rattle.dt_sched.specs.declared.process.Process.{Process}

@@ -1,4 +1,4 @@
--- What of a list is stored: nothing where it alone is past the limit.
+-- Inner words: no public clause cites these. What of a list is stored: nothing where it alone is past the limit.
 use Rattle.std.specs.Prelude.{◌≡◌, ℕ, ◌<◌, List, Result, Ok, IsTrue}
 use Rattle.std.specs.List.{list_all}
 use Rattle.std.specs.Result.{IsOkAnd}
