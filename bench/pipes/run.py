@@ -35,7 +35,7 @@ def transfers(program, top):
         print(line + " a second")
         return
     theirs = rates([guests.QEMU, GUEST])
-    print(line + ", qemu-riscv64 %.0f (%.0f to %.0f) a second, ratio %.2f"
+    print(line + ", qemu-riscv64 %.0f (%.0f to %.0f) a second, ratio %.2f, at least 0.33 wanted"
           % (theirs[0], theirs[-1], theirs[0], ours[0] / theirs[0]))
 
 

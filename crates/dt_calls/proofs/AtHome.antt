@@ -4,6 +4,7 @@ use Rattle.std.specs.Prelude.{IsSome, IfSome, Result, Ok, Err, IfOk}
 use Rattle.std.specs.FinMap.{get, insert}
 use Rattle.dt_base.specs.declared.memory.NoMemory.{NoMemory}
 use Rattle.dt_host.specs.declared.error.HostErr.{HostErr}
+use Rattle.dt_host.proofs.Found.{none_there}
 use Rattle.dt_rv64.specs.declared.machine.Machine.{Machine}
 use Rattle.dt_rv64.specs.declared.segments.Seg.{Seg}
 use Rattle.dt_rv64.specs.Segment.{segment_of}
@@ -18,13 +19,9 @@ use Rattle.dt_calls.proofs.Homes.{home-there, home-place}
 pub some-there : (places : Places) (p : ℕ) (place : Option Machine) → get places p ≡ Some place → IsSome (get (home_of places) p) → IsSome place
 some-there places p place is home = subst (λ found. IsSome found) (home-there places p place is) home
 
-none-there : (found : Option (Option Machine)) → found ≡ None → IsSome found → ⊥
-none-there None is some = cc
-none-there (Some place) is some = cc
-
 -- and a machine at home has a place
 pub not-missing : (places : Places) (p : ℕ) → get places p ≡ None → IsSome (get (home_of places) p) → ⊥
-not-missing places p none home = none-there (get places p) none (home-place places p home)
+not-missing places p none home = none_there (get places p) none (home-place places p home)
 
 -- the machine that stands in a place becomes the one that stands there after it
 pub runs-at : (before after : Places) (p : ℕ) (place now : Option Machine) (seg : Seg) → get before p ≡ Some place → after ≡ insert before p now → IsSome place → IsSome now

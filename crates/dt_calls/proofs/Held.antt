@@ -24,7 +24,7 @@ use Rattle.dt_procs.proofs.Pairs.{AllPairs-head, AllPairs-tail}
 use Rattle.dt_procs.proofs.Standing.{Rises}
 use Rattle.dt_procs.specs.Table as procs
 use Rattle.dt_procs.specs.Table.{members_of}
-use Rattle.dt_scene.proofs.Kept.{sound_held, others_held, others_kept, backed_sound, piped_nodes}
+use Rattle.dt_scene.proofs.Kept.{sound_held, others_held, others_kept, piped_nodes}
 use Rattle.dt_scene.specs.declared.fs.Fs.{Fs}
 use Rattle.dt_scene.specs.Sound.{Sound, KeepsOthers, stage, scene}
 use Rattle.dt_space.specs.Space.{PageView}
@@ -105,10 +105,6 @@ module _ (c : Shared) (own : Process) (w : World) (sound : IsSoundHand (hand c o
         omega (arith, sound.holds n, one_for-swap own.caller.cwd n);
     piped = sound.piped;
   }
-
-  -- nothing changes
-  pub keeps-same : LeavesSound (hand c own w) (hand c own w) None
-  keeps-same = record { sound = sound; vpid = refl; parts = λ q there. there; next = refl; child = tt }
 
   module _ (fs : Fs) (new : Process) (v : World) (space pages : List PageView) (left : Sound (stage fs v new.caller pages)) (others : KeepsOthers (scene (stage c.fs w own.caller space)) (scene (stage fs v new.caller pages))) (rest : OnlyFiles w v) where
     abbrev moved : Shared
@@ -205,10 +201,6 @@ module _ (c : Shared) (own : Process) (w : World) (sound : IsSoundHand (hand c o
       (others_held (scene (stage c.fs w own.caller [])) (scene (stage fs v new.caller [])) (sym same) others)
       rest
 
-  -- the tree backs what is open
-  pub backed-sound : IsBacked (at c.fs.files c.fs.tree w)
-  backed-sound = backed_sound c.fs w own.caller [] (sound-scene c own w sound [])
-
 -- what is kept by one step and then by another
 pub keeps-then : (old mid new : Hand) (made : Option Machine) → LeavesSound old mid made → LeavesSound mid new None → LeavesSound old new made
 keeps-then old mid new made first then = record {
@@ -250,10 +242,6 @@ module _ (c : Shared) (own : Process) (w : World) (sound : IsSoundHand (hand c o
       by_found : (found : Option Process) → get present c.pids.next ≡ found → found ≡ None
       by_found None is = refl
       by_found (Some other) is = absurd (let below : c.pids.next < c.pids.next = sound.given c.pids.next (subst IsSome (sym is) refl) in omega arith)
-
-  -- the pid that is next has no descriptors
-  pub fresh-next : get c.fs.files.descriptors.tables c.pids.next ≡ None
-  fresh-next = sound.fresh c.pids.next (omega arith)
 
   module _ (new : Shared) (child : Process) (v : World) (parent : ℕ) (only : OnlyPids w v) (stands : Stands new.fs.tree v.forest) (tree : tree_of new.fs.tree v.forest ≡ held (tree_of c.fs.tree v.forest) own.caller.cwd) (nodes : KeepsNodes c.pids.next c.fs.files.descriptors new.fs.files.descriptors) (pipes : new.fs.files.pipes ≡ c.fs.files.pipes) (ends : new.fs.files.ends ≡ c.fs.files.ends) (pids : procs.Stands new.pids v.pids) (members : members_of new.pids ≡ with_child (members_of c.pids) c.pids.next parent) (next : new.pids.next ≡ c.pids.next + 1) (processes : new.processes ≡ insert c.processes c.pids.next child) (vpid : child.caller.vpid ≡ c.pids.next) (cwd : child.caller.cwd ≡ own.caller.cwd) (state : Sig) (states : new.signals ≡ insert c.signals c.pids.next state) where
     apart-next : c.pids.next ≢ own.caller.vpid
@@ -383,14 +371,6 @@ module _ (c : Shared) (own : Process) (w : World) (sound : IsSoundHand (hand c o
     keeps-reaped = record { sound = sound-reaped; vpid = refl; parts = λ q there. there; next = next; child = tt }
 
 module _ (defined : Effect) (c : Shared) (own : Process) (w : World) (machine : Machine) (e : EffectInCode) (count : ℕ) (sound : IsSoundHand (hand c own w)) (none : e.child ≡ None) where
-  -- a stop is served that changes nothing of what is shared or the process's own
-  pub serves-same : defined ≡ effect_as (shared_of c w) own machine e → Serves defined (hand c own w) (hand c own w) machine (Ok e) count count
-  serves-same served = record {
-    served = served;
-    kept = subst (LeavesSound (hand c own w) (hand c own w)) (sym none) (keeps-same c own w sound);
-    cause = record { later = omega arith; rose = λ failed. cc };
-  }
-
   -- one that changes the break
   pub serves-break : (new : Process) → new.caller ≡ own.caller → defined ≡ effect_as (shared_of c w) new machine e → Serves defined (hand c own w) (hand c new w) machine (Ok e) count count
   serves-break new same served = record {
@@ -398,19 +378,6 @@ module _ (defined : Effect) (c : Shared) (own : Process) (w : World) (machine : 
     kept = subst (LeavesSound (hand c own w) (hand c new w)) (sym none) (keeps-break c own w sound new same);
     cause = record { later = omega arith; rose = λ failed. cc };
   }
-
-  -- one that changes signal states
-  serves-states : (signals : Signals) → StillSignalled c.signals signals → defined ≡ effect_as (shared_of (record c { signals = signals }) w) own machine e → Serves defined (hand c own w) (hand (record c { signals = signals }) own w) machine (Ok e) count count
-  serves-states signals still served = record {
-    served = served;
-    kept = subst (LeavesSound (hand c own w) (hand (record c { signals = signals }) own w)) (sym none) (keeps-signals c own w sound signals still);
-    cause = record { later = omega arith; rose = λ failed. cc };
-  }
-
-  pub serves-signals : (new : Shared) → new ≡ record c { signals = new.signals } → StillSignalled c.signals new.signals → defined ≡ effect_as (shared_of new w) own machine e → Serves defined (hand c own w) (hand new own w) machine (Ok e) count count
-  serves-signals new rest still served =
-      subst (λ (s : Shared). Serves defined (hand c own w) (hand s own w) machine (Ok e) count count) (sym rest)
-      (serves-states new.signals still (subst (λ (s : Shared). defined ≡ effect_as (shared_of s w) own machine e) rest served))
 
   -- one that takes time
   serves-clock : (clock : ℕ) → defined ≡ effect_as (shared_of (record c { fs = record c.fs { clock = clock } }) w) own machine e → Serves defined (hand c own w) (hand (record c { fs = record c.fs { clock = clock } }) own w) machine (Ok e) count count

@@ -7,6 +7,7 @@ use Rattle.std.specs.FinMap.{FinMap, get, insert, remove, empty, keys, get-empty
 use Rattle.dt_base.specs.declared.event.Event.{Event}
 use Rattle.dt_base.specs.declared.event.End.{End}
 use Rattle.dt_host.specs.World.{World}
+use Rattle.dt_host.proofs.Found.{none_there}
 use Rattle.dt_host.proofs.Maps.{at_insert, at_remove, get-insert_same, put_back}
 use Rattle.dt_procs.specs.declared.member.TheConstants.{FIRST_PID, PROCESS_LIMIT}
 use Rattle.dt_rv64.specs.declared.machine.Machine.{Machine}
@@ -81,11 +82,7 @@ module _ (processes : Processes) where
   paired-entered places next (Some m) paired here = paired-insert places next (Some m) paired here
 
   pub paired-empty : Paired empty
-  paired-empty q some = let none = get-empty {X = Option Machine} nat_cmp q in absurd (no (get empty q) none some)
-    where
-      no : (found : Option (Option Machine)) → found ≡ None → IsSome found → ⊥
-      no None e some = cc
-      no (Some place) e some = cc
+  paired-empty q some = let none = get-empty {X = Option Machine} nat_cmp q in absurd (none_there (get empty q) none some)
 
 -- of processes of which one goes
 pub paired-remove : (old new : Processes) (places : Places) (p : ℕ) → ((q : ℕ) → IsSome (get places q) → IsSome (get old q)) → ((q : ℕ) → q ≢ p → IsSome (get old q) → IsSome (get new q)) → (q : ℕ) → IsSome (get (remove places p) q) → IsSome (get new q)

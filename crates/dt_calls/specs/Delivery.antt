@@ -10,7 +10,7 @@ use Rattle.dt_signals.specs.declared.delivery.Delivery.TheVariants as delivery
 use Rattle.dt_signals.specs.declared.signals.Sig.{Sig}
 use Rattle.dt_signals.specs.Delivery.{Delivered, delivered}
 use Rattle.dt_calls.specs.declared.call.effect.Outcome.{Outcome}
-use Rattle.dt_calls.specs.declared.call.effect.Outcome.TheVariants.{Done, Blocked, Moved, Ends, Unsupported}
+use Rattle.dt_calls.specs.declared.call.effect.Outcome.TheVariants.{Done, Blocked, Progress, Ends, Unsupported}
 use Rattle.dt_calls.specs.declared.shared.Process.{Process}
 use Rattle.dt_calls.specs.Container.{signals_at, with_signals}
 use Rattle.dt_calls.specs.Effect.{Effect}
@@ -50,7 +50,7 @@ with_delivered s d = with_delivery s d.signals d.machine d.delivery
 abbrev pub delivered_by : Option ℕ → Standing → Outcome → Standing
 delivered_by forced s Done = with_delivered s (delivered forced Plain s.signals s.machine)
 delivered_by forced s Blocked = with_delivered s (delivered forced (Waits s.own.caller.done) s.signals s.machine)
-delivered_by forced s Moved = with_delivered s (delivered forced (Waits s.own.caller.done) s.signals s.machine)
+delivered_by forced s Progress = with_delivered s (delivered forced (Waits s.own.caller.done) s.signals s.machine)
 delivered_by forced s (Ends end) = s
 delivered_by forced s (Unsupported number) = s
 

@@ -11,7 +11,7 @@ use Rattle.dt_rv64.specs.Effects.{answered, counter_read}
 use Rattle.dt_virt.specs.declared.clock.TheConstants.{READING_TICKS}
 use Rattle.dt_virt.specs.Clock.{later}
 use Rattle.dt_calls.specs.declared.call.effect.Outcome.{Outcome}
-use Rattle.dt_calls.specs.declared.call.effect.Outcome.TheVariants.{Done, Blocked, Moved, Unsupported}
+use Rattle.dt_calls.specs.declared.call.effect.Outcome.TheVariants.{Done, Blocked, Progress, Unsupported}
 use Rattle.dt_calls.specs.declared.shared.Process.{Process}
 use Rattle.dt_calls.specs.Container.{Shared}
 
@@ -53,7 +53,7 @@ effect_of_answer c own m number (answer.Value value) = done c own m value
 effect_of_answer c own m number (answer.Refused errno) = refused c own m errno
 effect_of_answer c own m number (answer.Output stream bytes) = puts_out c own m stream bytes
 effect_of_answer c own m number answer.Waits = quiet c own m Blocked
-effect_of_answer c own m number (answer.Part moved) = quiet c own m Moved
+effect_of_answer c own m number (answer.Part moved) = quiet c own m Progress
 effect_of_answer c own m number (answer.Pipe value) = effect_of_broken c own m value
 effect_of_answer c own m number answer.Unsupported = quiet c own m (Unsupported number)
 

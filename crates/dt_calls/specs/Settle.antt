@@ -16,7 +16,7 @@ use Rattle.dt_calls.specs.declared.call.effect.Outcome.{Outcome}
 use Rattle.dt_calls.specs.declared.call.effect.Outcome.TheVariants as outcome
 use Rattle.dt_calls.specs.declared.container.Served.{Served}
 use Rattle.dt_calls.specs.declared.shared.Process.{Process}
-use Rattle.dt_calls.specs.declared.container.Served.TheVariants.{Done, Child, LastChild, Blocked, Moved, Ended, Unsupported}
+use Rattle.dt_calls.specs.declared.container.Served.TheVariants.{Done, Child, LastChild, Blocked, Progress, Ended, Unsupported}
 use Rattle.dt_base.specs.declared.abi.TheConstants.{SIGKILL, SIGCHLD}
 use Rattle.dt_calls.specs.Container.{Shared, Container, Machines, Signals, process_at, with_process, raised_at}
 use Rattle.dt_calls.specs.Effect.{Effect}
@@ -96,12 +96,12 @@ settled_by next p r outcome.Blocked = record {
   events = r.events;
   served = Blocked;
 }
-settled_by next p r outcome.Moved = record {
+settled_by next p r outcome.Progress = record {
   shared = with_process r.shared r.own;
   own = Some r.machine;
   child = r.child;
   events = r.events;
-  served = Moved;
+  served = Progress;
 }
 settled_by next p r (outcome.Ends end) = let c = with_process r.shared r.own in record {
   shared = ends p end c;
@@ -138,7 +138,7 @@ all_ended p Done = false
 all_ended p (Child v) = false
 all_ended p (LastChild v) = p == FIRST_PID
 all_ended p Blocked = false
-all_ended p Moved = false
+all_ended p Progress = false
 all_ended p Ended = p == FIRST_PID
 all_ended p (Unsupported number) = false
 

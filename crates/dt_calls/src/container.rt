@@ -48,7 +48,7 @@ pub enum Served {
     /// Its call waits, and is tried again in its next turn.
     Blocked,
     /// Its call has moved some bytes, and goes on in its next turn.
-    Moved,
+    Progress,
     /// It has ended.
     Ended,
     /// It stays at its stop: its call, by its number, isn't supported.

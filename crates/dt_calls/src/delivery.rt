@@ -52,7 +52,7 @@ fn deliver_to(
 {
     let call = match *outcome {
         Outcome::Done => CallState::Plain,
-        Outcome::Blocked | Outcome::Moved => CallState::Waits(own.caller.done),
+        Outcome::Blocked | Outcome::Progress => CallState::Waits(own.caller.done),
         Outcome::Ends(_) | Outcome::Unsupported(_) => return,
     };
     match deliver(machine, sig, forced, call) {

@@ -85,10 +85,10 @@ impl Container {
                 self.counted();
                 Ok(Served::Blocked)
             }
-            Outcome::Moved => {
+            Outcome::Progress => {
                 self.enter(next, effect.child)?;
                 self.counted();
-                Ok(Served::Moved)
+                Ok(Served::Progress)
             }
             Outcome::Unsupported(number) => {
                 self.enter(next, effect.child)?;

@@ -127,8 +127,3 @@ pub args-too_big : (args env : Result (List (List ℕ)) Errno) → IsTooBig args
 args-too_big (Err errno) env big ok = absurd big
 args-too_big (Ok words) (Err errno) big ok = cc
 args-too_big (Ok words) (Ok env) big ok = too_many (one_at_least words) env (omega (arith, big, size-one_at_least words))
-
-pub env-too_big : (args env : Result (List (List ℕ)) Errno) → IsOk args → IsTooBig env → Err TooBig ≡ command_of args env
-env-too_big (Err errno) env ok big = cc
-env-too_big (Ok words) (Err errno) ok big = absurd big
-env-too_big (Ok words) (Ok env) ok big = too_many (one_at_least words) env (omega (arith, big))

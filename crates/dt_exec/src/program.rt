@@ -191,19 +191,14 @@ fn file_by_path<H: Host>(
 {
     let _before = host.faults();
     match lookup(alloc, host, tree, cwd, path)? {
-        Ok(Some(inode)) => file_of(alloc, host, tree, inode),
+        Ok(Some(inode)) => file_of(host, tree, inode),
         Ok(None) => Ok(Err(Errno::NoEnt)),
         Err(errno) => Ok(Err(errno)),
     }
 }
 
 // The bytes of a node that is a file.
-fn file_of<H: Host>(
-    alloc: Global,
-    host: &mut H,
-    tree: &Tree,
-    inode: u64,
-) -> Result<Result<Blob, Errno>, HostErr>
+fn file_of<H: Host>(host: &mut H, tree: &Tree, inode: u64) -> Result<Result<Blob, Errno>, HostErr>
     requires stands { Stands tree.now (H.view host.old).forest }
     requires live { IsLive (shape_of tree.now (H.view host.old).forest) inode }
     ensures ok { IfOk result (λ file. file
@@ -213,7 +208,7 @@ fn file_of<H: Host>(
     if tree.is_dir(inode) || tree.is_link(inode) {
         return Ok(Err(Errno::Acces));
     }
-    Ok(Ok(Blob::new(tree.read_file(alloc, host, inode)?)))
+    Ok(Ok(Blob::new(tree.read_file(host, inode)?)))
 }
 
 // The program of an executable's bytes.

@@ -1,5 +1,5 @@
 -- How much a write to a pipe moves, and that there is room for it.
-use Rattle.std.proofs.Common.{arith, ◌≡◌, ℕ, ◌+◌, ◌≤◌, Bool, true, false, [], length, Option, None, Some, refl, sym, ap, ◌∙◌}
+use Rattle.std.proofs.Common.{arith, ◌≡◌, ℕ, ◌+◌, ◌≤◌, Bool, true, false, List, [], length, take, drop, Option, None, Some, refl, sym, ap, ◌∙◌}
 use Rattle.std.proofs.lemmas.Bool.Decides.{nat_tests}
 use Rattle.std.specs.Prelude.{IfSome, IsSome, not, unwrap_or, option_map, if◌then◌else◌}
 use Rattle.std.specs.FinMap.{get}
@@ -50,6 +50,10 @@ goes-left count whole done within = grind (arith, nat_tests)
 
 pub goes-room : (count whole done : ℕ) → count ≤ PIPE_LIMIT → count + goes count whole done ≤ PIPE_LIMIT
 goes-room count whole done within = grind (arith, nat_tests)
+
+-- the piece that is cut off for it
+pub piece-cut : (done moved : ℕ) (bytes rest piece : List ℕ) → rest ≡ drop done bytes → piece ≡ take moved rest → length piece ≡ moved → take (length piece) (drop done bytes) ≡ piece
+piece-cut done moved bytes rest piece back front size = ap (λ n. take n (drop done bytes)) size ∙ sym (front ∙ ap (take moved) back)
 
 -- how much it moves, by what was looked up
 goes-found : (f : Descriptions) (m : PipesView) (whole count : ℕ) (found : Option Desc) (q : ℕ) (nonblock : Bool) → end_by write_pipe found ≡ Some (q, nonblock) → goes_by f m whole count found ≡ goes_to f m whole count (Some q)

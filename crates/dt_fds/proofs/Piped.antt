@@ -43,6 +43,10 @@ module _ (f : Files) (t : pipes.Table) (w v : World) (table : Table) (backed : I
       subst (λ (u : FileTree). KeepsOthers p (holding_at (at f table w)) (over u (pipes_at (with_pipes f t) v.pipes) f.descriptors)) (ap (tree_of table) (sym rest.forest))
       (others-kept p f.descriptors f.descriptors (tree_of table w.forest) (KeepsNodes-same p f.descriptors))
 
+  pub does-piped : {A : Type 0} (result : Result A CallErr) (defined : Outcome A) → Does result (over (tree_of table w.forest) (pipes_at (with_pipes f t) v.pipes) f.descriptors) defined
+      → Does result (holding_at (at (with_pipes f t) table v)) defined
+  does-piped result defined = subst (λ forest. Does result (over (tree_of table forest) (pipes_at (with_pipes f t) v.pipes) f.descriptors) defined) (sym rest.forest)
+
 -- what is said of no answer in particular
 pub if_ok : {A E P : Type 0} (r : Result A E) → P → IfOk r (λ _. P)
 if_ok (Ok value) p = p

@@ -1,11 +1,12 @@
 // Pipes: their making, and what is read from them and written to them.
 ghost use Rattle.std.specs.Prelude.{◌≡◌, ◌+◌, ◌<◌, ◌≤◌, ◌++◌, ℕ, List, None, Err, IfOk};
-ghost use Rattle.std.specs.Prelude.{IfSome, IsErrOf, IsSome, drop, length, take};
+ghost use Rattle.std.specs.Prelude.{IfSome, IsErrOf, IsSome, OnOk, drop, length, take};
 ghost use Rattle.std.specs.FinMap.{get};
 ghost use Rattle.dt_base.specs.declared.errno.Errno.{Errno};
 ghost use Rattle.dt_host.specs.Cause.{HasCause};
 ghost use Rattle.dt_host.specs.declared.error.CallErr.TheVariants.{Errno as is_refused};
 ghost use Rattle.dt_host.specs.declared.error.HostErr.TheVariants.{Failed};
+ghost use Rattle.dt_tree.specs.FileTree.{FileTree};
 ghost use Rattle.dt_tree.specs.Table.{Table};
 ghost use Rattle.dt_pipes.specs.Changes.{OnlyPipes};
 ghost use Rattle.dt_pipes.specs.declared.pipe.TheConstants.{PIPE_NUMBER_LIMIT};
@@ -16,8 +17,8 @@ ghost use Rattle.dt_fds.specs.Ends.{is_read, is_written, one_if};
 ghost use Rattle.dt_fds.specs.OpenFiles.{pipes_at};
 ghost use Rattle.dt_fds.specs.Pipes.{none_held, goes, write_flow, pipe_at, held_at};
 ghost use Rattle.dt_fds.specs.Holding.{pipe_call, pipe_read_call, pipe_write_call, bytes_read, with_pipe_opened};
-ghost use Rattle.dt_fds.specs.Holding.{pipe_moves, read_end, write_end};
-ghost use Rattle.dt_fds.specs.Backs.{HasEnds, HasFailed, IsBacked, IsPiped, Leaves, MakesCall, at, holding_at};
+ghost use Rattle.dt_fds.specs.Holding.{over, pipe_moves, read_end, write_end};
+ghost use Rattle.dt_fds.specs.Backs.{Does, HasEnds, HasFailed, IsBacked, IsPiped, Leaves, MakesCall, at, holding_at};
 ghost use Rattle.dt_fds.specs.inner.Ends.{end_by, as_call};
 
 use crate::desc::{DESCRIPTOR_LIMIT, Desc, DescKind, Spot};
@@ -43,6 +44,10 @@ impl Files {
         ensures makes { (table : Table) → IsBacked (at self.old table (H.view host.old))
             → MakesCall pid (pipe_call pid flags) (at self.old table (H.view host.old))
             (at self.new table (H.view host.new)) result (H.count host.old) (H.count host.new) }
+        ensures call { (t : FileTree)
+            → Does result (over t (pipes_at self.new (H.view host.new).pipes) self.new.descriptors)
+            (pipe_call pid flags
+            (over t (pipes_at self.old (H.view host.old).pipes) self.old.descriptors)) }
         ensures only { OnlyPipes (H.view host.old) (H.view host.new) }
         ensures cause { HasCause (H.count host.old) (H.count host.new) (HasFailed result) }
     {
@@ -95,6 +100,11 @@ impl Files {
             → Leaves pid (with_pipe_opened (holding_at (at self.old table (H.view host.old))) pid flags read write)
             (at self.old table (H.view host.old)) (at self.new table (H.view host.new)) result
             (H.count host.old) (H.count host.new) }
+        ensures opened { (t : FileTree) → OnOk result
+            (over t (pipes_at self.new (H.view host.new).pipes) self.new.descriptors
+            ≡ with_pipe_opened
+            (over t (pipes_at self.old (H.view host.old).pipes) self.old.descriptors)
+            pid flags read write) }
         ensures only { OnlyPipes (H.view host.old) (H.view host.new) }
         ensures cause { HasCause (H.count host.old) (H.count host.new) (IsErrOf result Failed) }
     {
@@ -127,6 +137,10 @@ impl Files {
         ensures makes { (table : Table) → IsBacked (at self.old table (H.view host.old))
             → MakesCall pid (pipe_read_call pid fd (length buf.old)) (at self.old table (H.view host.old))
             (at self.new table (H.view host.new)) result (H.count host.old) (H.count host.new) }
+        ensures call { (t : FileTree)
+            → Does result (over t (pipes_at self.new (H.view host.new).pipes) self.new.descriptors)
+            (pipe_read_call pid fd (length buf.old)
+            (over t (pipes_at self.old (H.view host.old).pipes) self.old.descriptors)) }
         ensures bytes { (table : Table) → IfOk result (λ _.
             let came = bytes_read pid fd (length buf.old) (holding_at (at self.old table (H.view host.old))) in
             buf.new ≡ came ++ drop (length came) buf.old) }
@@ -162,6 +176,10 @@ impl Files {
         ensures makes { (table : Table) → IsBacked (at self.old table (H.view host.old))
             → MakesCall pid (pipe_write_call pid fd bytes.now done) (at self.old table (H.view host.old))
             (at self.new table (H.view host.new)) result (H.count host.old) (H.count host.new) }
+        ensures call { (t : FileTree)
+            → Does result (over t (pipes_at self.new (H.view host.new).pipes) self.new.descriptors)
+            (pipe_write_call pid fd bytes.now done
+            (over t (pipes_at self.old (H.view host.old).pipes) self.old.descriptors)) }
         ensures only { OnlyPipes (H.view host.old) (H.view host.new) }
         ensures cause { HasCause (H.count host.old) (H.count host.new) (HasFailed result) }
     {
@@ -212,6 +230,11 @@ impl Files {
             → length bytes ≡ whole → take (length piece.now) (drop done bytes) ≡ piece.now
             → MakesCall pid (pipe_write_call pid fd bytes done) (at self.old table (H.view host.old))
             (at self.new table (H.view host.new)) result (H.count host.old) (H.count host.new) }
+        ensures call { (t : FileTree) (bytes : List ℕ) → length bytes ≡ whole
+            → take (length piece.now) (drop done bytes) ≡ piece.now
+            → Does result (over t (pipes_at self.new (H.view host.new).pipes) self.new.descriptors)
+            (pipe_write_call pid fd bytes done
+            (over t (pipes_at self.old (H.view host.old).pipes) self.old.descriptors)) }
         ensures only { OnlyPipes (H.view host.old) (H.view host.new) }
         ensures cause { HasCause (H.count host.old) (H.count host.new) (HasFailed result) }
     {

@@ -1,11 +1,12 @@
 -- A forest whose numbers have 64 bits, and what keeps it so.
-use Rattle.std.proofs.Common.{arith, ◌≡◌, ℕ, ◌+◌, ◌^◌, ◌<◌, ◌≤◌, List, [], ◌++◌, length, take, drop, Option, Some, None, sym, subst, length-append, length-drop}
+use Rattle.std.proofs.Common.{arith, ℕ, ◌+◌, ◌^◌, ◌<◌, ◌≤◌, List, [], ◌++◌, length, take, drop, sym, subst, length-append, length-drop}
 use Rattle.std.specs.Prelude.{IsSome, option_and_then, unwrap_or}
 use Rattle.std.proofs.lemmas.List.{length-take, length-take-le}
 use Rattle.std.specs.Cmp.{nat_cmp_total}
 use Rattle.std.specs.FinMap.{empty, get-empty, nat_cmp-IsAntisymmetric}
 use Rattle.std.specs.Ordering.{nat_cmp}
 use Rattle.dt_host.specs.World.{Forest, Node, dir, file_bytes, content, with_node, without_node, with_entry, without_entry, with_bytes, empty_forest, IsDir, IsFile, IsSized}
+use Rattle.dt_host.proofs.Found.{none_there}
 use Rattle.dt_host.proofs.Maps.{at_insert, at_remove}
 use Rattle.dt_host.proofs.Spots.{at_node, IsLive-IsDir, IsLive-IsFile}
 use Rattle.dt_base.specs.Bytes.{overwritten, padded, resized}
@@ -56,11 +57,7 @@ short_resized old len fits = omega (arith, length-take len (padded old len))
 pub IsSized-empty_forest : (root : ℕ) → root < 2 ^ 64 → IsSized (empty_forest root)
 unfolding content
 IsSized-empty_forest root small = record {
-  numbers = λ q. at_insert nat_cmp_total nat_cmp-IsAntisymmetric (λ found. IsSome found → q < 2 ^ 64) empty root (dir empty) q (λ is _. subst (λ x. x < 2 ^ 64) (sym is) small) (λ _ live. absurd (none_live _ (get-empty nat_cmp q) live));
+  numbers = λ q. at_insert nat_cmp_total nat_cmp-IsAntisymmetric (λ found. IsSome found → q < 2 ^ 64) empty root (dir empty) q (λ is _. subst (λ x. x < 2 ^ 64) (sym is) small) (λ _ live. absurd (none_there _ (get-empty nat_cmp q) live));
   root = small;
   files = λ q. at_insert nat_cmp_total nat_cmp-IsAntisymmetric (λ found. length (unwrap_or (option_and_then file_bytes found) []) < 2 ^ 64) empty root (dir empty) q (λ _. omega arith) (λ _. subst (λ found. length (unwrap_or (option_and_then file_bytes found) []) < 2 ^ 64) (sym (get-empty nat_cmp q)) (omega arith));
 }
-  where
-    none_live : (found : Option Node) → found ≡ None → IsSome found → ⊥
-    none_live None e live = cc
-    none_live (Some node) e live = cc

@@ -1,5 +1,5 @@
 -- What stands under a name of a directory after a change of a forest.
-use Rattle.std.proofs.Common.{◌≡◌, ◌≢◌, ℕ, ◌+◌, cond, true, List, Option, Some, None, inl, inr, refl, sym, ap, subst, ◌∙◌}
+use Rattle.std.proofs.Common.{◌≡◌, ◌≢◌, ℕ, ◌+◌, cond, List, Option, Some, None, inl, inr, refl, sym, ap, subst, ◌∙◌}
 use Rattle.std.proofs.lemmas.Bool.{cases_eq}
 use Rattle.std.specs.Prelude.{IsSome, is_some, unwrap_or, option_and_then}
 use Rattle.std.specs.Cmp.{nat_cmp_total}
@@ -7,6 +7,7 @@ use Rattle.std.specs.Cmp.Lexicographic.{slice_cmp, nat_list_cmp_total}
 use Rattle.std.specs.Ordering.{nat_cmp}
 use Rattle.std.specs.FinMap.{empty, len, len-insert, get, insert, get-empty, nat_cmp-IsAntisymmetric}
 use Rattle.dt_host.specs.World.{Forest, Node, file, dir, link, node_at, file_bytes, dir_names, names_at, entry, with_node, with_entry, IsDir, IsFile, IsLive}
+use Rattle.dt_host.proofs.Found.{none_within, not_both, some_true}
 use Rattle.dt_host.proofs.Maps.{at_insert, names_tie}
 use Rattle.dt_host.proofs.Worlds.{node_at-with_node, node_at-with_node_other}
 use Rattle.dt_host.proofs.Changes.{entry_alike}
@@ -16,14 +17,11 @@ pub IsDir-entry : (v : Forest) (d : ℕ) (name : List ℕ) (n : ℕ) → entry v
 unfolding entry names_at
 IsDir-entry v d name n e = by_node (node_at v d) e
   where
-    none_there : (found : Option ℕ) → found ≡ None → found ≡ Some n → ⊥
-    none_there found a b = cc
-
     by_node : (found : Option Node) → get (unwrap_or (option_and_then dir_names found) empty) name ≡ Some n → IsSome (option_and_then dir_names found)
-    by_node None h = absurd (none_there _ (get-empty (slice_cmp nat_cmp) name) h)
-    by_node (Some (file bytes)) h = absurd (none_there _ (get-empty (slice_cmp nat_cmp) name) h)
+    by_node None h = absurd (not_both _ n (get-empty (slice_cmp nat_cmp) name) h)
+    by_node (Some (file bytes)) h = absurd (not_both _ n (get-empty (slice_cmp nat_cmp) name) h)
     by_node (Some (dir names)) h = refl
-    by_node (Some (link target)) h = absurd (none_there _ (get-empty (slice_cmp nat_cmp) name) h)
+    by_node (Some (link target)) h = absurd (not_both _ n (get-empty (slice_cmp nat_cmp) name) h)
 
 -- a directory and a file are live
 pub IsLive-IsDir : (v : Forest) (d : ℕ) → IsDir v d → IsLive v d
@@ -90,21 +88,13 @@ module _ (v : Forest) (n : ℕ) (node : Node) (free : node_at v n ≡ None) (non
   ]
 
   pub IsDir-with_new : (q : ℕ) → IsDir v q → IsDir (with_node v n node) q
-  IsDir-with_new q h = at_node v n node (λ found. IsSome (option_and_then dir_names found)) q (λ same. absurd (gone (node_at v q) h (ap (node_at v) same ∙ free))) (λ _. h)
-    where
-      gone : (found : Option Node) → IsSome (option_and_then dir_names found) → found ≡ None → ⊥
-      gone None a b = cc
-      gone (Some x) a b = cc
+  IsDir-with_new q h = at_node v n node (λ found. IsSome (option_and_then dir_names found)) q (λ same. absurd (none_within dir_names (node_at v q) (ap (node_at v) same ∙ free) h)) (λ _. h)
 
   pub IsDir-from_with_new : (q : ℕ) → q ≢ n → IsDir (with_node v n node) q → IsDir v q
   IsDir-from_with_new q apart = at_node v n node (λ found. IsSome (option_and_then dir_names found) → IsDir v q) q (λ same _. absurd (apart same)) (λ _ h. h)
 
   pub IsFile-with_new : (q : ℕ) → IsFile v q → IsFile (with_node v n node) q
-  IsFile-with_new q h = at_node v n node (λ found. IsSome (option_and_then file_bytes found)) q (λ same. absurd (gone (node_at v q) h (ap (node_at v) same ∙ free))) (λ _. h)
-    where
-      gone : (found : Option Node) → IsSome (option_and_then file_bytes found) → found ≡ None → ⊥
-      gone None a b = cc
-      gone (Some x) a b = cc
+  IsFile-with_new q h = at_node v n node (λ found. IsSome (option_and_then file_bytes found)) q (λ same. absurd (none_within file_bytes (node_at v q) (ap (node_at v) same ∙ free) h)) (λ _. h)
 
   pub IsLive-with_new : (q : ℕ) → IsLive v q → IsLive (with_node v n node) q
   IsLive-with_new q h = at_node v n node (λ found. IsSome found) q (λ _. refl) (λ _. h)
@@ -113,10 +103,6 @@ module _ (v : Forest) (n : ℕ) (node : Node) (free : node_at v n ≡ None) (non
 module _ (v : Forest) (d : ℕ) (node : Node) (live : IsLive v d) where
   pub is_some-with_node : (q : ℕ) → is_some (node_at (with_node v d node) q) ≡ is_some (node_at v q)
   is_some-with_node q = at_node v d node (λ found. is_some found ≡ is_some (node_at v q)) q (λ same. sym (ap (λ x. is_some (node_at v x)) same ∙ some_true (node_at v d) live)) (λ _. refl)
-    where
-      some_true : (found : Option Node) → IsSome found → is_some found ≡ true
-      some_true None h = cc
-      some_true (Some x) h = refl
 
   pub len-with_node : len (with_node v d node).nodes ≡ len v.nodes
   len-with_node = len-insert nat_cmp_total v.nodes d node ∙ by_found (node_at v d) live

@@ -33,7 +33,7 @@ after_dots name good =
     ap (λ r. nat_lt 1 r || ((1 == r) && is_lt (slice_cmp nat_cmp (codes "..") name))) last
 
 -- the names of a tree's directory are good
-names_good : (t : FileTree) (d : ℕ) → IsTree t → (name : List ℕ) → IsSome (get (names_at t.shape d) name) → is_entry_name name ≡ true
+pub names_good : (t : FileTree) (d : ℕ) → IsTree t → (name : List ℕ) → IsSome (get (names_at t.shape d) name) → is_entry_name name ≡ true
 unfolding names_at
 names_good t d s name there = by_node (node_at t.shape d) (get t.attributes d) refl refl there
   where
@@ -123,23 +123,25 @@ module _ (v : Forest) where
       All-cons (IsPlaced v) ([], v.root) [] (ap (λ b. not b && (names_of v v.root == 0)) same) (All-nil (IsPlaced v))
   placed_level (suc depth) = all_placed (flat_map (below v) (level v depth)) (named_all (level v depth))
 
-  -- the nodes of a map of paths have names
-  abbrev AreNamed : Names → Type 0
-  AreNamed paths = (path : List ℕ) (n : ℕ) → get paths path ≡ Some n → 1 ≤ names_of v n
+  -- what holds of the paths of each level holds of those of a map
+  module _ (P : List ℕ × ℕ → Type 0) where
+    of_fold : (paths : Names) (ats : List (List ℕ × ℕ)) → ((path : List ℕ) (n : ℕ) → get paths path ≡ Some n → P (path, n)) → All P ats → (path : List ℕ) (n : ℕ) → get (fold with_path paths ats) path ≡ Some n → P (path, n)
+    of_fold paths [] before h = before
+    of_fold paths (at ∷ ats) before h =
+        of_fold (insert paths at.0 at.1) ats
+        (λ path n. at_insert nat_list_cmp_total names_tie (λ found. found ≡ Some n → P (path, n)) paths at.0 at.1 path
+        (λ is e. let same : at.1 ≡ n = cc in subst P (λ i. (sym is i, same i)) (All-head P at ats h))
+        (λ apart. before path n))
+        (All-tail P at ats h)
 
-  named_fold : (paths : Names) (ats : List (List ℕ × ℕ)) → AreNamed paths → All (IsNamed v) ats → AreNamed (fold with_path paths ats)
-  named_fold paths [] before h = before
-  named_fold paths (at ∷ ats) before h =
-      named_fold (insert paths at.0 at.1) ats
-      (λ path n. at_insert nat_list_cmp_total names_tie (λ found. found ≡ Some n → 1 ≤ names_of v n) paths at.0 at.1 path
-      (λ is e. let same : at.1 ≡ n = cc in subst (λ n. 1 ≤ names_of v n) same (All-head (IsNamed v) at ats h))
-      (λ apart. before path n))
-      (All-tail (IsNamed v) at ats h)
+    pub of_paths : ((depth : ℕ) → All P (level v (suc depth))) → (depth : ℕ) (path : List ℕ) (n : ℕ) → get (paths_to v depth) path ≡ Some n → P (path, n)
+    unfolding paths_to
+    of_paths all zero path n e = let none = get-empty {X = ℕ} (slice_cmp nat_cmp) path in absurd (cc)
+    of_paths all (suc depth) path n e = of_fold (paths_to v depth) (level v (suc depth)) (of_paths all depth) (all depth) path n e
 
-  named_paths : (depth : ℕ) → AreNamed (paths_to v depth)
-  unfolding level paths_to
-  named_paths zero path n e = let none = get-empty {X = ℕ} (slice_cmp nat_cmp) path in absurd (cc)
-  named_paths (suc depth) path n e = named_fold (paths_to v depth) (flat_map (below v) (level v depth)) (named_paths depth) (named_all (level v depth)) path n e
+  named_level : (depth : ℕ) → All (IsNamed v) (level v (suc depth))
+  unfolding level
+  named_level depth = named_all (level v depth)
 
   pub level_next : (depth : ℕ) → level v (depth + 1) ≡ flat_map (below v) (level v depth)
   unfolding level
@@ -156,7 +158,7 @@ module _ (v : Forest) where
     where
       by_list : (es : List (List ℕ × ℕ)) → AllByRecursion (λ (e : List ℕ × ℕ). get (paths_to v 4096) e.0 ≡ Some e.1) es → All (λ at. IsLive v at.1) es
       by_list [] h = All-nil (λ at. IsLive v at.1)
-      by_list (e ∷ es) h = All-cons (λ (at : List ℕ × ℕ). IsLive v at.1) e es (s.named e.1 (named_paths 4096 e.0 e.1 h.0)) (by_list es h.1)
+      by_list (e ∷ es) h = All-cons (λ (at : List ℕ × ℕ). IsLive v at.1) e es (s.named e.1 (of_paths (IsNamed v) named_level 4096 e.0 e.1 h.0)) (by_list es h.1)
 
 -- a fact of each after a change, as one of each before it
 pub unmap : {X Y : Type 0} (P : Y → Type 0) (f : X → Y) (xs : List X) → All P (map f xs) → All (λ x. P (f x)) xs

@@ -7,5 +7,6 @@ pub mod Indexed
 pub mod Images
 pub mod Escapes
 pub mod Children
+pub mod Leading
 pub mod Ordered
 pub mod Shown

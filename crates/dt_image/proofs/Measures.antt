@@ -1,11 +1,11 @@
 -- Sizes of blobs, and what they say of an image.
-use Rattle.std.proofs.Common.{◌≡◌, ℕ, ◌<◌, ◌≤◌, Bool, true, false, not, cond, ◌&&◌, nat_le, List, [], ◌∷◌, length, map, get_or, Option, Some, None, Result, Ok, Err, IsTrue, refl, sym, ap, subst, ◌∙◌}
+use Rattle.std.proofs.Common.{◌≡◌, ℕ, ◌<◌, Bool, true, false, not, cond, ◌&&◌, nat_le, List, [], ◌∷◌, length, map, get_or, Option, Some, None, Result, Ok, Err, IsTrue, refl, sym, ap, subst, ◌∙◌}
 use Rattle.std.specs.Prelude.{IfSome, is_some, unwrap_or, option_map}
 use Rattle.std.specs.List.{list_all, All}
 use Rattle.std.proofs.lemmas.List.Elements.{All-nil, All-cons, All-head, All-tail}
 use Rattle.std.proofs.lemmas.List.Folds.{list_all-map, list_all_at}
 use Rattle.std.proofs.lemmas.List.{length-map}
-use Rattle.std.proofs.lemmas.Bool.{leb-true, and_parts}
+use Rattle.std.proofs.lemmas.Bool.{and_parts}
 use Rattle.dt_base.specs.declared.image.Entry.{Entry}
 use Rattle.dt_base.specs.declared.refusal.Refusal.{Refusal}
 use Rattle.dt_base.specs.declared.refusal.Refusal.TheVariants.{NoBlob, TooBig, TooMany}
@@ -130,11 +130,6 @@ told_with_blobs (Some held) now folder blobs read order image entries same sizes
     ∙ ap (λ b. chosen held folder true b (nat_le (length blobs) ENTRY_LIMIT) (map (λ blob. entry_with held folder (entry_in blob.entry)) blobs)) small
     ∙ ap (λ b. chosen held folder true true b (map (λ blob. entry_with held folder (entry_in blob.entry)) blobs)) few
     ∙ ap Ok (sym (is ∙ from ∙ ap (map (λ blob. entry_with held folder (entry_in blob.entry))) all))
-
-pub small_all : (blobs : List Measured) → list_all is_small blobs ≡ true → All (λ blob. blob.size ≤ FILE_LIMIT) blobs
-small_all [] small = All-nil (λ blob. blob.size ≤ FILE_LIMIT)
-small_all (blob ∷ blobs) small =
-    All-cons (λ blob. blob.size ≤ FILE_LIMIT) blob blobs (leb-true blob.size FILE_LIMIT (and_parts (is_small blob) (list_all is_small blobs) small).0) (small_all blobs (and_parts (is_small blob) (list_all is_small blobs) small).1)
 
 sound_each : (blobs : List Measured) → list_all is_sound (map entry_in (entries_of blobs)) ≡ true → All (λ blob. IsTrue (is_sound (entry_in blob.entry))) blobs
 sound_each [] sound = All-nil (λ blob. IsTrue (is_sound (entry_in blob.entry)))

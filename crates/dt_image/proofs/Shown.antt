@@ -1,14 +1,14 @@
 -- The line of a node, by what is told of it.
-use Rattle.std.proofs.Common.{◌≡◌, ℕ, true, false, List, [], length, Option, Some, None, is_some, refl, sym, ap, ◌∙◌}
+use Rattle.std.proofs.Common.{◌≡◌, ℕ, false, List, [], length, Option, Some, None, is_some, refl, sym, ap, ◌∙◌}
 use Rattle.std.specs.Prelude.{IsSome, option_map, option_and_then, unwrap_or}
 use Rattle.std.specs.FinMap.{get}
-use Rattle.dt_host.specs.World.{Node, file, dir, link, node_at, file_bytes, dir_names, link_target, target_at, content, IsFile}
+use Rattle.dt_host.specs.World.{Node, file, dir, link, node_at, file_bytes, dir_names, link_target, content, IsFile}
 use Rattle.dt_tree.specs.declared.meta.Meta.{Meta}
 use Rattle.dt_tree.specs.FileTree.{Attributes, FileTree}
 use Rattle.dt_tree.specs.Listing.{type_of}
 use Rattle.dt_tree.specs.Meta.{node_size, nlink_of, meta_of}
 use Rattle.dt_tree.specs.Shape.{is_dir, is_link}
-use Rattle.dt_image.specs.Report.{file_line, dir_line, link_line, line_of, path_line}
+use Rattle.dt_image.specs.Report.{file_line, line_of, path_line}
 
 same_meta : (a b : Meta) → Some a ≡ Some b → a ≡ b
 same_meta a b e = cc
@@ -16,25 +16,6 @@ same_meta a b e = cc
 -- what is told of what may be there
 abbrev told : ℕ → Option Node → Option Attributes → Option Meta
 told links found attributes = option_and_then (λ node. option_map (λ a. record { kind = type_of node; mode = a.mode; nlink = links; size = node_size node; stamp = a.stamp }) attributes) found
-
-dir_by : (links : ℕ) (at : List ℕ × ℕ) (found : Option Node) (attributes : Option Attributes) (meta : Meta) → told links found attributes ≡ Some meta → is_some (option_and_then dir_names found) ≡ true → line_of at found attributes ≡ dir_line at.1 meta.mode meta.stamp at.0
-dir_by links at None attributes meta e is = absurd (cc)
-dir_by links at (Some node) None meta e is = absurd (cc)
-dir_by links at (Some (file bytes)) (Some a) meta e is = absurd (cc)
-dir_by links at (Some (link target)) (Some a) meta e is = absurd (cc)
-dir_by links at (Some (dir names)) (Some a) meta e is =
-    ap (λ mode. dir_line at.1 mode a.stamp at.0) (ap (λ m. m.mode) (same_meta _ meta e))
-    ∙ ap (λ stamp. dir_line at.1 meta.mode stamp at.0) (ap (λ m. m.stamp) (same_meta _ meta e))
-
-link_by : (links : ℕ) (at : List ℕ × ℕ) (found : Option Node) (attributes : Option Attributes) (meta : Meta) (target : List ℕ) → told links found attributes ≡ Some meta → option_and_then link_target found ≡ Some target → line_of at found attributes ≡ link_line at.1 meta.stamp at.0 target
-link_by links at None attributes meta target e is = absurd (cc)
-link_by links at (Some node) None meta target e is = absurd (cc)
-link_by links at (Some (file bytes)) (Some a) meta target e is = absurd (cc)
-link_by links at (Some (dir names)) (Some a) meta target e is = absurd (cc)
-link_by links at (Some (link other)) (Some a) meta target e is =
-    let same : other ≡ target = cc in
-    ap (λ stamp. link_line at.1 stamp at.0 other) (ap (λ m. m.stamp) (same_meta _ meta e))
-    ∙ ap (link_line at.1 meta.stamp at.0) same
 
 file_by : (links : ℕ) (at : List ℕ × ℕ) (found : Option Node) (attributes : Option Attributes) (meta : Meta) → told links found attributes ≡ Some meta → is_some (option_and_then dir_names found) ≡ false → is_some (option_and_then link_target found) ≡ false
     → (IsSome (option_and_then file_bytes found)) × (meta.size ≡ length (unwrap_or (option_and_then file_bytes found) [])) × (line_of at found attributes ≡ file_line at.1 meta.mode meta.stamp at.0 (unwrap_or (option_and_then file_bytes found) []))
@@ -50,12 +31,6 @@ file_by links at (Some (file bytes)) (Some a) meta e no_dir no_link = (
 )
 
 module _ (t : FileTree) (at : List ℕ × ℕ) (meta : Meta) (e : meta_of t at.1 ≡ Some meta) where
-  pub line_of_dir : is_dir t.shape at.1 ≡ true → path_line t at ≡ dir_line at.1 meta.mode meta.stamp at.0
-  line_of_dir is = dir_by (nlink_of t.shape at.1) at (node_at t.shape at.1) (get t.attributes at.1) meta e is
-
-  pub line_of_link : (target : List ℕ) → target_at t.shape at.1 ≡ Some target → path_line t at ≡ link_line at.1 meta.stamp at.0 target
-  line_of_link target is = link_by (nlink_of t.shape at.1) at (node_at t.shape at.1) (get t.attributes at.1) meta target e is
-
   pub line_of_file : is_dir t.shape at.1 ≡ false → is_link t.shape at.1 ≡ false → IsFile t.shape at.1 × (meta.size ≡ length (content t.shape at.1)) × (path_line t at ≡ file_line at.1 meta.mode meta.stamp at.0 (content t.shape at.1))
   unfolding content
   line_of_file no_dir no_link = file_by (nlink_of t.shape at.1) at (node_at t.shape at.1) (get t.attributes at.1) meta e no_dir no_link

@@ -1,12 +1,13 @@
 // The tree's part of a report.
-ghost use Rattle.std.specs.Prelude.{◌≡◌, ◌<◌, ◌++◌, ℕ, Some, map, OnOk, IfOk, string_bytes};
-ghost use Rattle.std.specs.List.{All, flat_map};
+ghost use Rattle.std.specs.Prelude.{◌≡◌, ◌<◌, ◌++◌, ◌↔◌, ℕ, List, Some, map, OnOk, IfOk, string_bytes};
+ghost use Rattle.std.specs.List.{All, Contains, flat_map};
 ghost use Rattle.hex.specs.Hex.{encode_lower};
 ghost use Rattle.percent_encoding.specs.AsciiSet.{contains};
 ghost use Rattle.sha2.specs.Sha256.{sha256};
 ghost use Rattle.dt_host.specs.Asks.{Asks};
 ghost use Rattle.dt_host.specs.World.{IsLive};
 ghost use Rattle.dt_tree.specs.Table.{Stands, shape_of, tree_of};
+ghost use Rattle.dt_image.specs.Paths.{LeadsTo, paths_of};
 ghost use Rattle.dt_image.specs.Report.{escaped_set, is_escaped, file_line, dir_line, link_line, mode_text, path_line};
 ghost use Rattle.dt_image.specs.Report.{tree_header, tree_text};
 ghost use Rattle.dt_image.specs.inner.PathView.{shown};
@@ -35,6 +36,9 @@ fn escaped_bytes() -> AsciiSet
 pub fn tree_lines<H: Host>(alloc: Global, host: &mut H, tree: &Tree) -> Result<Blob, HostErr>
     requires { Stands tree.now (H.view host.old).forest }
     ensures ok { IfOk result (λ text. text ≡ tree_text (tree_of tree.now (H.view host.old).forest)) }
+    ensures exact { (path : List ℕ) (n : ℕ) →
+        Contains (paths_of (shape_of tree.now (H.view host.old).forest)) (path, n)
+        ↔ LeadsTo (shape_of tree.now (H.view host.old).forest) path n }
     ensures asks { Asks H.view H.count host.old host.new result }
 {
     let paths = paths_of(alloc, host, tree)?;
@@ -91,7 +95,7 @@ fn write_line<H: Host>(
         let target = tree.target(host, at.inode)?;
         return Ok(write_link(text, at, meta, target.as_slice())?);
     }
-    let bytes = tree.read_file(alloc, host, at.inode)?;
+    let bytes = tree.read_file(host, at.inode)?;
     Ok(write_file(alloc, text, at, meta, &bytes)?)
 }
 

@@ -1,46 +1,11 @@
 -- What is left of a listing, and how much of it is asked for.
-use Rattle.std.proofs.Common.{arith, ◌≡◌, ◌≢◌, ℕ, zero, suc, ◌-◌, ◌*◌, ◌≤◌, ◌<◌, cond, true, false, Bool, List, [], ◌∷◌, ◌++◌, length, take, Option, Some, None, inl, inr, refl, sym, ap, ◌∙◌, length-append}
+use Rattle.std.proofs.Common.{arith, ◌≡◌, ℕ, zero, suc, ◌-◌, ◌*◌, ◌≤◌, ◌<◌, cond, true, false, Bool, List, [], ◌∷◌, ◌++◌, length, take, Some, refl, sym, ap, ◌∙◌, length-append}
 use Rattle.std.proofs.lemmas.Bool.Decides.{nat_tests}
-use Rattle.std.specs.Prelude.{◌==◌, ◌&&◌, is_some, not, nat_le, slice_get, option_map}
-use Rattle.std.specs.Option.{is_none}
-use Rattle.dt_host.specs.World.{Forest, IsDir}
-use Rattle.dt_tree.specs.Above.{dot_dot, parent_at}
-use Rattle.dt_tree.specs.Shape.{names_of, LeadsUp, IsShaped, is_removed}
-use Rattle.dt_tree.specs.Table.{Table, Stands, shape_of}
+use Rattle.std.specs.Prelude.{nat_le, slice_get, option_map}
 use Rattle.dt_tree.specs.declared.list.Listed.{Listed}
-use Rattle.dt_tree.proofs.Aboves.{parent_is, no_parent}
 use Rattle.dt_iocalls.specs.Entries.{record_len, dirents, fitting_entries, last_listed, entries_told, tells, tells_left}
 use Rattle.dt_scene.specs.Scene.{Scene}
 use Rattle.dt_space.specs.Write.{stored}
-
--- nothing is above a directory exactly where it is removed
-shaped-removed : (v : Forest) (n : ℕ) → IsShaped v → IsDir v n → is_none (dot_dot v n) ≡ is_removed v n
-unfolding LeadsUp
-shaped-removed v n s is = by_root (n == v.root) refl
-  where
-    by_up : (k : ℕ) → LeadsUp v k n v.root → n ≢ v.root → is_none (parent_at v n) ≡ false
-    by_up zero up apart = absurd (apart up)
-    by_up (suc k) up apart = ap is_none (parent_is v s n up.0 up.1 is up.2)
-
-    by_names : (b : Bool) → (names_of v n == 0) ≡ b → n ≢ v.root → is_none (parent_at v n) ≡ b
-    by_names true e apart = let none : names_of v n ≡ 0 = grind (arith, nat_tests) in ap is_none (no_parent v n none)
-    by_names false e apart = elim (s.placed n is) [
-      | inl u ↦ by_up u.0 u.1 apart
-      | inr r ↦ absurd (grind (arith, nat_tests, r.nameless))
-    ]
-
-    by_root : (b : Bool) → (n == v.root) ≡ b → is_none (cond b (Some n) (parent_at v n)) ≡ (not b && (names_of v n == 0))
-    by_root true e = refl
-    by_root false e = let apart : n ≢ v.root = grind (arith, nat_tests) in by_names (names_of v n == 0) refl apart
-
-pub above_removed : (t : Table) (v : Forest) (n : ℕ) (none : Bool) → Stands t v → IsDir (shape_of t v) n → is_some (dot_dot (shape_of t v) n) ≡ not none → none ≡ is_removed (shape_of t v) n
-above_removed t v n none s is by = by_found (dot_dot (shape_of t v) n) none by ∙ shaped-removed (shape_of t v) n s.tree.shaped is
-  where
-    by_found : (found : Option ℕ) (none : Bool) → is_some found ≡ not none → none ≡ is_none found
-    by_found None true e = refl
-    by_found None false e = absurd cc
-    by_found (Some d) true e = absurd cc
-    by_found (Some d) false e = refl
 
 -- a record has 24 bytes at least
 least_record : (name : List ℕ) → 24 ≤ record_len name

@@ -1,17 +1,14 @@
 -- Lists of ranges that are read one by one: what came so far before what is still to come.
-use Rattle.std.proofs.Common.{◌≡◌, ℕ, zero, suc, ◌<◌, ◌≤◌, ◌+◌, ◌-◌, ◌%◌, ◌^◌, List, [], ◌∷◌, ◌++◌, length, set, take, drop, min, append_assoc, append-nil, Bool, true, false, Result, Ok, Err, refl, sym, ap, ◌∙◌, subst, arith}
-use Rattle.std.proofs.lemmas.List.{take_more_set, drop-set-lt}
+use Rattle.std.proofs.Common.{◌≡◌, ℕ, zero, suc, ◌<◌, ◌≤◌, ◌+◌, ◌-◌, ◌%◌, ◌^◌, List, [], ◌∷◌, ◌++◌, min, append_assoc, append-nil, Bool, true, false, Result, Ok, Err, refl, sym, ap, ◌∙◌, subst, arith}
 use Rattle.std.proofs.lemmas.List.Sums.{sum_by-cons}
 use Rattle.std.specs.Prelude.{nat_lt, if◌then◌else◌}
 use Rattle.dt_base.specs.declared.abi.TheConstants.{IOV_MAX, TRANSFER_LIMIT}
 use Rattle.dt_base.specs.declared.errno.Errno.{Errno}
 use Rattle.dt_base.specs.declared.errno.Errno.TheVariants.{Inval}
-use Rattle.dt_space.specs.declared.access.Miss.{Miss}
-use Rattle.dt_space.specs.declared.access.TheConstants.{READ}
-use Rattle.dt_space.specs.Space.{PageView, load}
+use Rattle.dt_space.specs.Space.{PageView}
 use Rattle.dt_iocalls.specs.declared.ranges.Range.{Range}
 use Rattle.dt_iocalls.specs.declared.ranges.TheConstants.{IOVEC_LEN}
-use Rattle.dt_iocalls.specs.Ranges.{total_len, cut_to, joined_bytes, gathered, range_before, iovec_at, iovecs_at, cut_ranges, ranges_at}
+use Rattle.dt_iocalls.specs.Ranges.{total_len, cut_to, range_before, iovec_at, iovecs_at, cut_ranges, ranges_at}
 
 -- what came so far before what comes, unless that is an error
 abbrev pub after : {A E : Type 0} → List A → Result (List A) E → Result (List A) E
@@ -25,10 +22,6 @@ after_none (Err e) = refl
 after-before : (ranges : List Range) (range : Range) (rest : Result (List Range) Errno) → after ranges (range_before (Ok range) rest) ≡ after (ranges ++ range ∷ []) rest
 after-before ranges range (Ok more) = ap Ok (sym (append_assoc ranges (range ∷ []) more))
 after-before ranges range (Err errno) = refl
-
-after-joined : (bytes part : List ℕ) (rest : Result (List ℕ) Miss) → after bytes (joined_bytes (Ok part) rest) ≡ after (bytes ++ part) rest
-after-joined bytes part (Ok more) = ap Ok (sym (append_assoc bytes part more))
-after-joined bytes part (Err miss) = refl
 
 -- one range of a list
 iovecs-step : (pages : List PageView) (at left : ℕ) → 0 < left → iovecs_at pages at left ≡ range_before (iovec_at pages at) (iovecs_at pages ((at + IOVEC_LEN) % 2 ^ 64) (left - 1))
@@ -53,34 +46,9 @@ pub iovecs-end : (pages : List PageView) (next left : ℕ) (ranges : List Range)
 unfolding iovecs_at
 iovecs-end pages next left ranges none = rw none (rw append-nil refl)
 
--- one range more is gathered
-pub gathered-more : (pages : List PageView) (all : Result (List ℕ) Miss) (ranges rest : List Range) (range : Range) (bytes part : List ℕ) → ranges ≡ range ∷ rest → load pages READ range.address range.len ≡ Ok part → all ≡ after bytes (gathered pages ranges) → all ≡ after (bytes ++ part) (gathered pages rest)
-unfolding gathered
-gathered-more pages all ranges rest range bytes part is found so_far =
-    so_far ∙ ap (λ r. after bytes (gathered pages r)) is ∙ ap (λ r. after bytes (joined_bytes r (gathered pages rest))) found
-    ∙ after-joined bytes part (gathered pages rest)
-
-pub gathered-missed : (pages : List PageView) (all : Result (List ℕ) Miss) (ranges rest : List Range) (range : Range) (bytes : List ℕ) (miss : Miss) → ranges ≡ range ∷ rest → load pages READ range.address range.len ≡ Err miss → all ≡ after bytes (gathered pages ranges) → all ≡ Err miss
-unfolding gathered
-gathered-missed pages all ranges rest range bytes miss is found so_far =
-    so_far ∙ ap (λ r. after bytes (gathered pages r)) is ∙ ap (λ r. after bytes (joined_bytes r (gathered pages rest))) found
-
-pub gathered-end : (pages : List PageView) (ranges : List Range) (bytes : List ℕ) → ranges ≡ [] → after bytes (gathered pages ranges) ≡ Ok bytes
-unfolding gathered
-gathered-end pages ranges bytes none = rw none (rw append-nil refl)
-
 -- one range more is cut
 abbrev pub cut : ℕ → Range → Range
 cut left range = record range { len = min range.len left }
-
-pub cut-more : (all : List Range) (left i : ℕ) (ranges : List Range) (range : Range) → i < length ranges → drop i ranges ≡ range ∷ drop (i + 1) ranges → all ≡ take i ranges ++ cut_to left (drop i ranges)
-    → all ≡ take (i + 1) (set ranges i (cut left range)) ++ cut_to (left - min range.len left) (drop (i + 1) (set ranges i (cut left range)))
-unfolding cut_to
-cut-more all left i ranges range within is so_far =
-    let rest : left - min range.len left ≡ left - range.len = omega arith in
-    so_far ∙ ap (λ r. take i ranges ++ cut_to left r) is
-    ∙ sym (append_assoc (take i ranges) (cut left range ∷ []) (cut_to (left - range.len) (drop (i + 1) ranges)))
-    ∙ rw (take_more_set ranges i (cut left range) within, drop-set-lt (i + 1) ranges i (cut left range) (omega arith), rest) refl
 
 -- one call moves no more bytes than it may
 cut_total : (limit : ℕ) (ranges : List Range) → total_len (cut_to limit ranges) ≤ limit

@@ -130,7 +130,7 @@ fn reads_kind<H: Host>(
 {
     let _before = host.faults();
     match kind {
-        DescKind::File(n) => reads_on(alloc, fs, host, caller, space, fd, ranges, n, offset),
+        DescKind::File(n) => reads_on(fs, host, caller, space, fd, ranges, n, offset),
         DescKind::Dir(_) => Ok(Answer::Refused(Errno::IsDir)),
         DescKind::PipeRead(_) => reads_pipe(alloc, fs, host, caller, space, fd, ranges),
         DescKind::Input => Ok(Answer::Value(0)),
@@ -201,7 +201,6 @@ fn read_through<H: Host>(
 // Reads a file where its description stands.
 #[tactic(auto, using(crate::proofs::Parts::came))]
 fn reads_on<H: Host>(
-    alloc: Global,
     fs: &mut Fs,
     host: &mut H,
     caller: &Caller,
@@ -220,7 +219,7 @@ fn reads_on<H: Host>(
         (stage fs.new (H.view host.new) caller.now space.new) result
         (H.count host.old) (H.count host.new) }
 {
-    let bytes = read_part(alloc, host, &fs.tree, ranges, n, offset)?;
+    let bytes = read_part(host, &fs.tree, ranges, n, offset)?;
     receive(fs, host, caller, space, fd, ranges, offset, &bytes)
 }
 
@@ -257,7 +256,6 @@ fn receive<H: Host>(
 /// offset), EBADF (the descriptor is not open, or not for reading), EISDIR, ESPIPE (it is of no file), and EFAULT.
 #[tactic(auto, unfolding(crate::specs::Reading::pread64_row))]
 pub fn pread64<H: Host>(
-    alloc: Global,
     fs: &Fs,
     host: &mut H,
     caller: &Caller,
@@ -283,12 +281,11 @@ pub fn pread64<H: Host>(
         address: args[1],
         len: byte_count(args[2]),
     };
-    reads_kind_at(alloc, fs, host, caller, space, &[range], desc.kind, args[3])
+    reads_kind_at(fs, host, caller, space, &[range], desc.kind, args[3])
 }
 
 // Reads at an offset by what the descriptor refers to.
 fn reads_kind_at<H: Host>(
-    alloc: Global,
     fs: &Fs,
     host: &mut H,
     caller: &Caller,
@@ -306,7 +303,7 @@ fn reads_kind_at<H: Host>(
 {
     let _before = host.faults();
     match kind {
-        DescKind::File(n) => reads_at(alloc, fs, host, caller, space, ranges, n, offset),
+        DescKind::File(n) => reads_at(fs, host, caller, space, ranges, n, offset),
         DescKind::Dir(_) => Ok(Answer::Refused(Errno::IsDir)),
         DescKind::PipeRead(_) | DescKind::PipeWrite(_) | DescKind::Input | DescKind::Stream(_) =>
             Ok(Answer::Refused(Errno::SPipe)),
@@ -316,7 +313,6 @@ fn reads_kind_at<H: Host>(
 // Reads a file from an offset on.
 #[tactic(auto, using(crate::proofs::Parts::came))]
 fn reads_at<H: Host>(
-    alloc: Global,
     fs: &Fs,
     host: &mut H,
     caller: &Caller,
@@ -332,7 +328,7 @@ fn reads_at<H: Host>(
         (stage fs.now (H.view host.new) caller.now space.new) result
         (H.count host.old) (H.count host.new) }
 {
-    let bytes = read_part(alloc, host, &fs.tree, ranges, n, offset)?;
+    let bytes = read_part(host, &fs.tree, ranges, n, offset)?;
     fill_ranges(fs, host, caller, space, ranges, &bytes)
 }
 
@@ -359,7 +355,6 @@ fn fill_ranges<H: Host>(
 
 // As much of a file as ranges take, from an offset on.
 fn read_part<H: Host>(
-    alloc: Global,
     host: &mut H,
     tree: &Tree,
     ranges: &[Range],
@@ -373,5 +368,5 @@ fn read_part<H: Host>(
     ensures fits { IfOk result (λ bytes. offset + length bytes.items < 2 ^ 64) }
     ensures asks { Asks H.view H.count host.old host.new result }
 {
-    tree.read_part(alloc, host, n, offset, total_len(ranges))
+    tree.read_part(host, n, offset, total_len(ranges))
 }

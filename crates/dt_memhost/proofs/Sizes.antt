@@ -1,5 +1,5 @@
 -- What keeps the numbers of a forest and of its pipes within 64 bits.
-use Rattle.std.proofs.Common.{arith, ◌≡◌, ℕ, ◌^◌, ◌<◌, List, [], length, Option, Some, None, sym, subst}
+use Rattle.std.proofs.Common.{arith, ℕ, ◌^◌, ◌<◌, List, [], length, sym, subst}
 use Rattle.std.specs.Prelude.{IsSome}
 use Rattle.std.specs.Ordering.{nat_cmp}
 use Rattle.std.specs.Cmp.{nat_cmp_total}
@@ -7,6 +7,7 @@ use Rattle.std.specs.FinMap.{get, get-empty, nat_cmp-IsAntisymmetric}
 use Rattle.dt_host.specs.declared.kind.NodeKind.{NodeKind}
 use Rattle.dt_host.specs.declared.kind.NodeKind.TheVariants.{File, Dir, Pipe, Link}
 use Rattle.dt_host.specs.World.{IsDir, IsFile}
+use Rattle.dt_host.proofs.Found.{none_there}
 use Rattle.dt_host.proofs.Maps.{at_insert, at_remove}
 use Rattle.dt_host.proofs.Sized.{IsSized-empty_forest, IsSized-with_node, IsSized-without_node, IsSized-with_entry, IsSized-without_entry, IsSized-with_bytes}
 use Rattle.dt_memhost.specs.inner.Forest.{Ordered, HasSizes, empty_ordered, made, bound, unbound, forgotten, rewritten, refilled}
@@ -14,10 +15,6 @@ use Rattle.dt_memhost.specs.inner.Forest.{Ordered, HasSizes, empty_ordered, made
 -- nothing but a root
 pub HasSizes-empty : (root : ℕ) → root < 2 ^ 64 → HasSizes (empty_ordered root)
 HasSizes-empty root small = record { forest = IsSized-empty_forest root small; pipes = λ n some. absurd (none_there _ (get-empty nat_cmp n) some) }
-  where
-    none_there : (found : Option (List ℕ)) → found ≡ None → IsSome found → ⊥
-    none_there None e some = cc
-    none_there (Some bytes) e some = cc
 
 module _ (o : Ordered) (n : ℕ) (kept : HasSizes o) where
   pub HasSizes-bound : (name : List ℕ) (to : ℕ) → IsDir o.forest n → HasSizes (bound o n name to)

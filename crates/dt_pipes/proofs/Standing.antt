@@ -6,6 +6,7 @@ use Rattle.std.specs.FinMap.{get, insert, remove, empty, get-empty, same_map, na
 use Rattle.std.specs.Ordering.{nat_cmp}
 use Rattle.dt_base.specs.declared.limits.TheConstants.{PIPE_LIMIT}
 use Rattle.dt_host.specs.World.{Pipes}
+use Rattle.dt_host.proofs.Found.{none_there}
 use Rattle.dt_host.proofs.Maps.{at_insert, at_remove, get-insert_same, get-insert_other, get-remove_other}
 use Rattle.dt_pipes.specs.declared.pipe.Pipe.{Pipe}
 use Rattle.dt_pipes.specs.declared.pipe.TheConstants.{FIRST_PIPE}
@@ -30,14 +31,10 @@ sole-there t host q pipe stands here = record {
   here = λ a at. real_of a pipe (sym at ∙ here);
 }
 
-not_both : {X : Type 0} (found : Option X) → IsSome found → found ≡ None → ⊥
-not_both None h e = cc
-not_both (Some x) h e = cc
-
 -- and for the next number and one that is free at the host
 pub sole-new : (t : Table) (host : Pipes) (real : ℕ) → Stands t host → get host real ≡ None → IsSole t t.next real
 sole-new t host real stands free = record {
-  only = λ p a at same. absurd (not_both (get host real) (subst (λ n. IsSome (get host n)) same (backed t host p a stands at).live) free);
+  only = λ p a at same. absurd (none_there (get host real) free (subst (λ n. IsSome (get host n)) same (backed t host p a stands at).live));
   here = λ a at. absurd (let given = stands.given t.next (subst (λ found. IsSome found) (sym at) refl) in let below : t.next < t.next = given.below in omega arith);
 }
 
@@ -169,7 +166,7 @@ module _ (t : Table) (host : Pipes) (q : ℕ) (pipe : Pipe) (next : ℕ) (stands
 
   known-left : (real : ℕ) → IsSome (get less real) → IsKnown rest real
   known-left real = at_remove nat_cmp_total nat_cmp-IsAntisymmetric (λ found. IsSome found → IsKnown rest real) host pipe.real real
-      (λ is live. absurd (not_both {X = List ℕ} None live refl))
+      (λ is live. absurd (none_there {X = List ℕ} None refl live))
       (λ apart live.
       let known = stands.all real live in
       let other : known.number ≢ q = λ is. apart (sym known.same ∙ real_of known.pipe pipe (sym known.there ∙ ap (get t.pipes) is ∙ here)) in
@@ -189,7 +186,7 @@ module _ (t : Table) (host : Pipes) (q : ℕ) (pipe : Pipe) (next : ℕ) (stands
     once = λ p r a b at_p at_r same. stands.once p r a b (was-there p a at_p) (was-there r b at_r) same;
     all = known-left;
     given = λ p. at_remove nat_cmp_total nat_cmp-IsAntisymmetric (λ found. IsSome found → IsGiven next p) t.pipes q p
-        (λ is there. absurd (not_both {X = Pipe} None there refl))
+        (λ is there. absurd (none_there {X = Pipe} None refl there))
         (λ apart there. given-later t.next next p more (stands.given p there));
     least = let before = stands.least in omega arith;
   }
@@ -199,7 +196,7 @@ pub stands-empty : Stands (table_of empty FIRST_PIPE) empty
 stands-empty = record {
   each = λ q. subst (λ found. IfSome found (IsBackedPipe empty)) (sym (get-empty nat_cmp q)) tt;
   once = λ p q a b at_p at_q same. absurd (none_some a (sym (get-empty nat_cmp p) ∙ at_p));
-  all = λ real live. absurd (not_both (get empty real) live (get-empty nat_cmp real));
-  given = λ q there. absurd (not_both (get empty q) there (get-empty nat_cmp q));
+  all = λ real live. absurd (none_there (get empty real) (get-empty nat_cmp real) live);
+  given = λ q there. absurd (none_there (get empty q) (get-empty nat_cmp q) there);
   least = omega arith;
 }

@@ -176,9 +176,14 @@ fn programs_are_found_through_links(rt: HostRuntime) -> Result<(), Fail> {
     for (program, status, shown) in programs {
         let words = format!(in alloc; "run\nimg\n--\n{program}")?;
         let came = Call::new(words.as_str(), &files).make(alloc)?;
-        let want = format!(in alloc; "dettrace 1\n{shown}")?;
-        assert_eq!(rt; came.before_tree(), want.as_bytes(), "{program}");
-        assert_eq!(rt; came.status, status, "{program}");
+        let want = format!(in alloc;
+            "dettrace 1\n{shown}\ntree 4\n\
+            dir 2 0755 0 /d\n\
+            file 3 0755 0 162 {HELLO_DIGEST} /hello\n\
+            link 4 0 /l hello\n\
+            link 5 0 /m /m\n"
+        )?;
+        expect(&rt, &came, program, status, want.as_bytes(), b"");
     }
     Ok(())
 }

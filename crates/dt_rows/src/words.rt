@@ -144,6 +144,8 @@ fn a_program_that_cannot_start_has_its_errno_in_the_verdict(rt: HostRuntime) -> 
     ];
     let long_name = format!(in alloc; "/{}", "n".repeat(alloc, 256)?)?;
     let long_path = "p".repeat(alloc, 4096)?;
+    let most_slashes = "/".repeat(alloc, 4095)?;
+    let more_slashes = "/".repeat(alloc, 4096)?;
     let programs = [
         ("/nothere", 2),
         ("/nothere/", 2),
@@ -153,12 +155,14 @@ fn a_program_that_cannot_start_has_its_errno_in_the_verdict(rt: HostRuntime) -> 
         ("/.", 13),
         ("/..", 13),
         (".", 13),
+        (most_slashes.as_str(), 13),
         ("/hello/", 20),
         ("/hello/.", 20),
         ("/hello/x", 20),
         ("1A=/hello", 2),
         (long_name.as_str(), 36),
         (long_path.as_str(), 36),
+        (more_slashes.as_str(), 36),
     ];
     for (program, errno) in programs {
         let words = format!(in alloc; "run\nimg\n--\n{program}\n")?;
@@ -166,6 +170,29 @@ fn a_program_that_cannot_start_has_its_errno_in_the_verdict(rt: HostRuntime) -> 
         let shown = format!(in alloc; "verdict nostart {errno}")?;
         let want = hello_report(alloc, shown.as_str())?;
         expect(&rt, &came, program, 10, want.as_bytes(), b"");
+    }
+    Ok(())
+}
+
+// The program, and a script that it interprets.
+const SCRIPT_INDEX: &[u8] = b"{\"version\":1,\"entries\":[\
+    {\"path\":\"/hello\",\"type\":\"file\",\"mode\":493,\"blob\":\"hello\"},\
+    {\"path\":\"/s\",\"type\":\"file\",\"mode\":493,\"blob\":\"s\"}]}";
+
+#[test]
+fn a_script_shows_what_its_interpreter_shows(rt: HostRuntime) -> Result<(), Fail> {
+    let alloc = rt.alloc();
+    let hello = hello(alloc)?;
+    let files = [
+        ("img/image.json", SCRIPT_INDEX),
+        ("img/hello", hello.as_slice()),
+        ("img/s", b"#!/hello x\n"),
+    ];
+    let want = format!(in alloc; "dettrace 1\n{HELLO_SHOWN}")?;
+    for words in ["run\nimg\n--\n/hello", "run\nimg\n--\n/s\ny"] {
+        let came = Call::new(words, &files).make(alloc)?;
+        assert_eq!(rt; came.before_tree(), want.as_bytes(), "{words}");
+        assert_eq!(rt; came.status, 0, "{words}");
     }
     Ok(())
 }

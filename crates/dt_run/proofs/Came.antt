@@ -19,7 +19,7 @@ use Rattle.dt_sched.specs.Core as sched
 use Rattle.dt_sched.specs.Core.{CoreView, IsCore, head, owing, is_owing, is_counted, all_counted, verdict_after}
 use Rattle.dt_sched.proofs.Tables.{length-owing}
 use Rattle.dt_calls.specs.declared.container.Served.{Served}
-use Rattle.dt_calls.specs.declared.container.Served.TheVariants.{Done, Child, LastChild, Blocked, Moved as has_moved, Ended, Unsupported}
+use Rattle.dt_calls.specs.declared.container.Served.TheVariants.{Done, Child, LastChild, Blocked, Progress, Ended, Unsupported}
 use Rattle.dt_calls.specs.Container.{Container}
 use Rattle.dt_calls.specs.InCode.{ContainerView, shared_of, container_of, home_of, turned_as}
 use Rattle.dt_calls.proofs.Homes.{home-place}
@@ -85,7 +85,7 @@ ended-alike p blocked count Done = refl
 ended-alike p blocked count (Child vpid) = refl
 ended-alike p blocked count (LastChild vpid) = first-ended (p == 1)
 ended-alike p blocked count Blocked = dead-goes-on (blocked == count)
-ended-alike p blocked count has_moved = refl
+ended-alike p blocked count Progress = refl
 ended-alike p blocked count Ended = first-ended (p == 1)
 ended-alike p blocked count (Unsupported number) = refl
 

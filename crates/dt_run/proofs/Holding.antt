@@ -7,7 +7,8 @@ use Rattle.dt_tree.specs.declared.inode.Inode.{Inode}
 use Rattle.dt_tree.specs.declared.limits.TheConstants.{ROOT}
 use Rattle.dt_tree.specs.Table.{Table, virtual, real_of, renumbered, shape_of, tree_of, Pairs, Stands}
 use Rattle.dt_tree.proofs.Mirroring.{node_at-inode, entry-inode, has_number}
-use Rattle.dt_run.specs.HoldsTree.{reached_from, reached, what_of, HoldsTree}
+use Rattle.dt_image.specs.Paths.{reached_from, reached}
+use Rattle.dt_run.specs.HoldsTree.{what_of, HoldsTree}
 
 -- a number of the host, if there is one, is for that inode, if there is one
 abbrev Pair : Table → Option ℕ → Option ℕ → Type 0

@@ -10,7 +10,7 @@ use Rattle.dt_rv64.specs.declared.segments.Stop.{Stop}
 use Rattle.dt_calls.specs.declared.call.effect.Outcome.{Outcome}
 use Rattle.dt_calls.specs.declared.call.effect.Outcome.TheVariants as outcome
 use Rattle.dt_calls.specs.declared.container.Served.{Served}
-use Rattle.dt_calls.specs.declared.container.Served.TheVariants.{Done, Child, LastChild, Blocked, Moved, Ended, Unsupported}
+use Rattle.dt_calls.specs.declared.container.Served.TheVariants.{Done, Child, LastChild, Blocked, Progress, Ended, Unsupported}
 use Rattle.dt_calls.specs.Container.{Shared, Machines}
 use Rattle.dt_calls.specs.Effect.{Effect}
 use Rattle.dt_calls.specs.Settle as calls
@@ -27,7 +27,7 @@ noted-only phases p Done q apart = get-insert_other nat_cmp_total nat_cmp-IsAnti
 noted-only phases p (Child vpid) q apart = get-insert_other nat_cmp_total nat_cmp-IsAntisymmetric phases p _ q apart
 noted-only phases p (LastChild vpid) q apart = get-remove_other nat_cmp_total nat_cmp-IsAntisymmetric phases p q apart
 noted-only phases p Blocked q apart = get-insert_other nat_cmp_total nat_cmp-IsAntisymmetric phases p _ q apart
-noted-only phases p Moved q apart = get-insert_other nat_cmp_total nat_cmp-IsAntisymmetric phases p _ q apart
+noted-only phases p Progress q apart = get-insert_other nat_cmp_total nat_cmp-IsAntisymmetric phases p _ q apart
 noted-only phases p Ended q apart = get-remove_other nat_cmp_total nat_cmp-IsAntisymmetric phases p q apart
 noted-only phases p (Unsupported number) q apart = refl
 
@@ -37,7 +37,7 @@ FitsOwn Done own = IsSome own
 FitsOwn (Child vpid) own = IsSome own
 FitsOwn (LastChild vpid) own = own ≡ None
 FitsOwn Blocked own = IsSome own
-FitsOwn Moved own = IsSome own
+FitsOwn Progress own = IsSome own
 FitsOwn Ended own = own ≡ None
 FitsOwn (Unsupported number) own = IsSome own
 
@@ -51,7 +51,7 @@ FitsChild next Done child = Unit {0}
 FitsChild next (Child vpid) child = IsBorn next vpid child
 FitsChild next (LastChild vpid) child = IsBorn next vpid child
 FitsChild next Blocked child = Unit {0}
-FitsChild next Moved child = Unit {0}
+FitsChild next Progress child = Unit {0}
 FitsChild next Ended child = Unit {0}
 FitsChild next (Unsupported number) child = Unit {0}
 
@@ -73,7 +73,7 @@ gone-fits next c events (Some m) = record { own = refl; child = record { is_next
 settled-fits : (next p : ℕ) (r : Effect) (o : Outcome) → Fits next (settled_by next p r o)
 settled-fits next p r outcome.Done = done-fits next _ r.machine r.events r.child
 settled-fits next p r outcome.Blocked = record { own = refl; child = tt }
-settled-fits next p r outcome.Moved = record { own = refl; child = tt }
+settled-fits next p r outcome.Progress = record { own = refl; child = tt }
 settled-fits next p r (outcome.Ends end) = gone-fits next _ _ r.child
 settled-fits next p r (outcome.Unsupported number) = record { own = refl; child = tt }
 
@@ -92,7 +92,7 @@ noted-own phases p Done m fits = ap phase_in (get-insert_same nat_cmp_total nat_
 noted-own phases p (Child vpid) m fits = ap phase_in (get-insert_same nat_cmp_total nat_cmp-IsAntisymmetric phases p _)
 noted-own phases p (LastChild vpid) m fits = cc
 noted-own phases p Blocked m fits = ap phase_in (get-insert_same nat_cmp_total nat_cmp-IsAntisymmetric phases p _)
-noted-own phases p Moved m fits = ap phase_in (get-insert_same nat_cmp_total nat_cmp-IsAntisymmetric phases p _)
+noted-own phases p Progress m fits = ap phase_in (get-insert_same nat_cmp_total nat_cmp-IsAntisymmetric phases p _)
 noted-own phases p Ended m fits = cc
 noted-own phases p (Unsupported number) m fits = refl
 

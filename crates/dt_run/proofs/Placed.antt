@@ -16,7 +16,7 @@ use Rattle.dt_sched.specs.declared.process.Phase.TheVariants as as_queued
 use Rattle.dt_sched.specs.Core as sched
 use Rattle.dt_sched.specs.Core.{each_once, holds, owes, has_room}
 use Rattle.dt_calls.specs.declared.container.Served.{Served}
-use Rattle.dt_calls.specs.declared.container.Served.TheVariants.{Done, Child, LastChild, Blocked, Moved, Ended, Unsupported}
+use Rattle.dt_calls.specs.declared.container.Served.TheVariants.{Done, Child, LastChild, Blocked, Progress, Ended, Unsupported}
 use Rattle.dt_calls.specs.Container.{Machines}
 use Rattle.dt_calls.specs.Settle.{all_ended, with_own, with_child_machine, next_after}
 use Rattle.dt_run.specs.declared.phase.Phase.TheVariants.{Owes, Waits}
@@ -146,7 +146,7 @@ module _ (machines : Machines) (phases : Phases) (next : ℕ) (q : Process) (own
             (child-owes (LastChild vpid) vpid born.is_next born.machine, tt))
         on-placed Blocked lives born on = all-append (Stays Blocked) rest _ (rest-placed Blocked rest apart placed)
             (waits-again lives, tt)
-        on-placed Moved lives born on = all-append (Stays Moved) rest _ (rest-placed Moved rest apart placed)
+        on-placed Progress lives born on = all-append (Stays Progress) rest _ (rest-placed Progress rest apart placed)
             (waits-again lives, tt)
         on-placed Ended lives born on =
             subst (λ b. AllByRecursion (Stays Ended) (cond b [] rest)) (sym on) (rest-placed Ended rest apart placed)
@@ -159,7 +159,7 @@ none-left P q rest Done over = cc
 none-left P q rest (Child vpid) over = cc
 none-left P q rest (LastChild vpid) over = subst (λ b. AllByRecursion P (cond b [] (rest ++ owes vpid ∷ []))) (sym over) tt
 none-left P q rest Blocked over = cc
-none-left P q rest Moved over = cc
+none-left P q rest Progress over = cc
 none-left P q rest Ended over = subst (λ b. AllByRecursion P (cond b [] rest)) (sym over) tt
 none-left P q rest (Unsupported number) over = cc
 
@@ -279,6 +279,6 @@ room machines phases next p own child ps m (Child vpid) once placed lives born f
 room machines phases next p own child ps m (LastChild vpid) once placed lives born few key =
     subst (λ n. IsTrue (not (holds n ps))) (sym born.is_next) (is_new machines phases next p own child ps once placed)
 room machines phases next p own child ps m Blocked once placed lives born few key = refl
-room machines phases next p own child ps m Moved once placed lives born few key = refl
+room machines phases next p own child ps m Progress once placed lives born few key = refl
 room machines phases next p own child ps m Ended once placed lives born few key = refl
 room machines phases next p own child ps m (Unsupported number) once placed lives born few key = refl

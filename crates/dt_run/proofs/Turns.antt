@@ -6,9 +6,6 @@ use Rattle.std.specs.FinMap.{get}
 use Rattle.dt_base.specs.declared.event.Event.{Event}
 use Rattle.dt_base.specs.declared.event.Verdict.{Verdict}
 use Rattle.dt_base.specs.declared.event.Verdict.TheVariants.{Budget}
-use Rattle.dt_rv64.specs.declared.machine.Machine.{Machine}
-use Rattle.dt_rv64.specs.Segment.{segment_of}
-use Rattle.dt_rv64.proofs.Runs.{segment-counts}
 use Rattle.dt_sched.specs.declared.settled.Settled.{Settled as Told}
 use Rattle.dt_calls.specs.Container.{Shared}
 use Rattle.dt_calls.specs.Settle.{Settled, serve_machine}
@@ -123,9 +120,3 @@ runs-alike a b is = run_at_most-alike (a.queue.left + 1) a b is ∙ ap (λ (s : 
 pub after-after : (a b : List Event) (r : Run) → after a (after b r) ≡ after (a ++ b) r
 after-after a b r = ap (λ events. record { events = events; verdict = r.verdict; last = r.last })
     (sym (append_assoc a b r.events))
-
--- a segment makes a step, so that its cost is the count of its steps
-pub cost-segment : (m : Machine)
-    → turn_cost (with_segment (record { machine = m; phase = Owes })).phase ≡ (segment_of m).count
-unfolding with_segment
-cost-segment m = let least = segment-counts m in omega (arith, least)

@@ -1,18 +1,10 @@
 -- How a host holds a file tree: read by names from their roots, both are the same.
-use Rattle.std.specs.Prelude.{◌≡◌, ℕ, List, [], ◌∷◌, Option, Some, option_map, option_and_then}
+use Rattle.std.specs.Prelude.{◌≡◌, ℕ, List, Option, option_map, option_and_then}
 use Rattle.dt_base.specs.declared.image.What.{What}
 use Rattle.dt_base.specs.declared.image.What.TheVariants.{File, Dir, Link}
-use Rattle.dt_host.specs.World.{World, Forest, Node, file, dir, link, node_at, entry}
+use Rattle.dt_host.specs.World.{World, Forest, Node, file, dir, link, node_at}
 use Rattle.dt_tree.specs.FileTree.{FileTree}
-
--- the node that names lead to from a node: each is an entry of the directory that those before it led to. No link is followed
-unfoldable pub reached_from : Forest → ℕ → List (List ℕ) → Option ℕ
-reached_from v n [] = Some n
-reached_from v n (name ∷ names) = option_and_then (λ m. reached_from v m names) (entry v n name)
-
--- the node that names lead to from the root
-abbrev pub reached : Forest → List (List ℕ) → Option ℕ
-reached v names = reached_from v v.root names
+use Rattle.dt_image.specs.Paths.{reached}
 
 -- what a node shows: a file its bytes, a link its target, and a directory that it is one
 abbrev pub what_of : Node → What

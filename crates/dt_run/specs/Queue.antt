@@ -2,7 +2,7 @@
 use Rattle.std.specs.Prelude.{ℕ, ◌==◌, List, [], ◌∷◌, ◌++◌, drop, length, Option, if◌then◌else◌}
 use Rattle.dt_base.specs.declared.event.Verdict.{Verdict}
 use Rattle.dt_calls.specs.declared.container.Served.{Served}
-use Rattle.dt_calls.specs.declared.container.Served.TheVariants.{Done, Child, LastChild, Blocked, Moved, Ended, Unsupported}
+use Rattle.dt_calls.specs.declared.container.Served.TheVariants.{Done, Child, LastChild, Blocked, Progress, Ended, Unsupported}
 use Rattle.dt_procs.specs.declared.member.TheConstants.{FIRST_PID}
 use Rattle.dt_sched.specs.declared.settled.Settled.{Settled}
 use Rattle.dt_sched.specs.declared.settled.Settled.TheVariants as settled
@@ -20,7 +20,7 @@ told Done = settled.Again
 told (Child vpid) = settled.Child vpid
 told (LastChild vpid) = settled.LastChild vpid
 told Blocked = settled.Waits
-told Moved = settled.Moved
+told Progress = settled.Moved
 told Ended = settled.Gone
 told (Unsupported number) = settled.Stopped number
 

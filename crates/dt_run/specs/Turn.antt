@@ -6,7 +6,7 @@ use Rattle.dt_base.specs.declared.event.Verdict.{Verdict}
 use Rattle.dt_base.specs.declared.event.Verdict.TheVariants as verdict
 use Rattle.dt_rv64.specs.declared.machine.Machine.{Machine}
 use Rattle.dt_calls.specs.declared.container.Served.{Served}
-use Rattle.dt_calls.specs.declared.container.Served.TheVariants.{Done, Child, LastChild, Blocked, Moved, Ended, Unsupported}
+use Rattle.dt_calls.specs.declared.container.Served.TheVariants.{Done, Child, LastChild, Blocked, Progress, Ended, Unsupported}
 use Rattle.dt_calls.specs.Container.{Shared}
 use Rattle.dt_calls.specs.Settle.{Settled, serve_machine, next_after, with_own}
 use Rattle.dt_run.specs.declared.phase.Phase.{Phase}
@@ -43,7 +43,7 @@ phase_after phase Done = Owes
 phase_after phase (Child vpid) = Owes
 phase_after phase (LastChild vpid) = phase
 phase_after phase Blocked = Waits
-phase_after phase Moved = Waits
+phase_after phase Progress = Waits
 phase_after phase Ended = phase
 phase_after phase (Unsupported number) = phase
 

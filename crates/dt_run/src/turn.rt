@@ -79,7 +79,7 @@ fn note(phases: &mut Numbered<Phase>, vpid: u32, served: Served)
 {
     match served {
         Served::Done | Served::Child(_) => phases.set(u64::from(vpid), Phase::Owes),
-        Served::Blocked | Served::Moved => phases.set(u64::from(vpid), Phase::Waits),
+        Served::Blocked | Served::Progress => phases.set(u64::from(vpid), Phase::Waits),
         Served::LastChild(_) | Served::Ended => {
             phases.take(u64::from(vpid));
         }
@@ -96,7 +96,7 @@ fn told(served: Served) -> Settled
         Served::Child(vpid) => Settled::Child(vpid),
         Served::LastChild(vpid) => Settled::LastChild(vpid),
         Served::Blocked => Settled::Waits,
-        Served::Moved => Settled::Moved,
+        Served::Progress => Settled::Moved,
         Served::Ended => Settled::Gone,
         Served::Unsupported(number) => Settled::Stopped(number),
     }

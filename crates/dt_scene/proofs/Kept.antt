@@ -191,21 +191,6 @@ reaches_held number o old tree files w v caller space found before now sound bac
       cause = record { later = later; rose = λ failed. cc };
     }
 
--- a call changed open files alone, and left the nodes that they are of
-pub reaches_nodes : (defined : Row) (old : Fs) (files : Files) (w : World) (caller : Caller) (space pages : List PageView) (answer : Answer) (before now : ℕ)
-    → Sound (stage old w caller space) → KeepsNodes caller.vpid old.files.descriptors files.descriptors → files.pipes ≡ old.files.pipes → files.ends ≡ old.files.ends → before ≤ now
-    → defined ≡ record { next = record (scene (stage old w caller space)) { files = files.descriptors; space = pages }; answer = answer }
-    → Reaches defined (stage old w caller space) (stage (record { tree = old.tree; files = files; clock = old.clock; rand = old.rand }) w caller pages) (Ok answer) before now
-reaches_nodes defined old files w caller space pages answer before now sound nodes pipes ends later is =
-    let new : Fs = record { tree = old.tree; files = files; clock = old.clock; rand = old.rand } in
-    record {
-      served = is ∙ ap (λ (t : table.Table). record { next = record (scene (stage new w caller pages)) { pipes = record { contents = table.pipes_of t w.pipes; next = t.next } }; answer = answer }) (sym pipes);
-      sound = sound_nodes old new w caller space pages sound nodes pipes ends refl;
-      others = others_nodes (scene (stage old w caller space)) (scene (stage new w caller pages)) refl refl nodes;
-      rest = refl;
-      cause = record { later = later; rose = λ failed. cc };
-    }
-
 -- what others hold is left by two steps, where it is left by each
 pub others_both : (old mid new : Scene) → KeepsOthers old mid → KeepsOthers mid new → KeepsOthers old new
 others_both old mid new first second = record {

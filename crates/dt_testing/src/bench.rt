@@ -17,7 +17,7 @@ pub enum Words {
     Zeros(usize),
     /// Those of the stream of this number.
     Stream(u64),
-    /// The four last digits of this number to base 3, from the last one on, again and again. Of up to three segments
+    /// The five last digits of this number to base 3, from the last one on, again and again. Of up to three segments
     /// that are owed the host lets that one arrive first to which the next word points.
     Digits(u32),
 }
@@ -161,9 +161,9 @@ fn picker(alloc: Global, words: Words) -> Result<Picker, AllocError> {
 // The digits of a thousand words.
 fn digits(alloc: Global, number: u32) -> Result<Vec<u32>, AllocError> {
     let mut words = Vec::new(alloc);
-    for _ in 0..250 {
+    for _ in 0..200 {
         let mut left = number;
-        for _ in 0..4 {
+        for _ in 0..5 {
             words.push(left % 3)?;
             left /= 3;
         }

@@ -103,6 +103,7 @@ fn load(
             point_at(guest, register, text, label)
         }
         Arg::A(count) => point_at(guest, register, vec![in alloc; b'a'; count]?, label),
+        Arg::S(count) => point_at(guest, register, vec![in alloc; b'/'; count]?, label),
         Arg::V(ranges) => point_at(guest, register, iovecs(alloc, ranges)?, label),
     }
 }

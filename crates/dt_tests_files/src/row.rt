@@ -9,6 +9,8 @@ pub enum Arg {
     T(&'static str),
     /// The address of so many letters `a` and a NUL.
     A(usize),
+    /// The address of so many slashes and a NUL.
+    S(usize),
     /// The address of a list of ranges, each with its address and its length (readv(2)).
     V(&'static [(i64, i64)]),
 }

@@ -83,11 +83,11 @@ fn changed_tree(alloc: Global, line: &str) -> Result<String, AllocError> {
 fn opened_tree(alloc: Global, line: &str) -> Result<String, AllocError> {
     format!(in alloc;
         "tree 17\n\
-        dir 2 0755 582000 /d\n\
-        file 3 0644 300000 0 {EMPTY} /d/g\n\
+        dir 2 0755 586000 /d\n\
+        file 3 0644 304000 0 {EMPTY} /d/g\n\
         dir 4 0755 0 /e\n\
-        file 5 0644 312000 0 {EMPTY} /f\n\
-        file 6 0000 297000 0 {EMPTY} /h\n\
+        file 5 0644 316000 0 {EMPTY} /f\n\
+        file 6 0000 301000 0 {EMPTY} /h\n\
         link 7 0 /i j\n\
         link 8 0 /j i\n\
         link 9 0 /k d\n\

@@ -54,7 +54,7 @@ fn a_word_chooses_how_much_is_taken(rt: HostRuntime) -> Result<(), Fail> {
 const IN_TURN: &[Row] = &[
     InPipe(PutAll(b"0123456789"), Done),
     InPipe(TakeAll(6, b"012345"), Done),
-    // What is put now goes round the end of the ring.
+    // What is put now stands behind what is left of the first piece.
     InPipe(PutAll(b"abcdefgh"), Done),
     InPipe(TakeAll(9, b"6789abcde"), Done),
     InPipe(PutAll(b"ABCDEFGHIJKLMNOPQRSTUVWXYZ"), Done),
@@ -101,6 +101,26 @@ const NOTHING: &[Row] = &[
     InPipe(Take(0, b""), Done),
     Ask(Clock, Number(21)),
 ];
+
+const CUT_SHORT: &[Row] = &[
+    InPipe(PutAll(b"some bytes"), Failed),
+    InPipe(TakeAll(16, b""), Failed),
+    InPipe(TakeAll(16, b"om"), Done),
+    Check(Faults, Number(2)),
+];
+
+#[test]
+fn whole_transfers_that_fail_keep_what_moved(rt: HostRuntime) -> Result<(), Fail> {
+    // Three bytes go in before a put fails, one comes out before a take fails.
+    let script = Script {
+        words: &[4, 2, 0, 1],
+        stream: 1,
+        fails: &[3, 5],
+    };
+    let mismatch = play(rt.alloc(), At::Pipe, &script, CUT_SHORT)?;
+    assert!(rt; mismatch.is_none(), "{mismatch:?}");
+    Ok(())
+}
 
 #[test]
 fn nothing_moves_without_a_word(rt: HostRuntime) -> Result<(), Fail> {

@@ -133,3 +133,30 @@ fn a_blob_past_the_limit_is_not_read(rt: HostRuntime) -> Result<(), Fail> {
     }
     Ok(())
 }
+
+// The store gives the index byte by byte, then the size of each blob up to the first that is not there, and fails at
+// the last of these calls or at the one after it.
+#[test]
+fn no_blob_is_read_before_all_checks(rt: HostRuntime) -> Result<(), Fail> {
+    let alloc = rt.alloc();
+    let two = index(alloc, "file:/a:420:a,file:/b:420:none")?;
+    let all = many(alloc, 4_096)?;
+    for (text, call, want, faults) in [
+        (two.as_str(), 2u64, ImageErr::Store, 1),
+        (two.as_str(), 3, ImageErr::Refused(Refusal::NoBlob), 0),
+        (all.as_str(), 4_096, ImageErr::Store, 1),
+        (all.as_str(), 4_097, ImageErr::Refused(Refusal::TooMany), 0),
+    ] {
+        let picker = Picker::new(vec![in alloc; 0; text.len()]?, 1);
+        // Before the sizes of blobs it gives that of the index.
+        let before = (text.len() as u64).saturating_add(1);
+        let fails = vec![in alloc; before.saturating_add(call)]?;
+        let mut store = folder(alloc, picker, fails, Some(text.as_bytes()), &BLOBS)?;
+        match read_image(alloc, &mut store, "img") {
+            Ok(_) => assert!(rt; false),
+            Err(error) => assert_eq!(rt; error, want),
+        }
+        assert_eq!(rt; store.faults(), faults);
+    }
+    Ok(())
+}

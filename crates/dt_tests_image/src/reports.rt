@@ -1,6 +1,6 @@
 // The texts of a report.
-use crate::folder::index;
-use dt_base::{Blob, End, Errno, Event, Verdict};
+use crate::folder::{folder, index};
+use dt_base::{Blob, End, Errno, Event, Image, Verdict};
 use dt_image::{event_text, events_text, header, read_image, tree_lines, verdict_text};
 use dt_memhost::{MemHost, MemStore, Picker};
 use dt_tree::Tree;
@@ -52,7 +52,7 @@ fn zeros(alloc: Global) -> Result<Picker, Fail> {
     Ok(Picker::new(vec![in alloc; 0; 1_000]?, 1))
 }
 
-// The lines of the tree of an image, whose host chooses by that picker. Blobs are `abc`, `empty` and `big`.
+// The lines of the tree of an index, whose host chooses by that picker. Blobs are `abc`, `empty` and `big`.
 fn lines_of(alloc: Global, line: &str, picker: Picker) -> Result<Blob, Fail> {
     let mut store = MemStore::new(alloc, Picker::new(Vec::new(alloc), 1), Vec::new(alloc))?;
     store.put("img/image.json", index(alloc, line)?.as_bytes())?;
@@ -60,9 +60,14 @@ fn lines_of(alloc: Global, line: &str, picker: Picker) -> Result<Blob, Fail> {
     store.put("img/empty", b"")?;
     store.put("img/big", &vec![in alloc; b'x'; 16_777_216]?)?;
     let image = read_image(alloc, &mut store, "img")?;
+    lines_of_image(alloc, &image, picker)
+}
+
+// The lines of the tree of this image, whose host chooses by that picker.
+fn lines_of_image(alloc: Global, image: &Image, picker: Picker) -> Result<Blob, Fail> {
     let mut host = MemHost::new(alloc, picker, Vec::new(alloc))?;
     let mut tree = Tree::new(alloc, &mut host)?;
-    tree.install(&mut host, &image)?;
+    tree.install(&mut host, image)?;
     Ok(tree_lines(alloc, &mut host, &tree)?)
 }
 
@@ -97,6 +102,28 @@ fn paths_and_targets_are_escaped(rt: HostRuntime) -> Result<(), Fail> {
         link 4 0 /%25~/%C3%A9/%7F a%20b%25%C3%A9\n";
     let alloc = rt.alloc();
     assert_eq!(rt; lines_of(alloc, line, stream(alloc, 1))?.as_slice(), want);
+    Ok(())
+}
+
+#[test]
+fn a_tree_of_a_thousand_levels_has_a_line_for_each(rt: HostRuntime) -> Result<(), Fail> {
+    let alloc = rt.alloc();
+    let mut path = String::from_str(alloc, "/d")?;
+    let mut line = String::from_str(alloc, "dir:/d:493:")?;
+    let mut want = String::from_str(alloc, "tree 1000\ndir 2 0755 0 /d\n")?;
+    for inode in 3..1_002u32 {
+        path.push_str("/d")?;
+        let entry = format!(in alloc; ",dir:{path}:493:")?;
+        line.push_str(entry.as_str())?;
+        let wanted = format!(in alloc; "dir {inode} 0755 0 {path}\n")?;
+        want.push_str(wanted.as_str())?;
+    }
+    let text = index(alloc, line.as_str())?;
+    let bytes = Some(text.as_bytes());
+    let mut store = folder(alloc, stream(alloc, 1), Vec::new(alloc), bytes, &[])?;
+    let image = read_image(alloc, &mut store, "img")?;
+    let lines = lines_of_image(alloc, &image, stream(alloc, 1))?;
+    assert!(rt; lines.as_slice() == want.as_bytes());
     Ok(())
 }
 

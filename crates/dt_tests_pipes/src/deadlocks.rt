@@ -346,7 +346,7 @@ fn not_all_wait(rt: HostRuntime) -> Result<(), Fail> {
     Ok(())
 }
 
-// Both make a directory and write to a file before they wait.
+// All make a directory and write to a file before they wait.
 const STANDING: &[&[Step]] = &[
     &[
         Text(PATH, *b"/n\0/f\0\0\0"),
@@ -370,6 +370,19 @@ const STANDING: &[&[Step]] = &[
         Write(3, PATH, 2),
         Pipe(0),
         Read(4, GOT, 1),
+        Exit(0),
+    ],
+    // No time passes while a pipe is made, written and read in between.
+    &[
+        Text(PATH, *b"/n\0/f\0\0\0"),
+        Calls(MKDIRAT, &[CWD, PATH, 0o755]),
+        Pipe(0),
+        Write(4, SENT, 9),
+        Read(3, GOT, 4),
+        Read(3, GOT, 9),
+        Calls(OPENAT, &[CWD, PATH + 3, O_APPEND | 1, 0]),
+        Write(5, PATH, 2),
+        Read(3, GOT, 1),
         Exit(0),
     ],
 ];

@@ -23,10 +23,10 @@ const UNCHANGED: &str = "tree 4\n\
     dir 2 0755 0 /d\n\
     file 3 0644 0 8 9c56cc51b374c3ba189210d5b6d4bf57790d351c96c47c02190ecf1e430635ab /f\n";
 
-// By the first of them each of so many transfers moves one byte.
+// The first 60,000 choices of the first of them are the least, so that each transfer among them moves one byte.
 const HOSTS: &[Words] = &[Words::Zeros(60_000), Words::Stream(1), Words::Stream(2)];
 
-/// By the first of these each transfer of a long run does.
+/// By the first of these each transfer of a long run moves one byte.
 pub const SLOW_HOSTS: &[Words] = &[Words::Zeros(1_000_000), Words::Stream(3)];
 
 /// For runs that are many.

@@ -1,7 +1,7 @@
 // Budgets that end in each kind of turn.
 use crate::setting::{ONE_HOST, SETTING};
 use dt_testing::Shown::{Code, Signal, Told};
-use dt_testing::Step::{At, Break, Call as Calls, Exit, Fork, Look, Spin, Tell, Text};
+use dt_testing::Step::{At, Break, Call as Calls, Exit, Fork, Look, Spin, Tell, Text, Word};
 use dt_testing::numbers::{BUFFER, EXECVE, GETPID, PATH, SOCKET, WAIT4};
 use dt_testing::{Schedule, Step, Turn};
 use std::alloc::Global;
@@ -115,6 +115,22 @@ const EXECUTING_TURNS: &[Turn] = &[
     },
 ];
 
+// A counter is read: the instruction is `rdcycle a0`.
+const READING: &[Step] = &[Word(0xc000_2573), Exit(3)];
+
+const READING_TURNS: &[Turn] = &[
+    // 2 that come first, and the reading.
+    Turn {
+        cost: 3,
+        shown: &[],
+    },
+    // 2 for argument and number, the call.
+    Turn {
+        cost: 3,
+        shown: &[Code(1, 3)],
+    },
+];
+
 const SCHEDULES: &[Schedule] = &[
     Schedule {
         first: WAITING,
@@ -148,6 +164,13 @@ const SCHEDULES: &[Schedule] = &[
         first: EXECUTING,
         second: EXECUTED,
         turns: EXECUTING_TURNS,
+        verdict: "ended",
+        status: 1,
+    },
+    Schedule {
+        first: READING,
+        second: &[],
+        turns: READING_TURNS,
         verdict: "ended",
         status: 1,
     },

@@ -2,7 +2,7 @@
 use crate::setting::{ONE_HOST, SETTING};
 use dt_testing::Shown::{Code, Given, Told};
 use dt_testing::Step::{Call as Calls, Exit, Put, Start, Tell, Text};
-use dt_testing::numbers::{ARGUMENTS, CHDIR, ENOTDIR, EXECVE, GETPID, PATH};
+use dt_testing::numbers::{ARGUMENTS, CHDIR, ENOEXEC, ENOTDIR, EXECVE, GETPID, PATH};
 use dt_testing::{Case, Outcome, Shown, Step, Trial};
 use std::alloc::{AllocError, Global};
 use std::test::Fail;
@@ -41,8 +41,9 @@ const REFUSED: &[(&[u8], i64)] = &[
     // A NUL.
     (b"#!/q\0\n", 8),
     (b"#!/q x\0", 8),
-    // A script, and files that are no executables.
+    // The script itself, another script, and files that are no executables.
     (b"#!/s\n", 8),
+    (b"#!/t\n", 8),
     (b"#!/f\n", 8),
     (b"# !/q\n", 8),
     (b" #!/q\n", 8),
@@ -207,31 +208,52 @@ fn scripts_that_are_executed(rt: HostRuntime) -> Result<(), Fail> {
     Ok(())
 }
 
-// A program executes a script that cannot start, and goes on with the answer.
+// A program executes the script with the argument `y`, and goes on where it gets an answer.
+const EXECUTES: &[Step] = &[
+    Text(PATH, *b"/s\0y\0\0\0\0"),
+    Put(ARGUMENTS, PATH),
+    Put(ARGUMENTS + 8, PATH + 3),
+    Calls(EXECVE, &[PATH, ARGUMENTS, 0]),
+    Calls(GETPID, &[]),
+    Tell,
+    Exit(0),
+];
+
+// How it comes otherwise than this where that program executes this script.
+fn executed(alloc: Global, script: &[u8], shown: &[Shown]) -> Result<String, Fail> {
+    let outcome = Outcome {
+        shown,
+        verdict: "ended",
+        status: 0,
+    };
+    let script = Vec::from_slice(alloc, script)?;
+    SETTING
+        .under(ONE_HOST)
+        .trial(alloc, EXECUTES, SHOWS)?
+        .with_blob("img/s", script)?
+        .differences(alloc, outcome)
+}
+
 #[test]
 fn scripts_that_cannot_be_executed(rt: HostRuntime) -> Result<(), Fail> {
     let alloc = rt.alloc();
-    let steps = [
-        Text(PATH, *b"/s\0\0\0\0\0\0"),
-        Calls(EXECVE, &[PATH, 0, 0]),
-        Calls(GETPID, &[]),
-        Tell,
-        Exit(0),
-    ];
     for (script, errno) in REFUSED {
         let answers = [errno.wrapping_neg(), 1];
-        let shown: [Shown; 2] = [Told(&answers), Code(1, 0)];
-        let outcome = Outcome {
-            shown: &shown,
-            verdict: "ended",
-            status: 0,
-        };
-        let script = Vec::from_slice(alloc, script)?;
-        let trial = SETTING.under(ONE_HOST).trial(alloc, &steps, SHOWS)?;
-        let differences = trial
-            .with_blob("img/s", script)?
-            .differences(alloc, outcome)?;
+        let differences = executed(alloc, script, &[Told(&answers), Code(1, 0)])?;
         assert_eq!(rt; differences.as_str(), "", "{errno}");
     }
+    Ok(())
+}
+
+#[test]
+fn a_line_that_is_executed_has_at_most_255_bytes(rt: HostRuntime) -> Result<(), Fail> {
+    let alloc = rt.alloc();
+    let bytes = longest(alloc)?;
+    let script = line(alloc, 250, "\n")?;
+    let differences = executed(alloc, &script, &[Given(4, &bytes), Code(1, 0)])?;
+    assert_eq!(rt; differences.as_str(), "");
+    let script = line(alloc, 251, "\n")?;
+    let differences = executed(alloc, &script, &[Told(&[ENOEXEC, 1]), Code(1, 0)])?;
+    assert_eq!(rt; differences.as_str(), "");
     Ok(())
 }

@@ -129,7 +129,7 @@ fn each_order_of_arrival_gives_the_same_bytes(rt: HostRuntime) -> Result<(), Fai
     let alloc = rt.alloc();
     let file = trio(alloc)?;
     for run in [ENOUGH, SHORT, ONE_END, NO_END] {
-        for number in 0..81 {
+        for number in 0..243 {
             let difference = run.difference(alloc, &file, TREE, "", Words::Digits(number))?;
             assert_eq!(rt; difference.as_str(), "");
         }

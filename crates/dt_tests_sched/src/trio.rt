@@ -26,22 +26,48 @@ fn costs(turn: usize) -> [u32; 4] {
     costs
 }
 
-// How many turns there are, and what comes after them. Before a turn all segments that are owed arrive, or only as many
-// as the head waits for; an index picks which of them comes first.
-fn run(rt: HostRuntime, budget: u64, all: bool, index: usize) -> Result<(usize, Head), Fail> {
+// The four last digits of a number to base 3, from the last one on.
+fn digits(number: usize) -> [usize; 4] {
+    [number % 3, number / 3 % 3, number / 9 % 3, number / 27 % 3]
+}
+
+// How a run came: whose segments arrived, in their order, how many turns there were, and what came after them.
+#[derive(Drop)]
+struct Played {
+    arrived: Vec<u32>,
+    turns: usize,
+    head: Head,
+}
+
+// Before a turn all segments that are owed arrive, or only as many as the head waits for. Which of them comes next is
+// picked by the digits of a number, again and again.
+fn run(rt: HostRuntime, budget: u64, all: bool, number: usize) -> Result<Played, Fail> {
+    let digits = digits(number);
+    let mut arrived = Vec::new(rt.alloc());
     let mut driver = Driver::new(rt.alloc(), budget)?;
     for (turn, (vpid, _, came)) in TURNS.iter().enumerate() {
         for _ in 0..3 {
             if all || matches!(driver.core().head(), Head::NotArrived(_)) {
-                driver.arrive(index, &costs(turn));
+                let index = digits[arrived.len() % 4];
+                if let Some(vpid) = driver.arrive(index, &costs(turn)) {
+                    arrived.push(vpid)?;
+                }
             }
         }
         let head = driver.turn(*came);
         if head != Head::Ready(*vpid) {
-            return Ok((turn, head));
+            return Ok(Played {
+                arrived,
+                turns: turn,
+                head,
+            });
         }
     }
-    Ok((TURNS.len(), driver.core().head()))
+    Ok(Played {
+        arrived,
+        turns: TURNS.len(),
+        head: driver.core().head(),
+    })
 }
 
 #[test]
@@ -54,11 +80,26 @@ fn schedule_is_the_same_in_every_order_of_arrival(rt: HostRuntime) -> Result<(),
         (12, 2, Verdict::Budget),
     ] {
         for all in [false, true] {
-            for index in 0..3 {
-                let ended = run(rt, budget, all, index)?;
-                assert_eq!(rt; ended, (turns, Head::Over(verdict)), "{budget} {index}");
+            for number in 0..81 {
+                let played = run(rt, budget, all, number)?;
+                let ended = (played.turns, played.head);
+                assert_eq!(rt; ended, (turns, Head::Over(verdict)), "{budget} {number}");
             }
         }
     }
+    Ok(())
+}
+
+// Where segments arrive only while the head waits for its own, there are eleven orders.
+#[test]
+fn numbers_give_each_order_of_arrival(rt: HostRuntime) -> Result<(), Fail> {
+    let mut orders: Vec<Vec<u32>> = Vec::new(rt.alloc());
+    for number in 0..81 {
+        let played = run(rt, 1000, false, number)?;
+        if !orders.contains(&played.arrived) {
+            orders.push(played.arrived)?;
+        }
+    }
+    assert_eq!(rt; orders.len(), 11);
     Ok(())
 }

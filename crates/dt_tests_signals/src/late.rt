@@ -120,7 +120,7 @@ impl Program<'_> {
             let one = self.difference(alloc, ample, host.as_str(), Words::Stream(1))?;
             all.push_str(one.as_str())?;
         }
-        for number in 0..27 {
+        for number in 0..243 {
             let one = self.difference(alloc, ample, "", Words::Digits(number))?;
             all.push_str(one.as_str())?;
         }

@@ -112,3 +112,15 @@ fn names_end_at_255_bytes(rt: HostRuntime) -> Result<(), Fail> {
     assert!(rt; mismatch.is_none(), "{mismatch:?}");
     Ok(())
 }
+
+#[test]
+fn a_path_of_4095_bytes_is_walked(rt: HostRuntime) -> Result<(), Fail> {
+    let path = repeated(rt.alloc(), b"/", 4_090, b"hello")?;
+    let rows = [Row(
+        Walk(path.as_slice(), Keep),
+        Leads(1, b"hello", Some(5), false),
+    )];
+    let mismatch = play(rt.alloc(), 6, &rows)?;
+    assert!(rt; mismatch.is_none(), "{mismatch:?}");
+    Ok(())
+}

@@ -8,6 +8,7 @@ use Rattle.std.specs.Ordering.{nat_cmp, is_eq, eq_by_cmp}
 use Rattle.std.specs.Cmp.{nat_cmp_total}
 use Rattle.std.specs.FinMap.{FinMap, IsAntisymmetric, get, keys, len, remove, empty_of_len, get-empty, len-remove, contains_key-keys, nat_cmp-IsAntisymmetric}
 use Rattle.dt_host.specs.World.{Forest, names_at, entry, IsDir}
+use Rattle.dt_host.proofs.Found.{none_there, some_true}
 use Rattle.dt_host.proofs.MapOf.{equal_if}
 use Rattle.dt_host.proofs.Maps.{names_tie, at_remove}
 use Rattle.dt_host.proofs.Spots.{IsDir-entry, IsLive-IsDir}
@@ -52,10 +53,6 @@ some_of (Some x) e = (x, refl)
 positive : {X : Type 0} (m : FinMap nat_cmp X) (n : ℕ) → IsSome (get m n) → 0 < len m
 positive m n h = by_len (len m) refl
   where
-    none_there : {X : Type 0} (found : Option X) → found ≡ None → IsSome found → ⊥
-    none_there None e h = cc
-    none_there (Some x) e h = cc
-
     by_len : (l : ℕ) → len m ≡ l → 0 < len m
     by_len zero e = absurd (none_there (get m n) (ap (λ m. get m n) (empty_of_len m e) ∙ get-empty nat_cmp n) h)
     by_len (suc l) e = omega arith
@@ -91,12 +88,8 @@ module _ (v : Forest) where
   unfolding parent_at
   has_parent d n name e =
       let live = IsLive-IsDir v d (IsDir-entry v d name n e) in
-      let there = sym (contains_key-keys v.nodes d) ∙ is_true (get v.nodes d) live in
+      let there = sym (contains_key-keys v.nodes d) ∙ some_true (get v.nodes d) live in
       finds nat_cmp-IsAntisymmetric (λ d. is_some (name_in v d n)) (keys v.nodes) d there (has_name d n name e)
-    where
-      is_true : {X : Type 0} (found : Option X) → IsSome found → is_some found ≡ true
-      is_true None h = cc
-      is_true (Some x) h = refl
 
   -- a node without names has no parent
   pub no_parent : (n : ℕ) → names_of v n ≡ 0 → parent_at v n ≡ None
@@ -113,11 +106,6 @@ module _ (v : Forest) where
         let some = some_of (parent_at v n) (has_parent d n name e) in
         let spot = parent-entry n some.0 some.1 in
         some.1 ∙ ap Some (one_spot v s n some.0 d spot.0 name is spot.2 e).0
-
-    pub name_is : (n d : ℕ) (name : List ℕ) → IsDir v n → entry v d name ≡ Some n → name_in v d n ≡ Some name
-    name_is n d name is e =
-        let some = some_of (name_in v d n) (has_name d n name e) in
-        some.1 ∙ ap Some (one_spot v s n d d some.0 name is (name_in-entry d n some.0 some.1) e).1
 
     -- the directories above one are nodes of their own, so there are as many nodes
     fits : {X : Type 0} (m : FinMap nat_cmp X) (k n : ℕ) → IsDir v n → LeadsUp v k n v.root → ((q j : ℕ) → j ≤ k → IsDir v q → LeadsUp v j q v.root → IsSome (get m q)) → k < len m

@@ -6,6 +6,7 @@ use Rattle.std.specs.Cmp.{nat_cmp_total}
 use Rattle.std.specs.Cmp.Lexicographic.{slice_cmp, nat_list_cmp_total}
 use Rattle.std.specs.FinMap.{empty, get, insert, get-empty, same_map, nat_cmp-IsAntisymmetric}
 use Rattle.dt_host.specs.World.{Forest, Node, file, dir, link, node_at, dir_names, names_at, entry, with_node, IsLive}
+use Rattle.dt_host.proofs.Found.{none_there}
 use Rattle.dt_host.proofs.Maps.{at_insert, names_tie, get-insert_same, get-insert_other}
 use Rattle.dt_tree.specs.declared.inode.Inode.{Inode}
 use Rattle.dt_tree.specs.Shape.{names_of, name_count}
@@ -23,14 +24,10 @@ renumbered-bare f (file bytes) e = refl
 renumbered-bare f (link target) e = refl
 renumbered-bare f (dir names) e = ap dir (same_map nat_list_cmp_total names_tie _ _ (λ q. get-map_values nat_list_cmp_total f names q ∙ ap (λ m. option_map f (get m q)) e ∙ ap (option_map f) (get-empty (slice_cmp nat_cmp) q) ∙ sym (ap (λ m. get m q) e ∙ get-empty (slice_cmp nat_cmp) q)))
 
-gone_live : (found : Option Node) → IsSome found → found ≡ None → ⊥
-gone_live None a b = cc
-gone_live (Some x) a b = cc
-
 module _ (t : Table) (v : Forest) (inode : Inode) (node : Node) (s : Mirrors t v) (free : get t.inodes t.next ≡ None) (free_real : node_at v inode.real ≡ None) (bare : unwrap_or (dir_names node) empty ≡ empty) where
   -- a live number of the host isn't the new one
   apart_real : (real : ℕ) → IsLive v real → real ≢ inode.real
-  apart_real real live same = gone_live (node_at v real) live (ap (node_at v) same ∙ free_real)
+  apart_real real live same = none_there (node_at v real) (ap (node_at v) same ∙ free_real) live
 
   same_numbers : (other : Inode) (found : Option Node) → node_at v other.real ≡ found → renumbered (virtual (with_new t inode)) (unwrap_or found (file [])) ≡ renumbered (virtual t) (unwrap_or found (file []))
   unfolding entry names_at

@@ -54,9 +54,6 @@ module _ (t : FileTree) (k : ℕ) (f : Attributes → Attributes) where
       by_found None = refl
       by_found (Some a) = same a
 
-  pub holds-other : (q : ℕ) → q ≢ k → holds_of (with_attributes t k f) q ≡ holds_of t q
-  holds-other q apart = at_attributes (λ found. unwrap_or (option_map (λ a. a.holds) found) 0 ≡ holds_of t q) q (λ same. absurd (apart same)) (λ _. refl)
-
   -- other attributes make a tree, where the mode stays good and the holds grow, but for a node that may be lost
   pub IsTreeBut-with_attributes : (lost : Option ℕ) → IsTreeBut lost t → ((node : Node) (a : Attributes) → node_at t.shape k ≡ Some node → IsGoodNode node a.mode → (let b = f a in IsGoodNode node b.mode)) → (lost ≢ Some k → (a : Attributes) → (let b = f a in a.holds ≤ b.holds)) → IsTreeBut lost (with_attributes t k f)
   IsTreeBut-with_attributes lost s good more = record {

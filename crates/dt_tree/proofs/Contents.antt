@@ -3,6 +3,7 @@ use Rattle.std.proofs.Common.{arith, ◌≡◌, ℕ, ◌+◌, ◌-◌, ◌≤◌
 use Rattle.std.proofs.Math.Seq.{take-length}
 use Rattle.std.proofs.lemmas.Bool.{cases_eq}
 use Rattle.std.proofs.lemmas.List.{length-replicate, length-take-le, length-drop}
+use Rattle.std.proofs.lemmas.Option.{same_Some}
 use Rattle.std.specs.Prelude.{true, IsSome, is_some, IfSome, OnOk, Result, Ok, Err, unwrap_or, option_map, option_and_then}
 use Rattle.std.specs.Cmp.Lexicographic.{slice_cmp, nat_list_cmp_total}
 use Rattle.std.specs.Ordering.{nat_cmp}
@@ -25,7 +26,7 @@ use Rattle.dt_tree.specs.inner.Files.{with_content, with_padding, with_written}
 use Rattle.dt_tree.specs.Table.{Table, shape_of, tree_of, kind_of, IsUp, Keeps, Mirrors, Stands}
 use Rattle.dt_tree.proofs.Namings.{names_of-with_node, name_count-with_node}
 use Rattle.dt_tree.proofs.Shapes.{carry, inside}
-use Rattle.dt_tree.proofs.Mirroring.{same_some, shape-with_node, file_at-inode}
+use Rattle.dt_tree.proofs.Mirroring.{shape-with_node, file_at-inode}
 use Rattle.dt_tree.proofs.Linked.{pairs-same_nodes}
 use Rattle.dt_tree.proofs.Changing.{IsTreeBut-stamped, IsTreeBut-with_shape}
 use Rattle.dt_tree.proofs.Holding.{KeepsHeld-then, KeepsHeld-stamped, KeepsHeld-with_shape}
@@ -113,7 +114,7 @@ IsTree-with_bytes t n bytes s is fits =
     (same_nodes t.shape n bytes is)
     (len-with_node t.shape n (file bytes) (live_file t.shape n bytes is))
     (λ q node a. at_node t.shape n (file bytes) (λ found. found ≡ Some node → get t.attributes q ≡ Some a → IsGoodNode node a.mode) q
-    (λ same e kept. subst (λ x. IsGoodNode x a.mode) (same_some (file bytes) node e) (fits, mode q same a kept))
+    (λ same e kept. subst (λ x. IsGoodNode x a.mode) (same_Some (file bytes) node e) (fits, mode q same a kept))
     (λ _ e kept. s.good q node a e kept))
     (omega (arith, name_count-with_file t.shape n bytes is, s.few_names))
     (λ q _. omega (arith, names_of-with_file t.shape n bytes is q))

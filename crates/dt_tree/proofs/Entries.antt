@@ -3,7 +3,7 @@ use Rattle.std.proofs.Common.{arith, ◌≡◌, ◌≢◌, inl, inr, ℕ, zero, 
 use Rattle.std.proofs.lemmas.Bool.{cases_order, and_parts}
 use Rattle.std.proofs.lemmas.Cmp.{tied_itself}
 use Rattle.std.proofs.lemmas.List.{take_more}
-use Rattle.std.proofs.lemmas.Option.{get_or_from_slice_get, slice_get_within}
+use Rattle.std.proofs.lemmas.Option.{get_or_from_slice_get, same_Some, slice_get_within}
 use Rattle.std.specs.Prelude.{slice_get}
 use Rattle.std.specs.List.{list_all, list_any}
 use Rattle.std.specs.declared.cmp.Ordering.{Ordering}
@@ -125,7 +125,4 @@ module _ (entries : List Entry) (h : is_rising entries ≡ true) where
   ]
     where
       same_path : i ≡ j → x.path ≡ y.path
-      same_path e = let same : x ≡ y = one_entry x y (sym at_i ∙ ap (slice_get entries) e ∙ at_j) in ap (λ (e : Entry). e.path) same
-        where
-          one_entry : (x y : Entry) → Some x ≡ Some y → x ≡ y
-          one_entry x y e = cc
+      same_path e = let same : x ≡ y = same_Some x y (sym at_i ∙ ap (slice_get entries) e ∙ at_j) in ap (λ (e : Entry). e.path) same

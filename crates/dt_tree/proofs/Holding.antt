@@ -6,7 +6,7 @@ use Rattle.std.specs.Cmp.{nat_cmp_total}
 use Rattle.std.specs.FinMap.{get, nat_cmp-IsAntisymmetric}
 use Rattle.dt_host.specs.World.{Forest, Node, node_at, without_node, IsDir, IsFile, IsLive, IsBare}
 use Rattle.dt_host.proofs.Maps.{get-remove_same, get-remove_other}
-use Rattle.dt_host.proofs.Gone.{IsFile-without_node, IsDir-without_node, IsLive-without_node}
+use Rattle.dt_host.proofs.Gone.{IsFile-without_node, IsDir-without_node}
 use Rattle.dt_tree.specs.Shape.{one_for}
 use Rattle.dt_tree.specs.FileTree.{Attributes, FileTree, holds_of, IsTree, IsTreeBut}
 use Rattle.dt_tree.specs.Changes.{with_shape, with_attributes, one_more, one_fewer, with_stamp, stamped, is_unused, tree_without, swept, swept_found, held, released}
@@ -90,15 +90,6 @@ holds-held t s n live q = at_attributes t n one_more (λ found. unwrap_or (optio
 pub shape-held : (t : FileTree) (n : ℕ) → (held t n).shape ≡ t.shape
 shape-held t n = shape-with_attributes t n one_more
 
-pub IsFile-held : (t : FileTree) (n q : ℕ) → IsFile t.shape q → (let new = held t n in IsFile new.shape q)
-IsFile-held t n q is = subst (λ v. IsFile v q) (sym (shape-held t n)) is
-
-pub IsDir-held : (t : FileTree) (n q : ℕ) → IsDir t.shape q → (let new = held t n in IsDir new.shape q)
-IsDir-held t n q is = subst (λ v. IsDir v q) (sym (shape-held t n)) is
-
-pub IsLive-held : (t : FileTree) (n q : ℕ) → IsLive t.shape q → (let new = held t n in IsLive new.shape q)
-IsLive-held t n q live = subst (λ v. IsLive v q) (sym (shape-held t n)) live
-
 module _ (t : FileTree) (n : ℕ) where
   -- before a sweep
   fewer : 1 ≤ holds_of t n → (q : ℕ) → holds_of (with_attributes t n one_fewer) q + one_for n q ≡ holds_of t q
@@ -142,6 +133,3 @@ module _ (t : FileTree) (n : ℕ) where
 
   pub IsDir-released : IsTree t → (q : ℕ) → (q ≡ n → 1 ≤ holds_of (released t n) q) → IsDir t.shape q → (let new = released t n in IsDir new.shape q)
   IsDir-released = kept IsDir (λ v bare q apart is. IsDir-without_node v n bare q apart is)
-
-  pub IsLive-released : IsTree t → (q : ℕ) → (q ≡ n → 1 ≤ holds_of (released t n) q) → IsLive t.shape q → (let new = released t n in IsLive new.shape q)
-  IsLive-released = kept IsLive (λ v bare q apart is. IsLive-without_node v n bare q apart is)

@@ -2,7 +2,6 @@
 use Rattle.std.proofs.Common.{arith, ◌≡◌, ◌⊎◌, inl, inr, ℕ, ◌+◌, ◌≤◌, ◌<◌, List, [], length, take, get_or, Bool, true, false, ◌||◌, Option, Some, None, Ok, Err, refl, sym, ap, subst, ◌∙◌}
 use Rattle.std.proofs.lemmas.Bool.{cases_eq, cases_lt, and_parts}
 use Rattle.std.proofs.lemmas.Cmp.{tied_itself}
-use Rattle.std.proofs.lemmas.List.{length-take}
 use Rattle.std.proofs.lemmas.Option.{slice_get_within, slice_get-get_or, get_or_from_slice_get}
 use Rattle.std.proofs.lemmas.Slice.Eq.{bytes_eq-Decides}
 use Rattle.std.specs.Prelude.{IsTrue, IsSome, slice_get, unwrap_or, option_and_then}
@@ -44,9 +43,6 @@ module _ (entries : List Entry) (is : IsImage entries) (i : ℕ) (e : Entry) (at
 
   low : i < ENTRY_LIMIT
   low = let within = slice_get_within entries i e at in let few = is.few in omega arith
-
-  taken_len : length (take i entries) ≡ i
-  taken_len = let size = length-take i entries in let within = slice_get_within entries i e at in omega arith
 
   good_path_at : (k : ℕ) (x : Entry) → slice_get entries k ≡ Some x → is_path x.path ≡ true
   good_path_at k x at_k = (and_parts (is_path x.path) (is_good_what x.what x.mode) (all_at is_good_entry entries k x is.good at_k)).0

@@ -6,6 +6,7 @@ use Rattle.std.specs.FinMap.{get, insert, nat_cmp-IsAntisymmetric}
 use Rattle.dt_host.specs.World.{Forest, Node, Names, file, dir, link, node_at, dir_names, entry, with_node, with_entry, without_entry, IsDir, IsLive}
 use Rattle.dt_host.specs.inner.Weight.{weight}
 use Rattle.dt_host.specs.Values.{map_values}
+use Rattle.dt_host.proofs.Found.{not_both}
 use Rattle.dt_host.proofs.Maps.{at_insert, put_back as insert-there}
 use Rattle.dt_host.proofs.Spots.{IsDir-entry, at_with_entry, is_some-with_entry, IsLive-with_entry, root-with_entry}
 use Rattle.dt_host.proofs.Gone.{at_without_entry, is_some-without_entry, IsLive-without_entry, root-without_entry}
@@ -13,7 +14,7 @@ use Rattle.dt_host.proofs.Valued.{get-map_values, map_values-insert}
 use Rattle.dt_tree.specs.declared.inode.Kind.TheVariants.{Dir}
 use Rattle.dt_tree.specs.declared.inode.Inode.{Inode}
 use Rattle.dt_tree.specs.Above.{parent_at}
-use Rattle.dt_tree.specs.Shape.{one_for, names_of, name_count, is_removed}
+use Rattle.dt_tree.specs.Shape.{one_for, names_of, name_count}
 use Rattle.dt_tree.specs.Table.{Table, real_of, shape_of, attributes_of, tree_of, kind_of, IsUp, Keeps, Pairs, Mirrors, Stands}
 use Rattle.dt_tree.specs.inner.Tables.{with_inode, with_names}
 use Rattle.dt_tree.specs.FileTree.{Attributes, holds_of}
@@ -128,10 +129,7 @@ module _ (t : Table) (v : Forest) (d m : ℕ) (above old : Inode) (name : List �
   tree-named = let attributes = attributes-same t m old (record old { names = old.names + 1; up = Some d }) at_m refl in let shape = shape-named in λ i. record { shape = shape i; attributes = attributes i; next = t.next }
 
   stays : (q n : ℕ) (c : List ℕ) → entry (shape_of t v) q c ≡ Some n → entry (with_entry (shape_of t v) d name m) q c ≡ Some n
-  stays q n c e = at_with_entry (shape_of t v) d name m (λ found. found ≡ Some n) q c (λ same alike. absurd (none_here (entry (shape_of t v) q c) (ap (λ x. entry (shape_of t v) x c) same ∙ ap (entry (shape_of t v) d) alike ∙ free) e)) (λ _. e)
-    where
-      none_here : (found : Option ℕ) → found ≡ None → found ≡ Some n → ⊥
-      none_here found a b = cc
+  stays q n c e = at_with_entry (shape_of t v) d name m (λ found. found ≡ Some n) q c (λ same alike. absurd (not_both (entry (shape_of t v) q c) n (ap (λ x. entry (shape_of t v) x c) same ∙ ap (entry (shape_of t v) d) alike ∙ free) e)) (λ _. e)
 
   count : (n : ℕ) → names_of (with_entry (shape_of t v) d name m) n ≡ names_of (shape_of t v) n + one_for n m
   count n = let sum = names_of-with_entry (shape_of t v) d n name m in let none = ap (weight (one_for n)) free in omega arith
@@ -231,10 +229,6 @@ up-inode t v n inode s there is =
     by_up : (up : Option ℕ) → IsUp (shape_of t v) n up → up ≡ parent_at (shape_of t v) n
     by_up None h = sym (no_parent (shape_of t v) n h)
     by_up (Some d) h = sym (parent_is (shape_of t v) s.tree.shaped n d h.0 is h.1)
-
-pub is_removed-inode : (t : Table) (v : Forest) (n : ℕ) (inode : Inode) → Mirrors t v → get t.inodes n ≡ Some inode → is_removed (shape_of t v) n ≡ (not (n == 1) && (inode.names == 0))
-unfolding shape_of
-is_removed-inode t v n inode s there = ap (λ k. not (n == 1) && (k == 0)) (sym (s.kept n inode there).names)
 
 -- what the test for an unused node reads, by what is kept of it
 pub is_unused-inode : (t : Table) (v : Forest) (n : ℕ) (inode : Inode) → Mirrors t v → get t.inodes n ≡ Some inode → is_unused (tree_of t v) n ≡ (not (n == 1) && (inode.names == 0) && (inode.holds == 0))

@@ -5,6 +5,7 @@ use Rattle.std.specs.Cmp.{nat_cmp_total}
 use Rattle.std.specs.FinMap.{get}
 use Rattle.dt_host.specs.World.{Forest, Node, file, dir, link, node_at, dir_names, dir_at, link_target, target_at, file_bytes, file_at, IsDir, IsLink, content}
 use Rattle.dt_host.specs.Values.{map_values}
+use Rattle.dt_host.proofs.Found.{some_true}
 use Rattle.dt_host.proofs.Valued.{get-map_values}
 use Rattle.dt_tree.specs.declared.inode.Kind.{Kind}
 use Rattle.dt_tree.specs.declared.inode.Kind.TheVariants.{File, Dir, Link}
@@ -85,15 +86,6 @@ module _ (t : Table) (v : Forest) (s : Mirrors t v) (n : ℕ) (inode : Inode) (a
   pub real_link : inode.kind ≡ Link → IsLink v inode.real
   real_link is = let it = kept_link is in subst (λ found. IsSome found) (sym it.2) refl
 
-  pub is_dir-some : (inode.kind ≡ Dir → true ≡ is_dir (shape_of t v) n)
-  is_dir-some is = by_node (node_at (shape_of t v) n) ((s.kept n inode at).kind ∙ ap Some is)
-    where
-      by_node : (found : Option Node) → option_map kind_of found ≡ Some Dir → true ≡ is_some (option_and_then dir_names found)
-      by_node None h = cc
-      by_node (Some (file bytes)) h = cc
-      by_node (Some (dir names)) h = refl
-      by_node (Some (link target)) h = cc
-
   -- what is told of a node
   pub meta-kept : (nlink size : ℕ) → nlink ≡ nlink_of (shape_of t v) n → option_map node_size (node_at (shape_of t v) n) ≡ Some size → meta_of (tree_of t v) n ≡ Some (record { kind = type_for inode.kind; mode = inode.mode; nlink = nlink; size = size; stamp = inode.stamp })
   meta-kept nlink size links sized =
@@ -118,10 +110,6 @@ module _ (t : Table) (v : Forest) (s : Mirrors t v) (n : ℕ) (inode : Inode) (a
 pub content-inode : (t : Table) (v : Forest) (s : Pairs t v) (n : ℕ) (inode : Inode) → get t.inodes n ≡ Some inode → content (shape_of t v) n ≡ content v inode.real
 unfolding content
 content-inode t v s n inode at = ap (λ (found : Option (List ℕ)). unwrap_or found []) (file_at-inode t v s n inode at)
-
-some_true : {X : Type 0} (found : Option X) → IsSome found → is_some found ≡ true
-some_true None h = cc
-some_true (Some x) h = refl
 
 pub nlink_of-removed : (v : Forest) (d : ℕ) → IsDir v d → is_removed v d ≡ true → nlink_of v d ≡ 0
 nlink_of-removed v d is gone = ap (λ b. cond b (cond (is_removed v d) 0 (2 + subdirectories v d)) (names_of v d)) (some_true (dir_at v d) is) ∙ ap (λ b. cond b 0 (2 + subdirectories v d)) gone

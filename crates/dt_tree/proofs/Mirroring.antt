@@ -1,6 +1,7 @@
 -- A change of the host and of a inode is a change of the tree that they give.
 use Rattle.std.proofs.Common.{◌≡◌, ◌≢◌, ℕ, List, [], length, true, false, Option, Some, None, refl, sym, ap, subst, ◌∙◌}
 use Rattle.std.proofs.lemmas.List.{length-map}
+use Rattle.std.proofs.lemmas.Option.{same_Some}
 use Rattle.std.specs.Prelude.{IsSome, is_some, unwrap_or, option_map, option_and_then}
 use Rattle.std.specs.Ordering.{nat_cmp}
 use Rattle.std.specs.Cmp.{nat_cmp_total}
@@ -8,15 +9,13 @@ use Rattle.std.specs.Cmp.Lexicographic.{slice_cmp, nat_list_cmp_total}
 use Rattle.std.specs.FinMap.{empty, entries, len, len-entries, get, insert, remove, get-empty, same_map, nat_cmp-IsAntisymmetric}
 use Rattle.dt_host.specs.World.{Forest, Node, file, dir, link, file_bytes, file_at, IsFile, link_target, target_at, IsLink, node_at, dir_names, names_at, entry, with_node, with_entry, without_entry, IsDir, IsLive}
 use Rattle.dt_host.specs.Values.{map_values}
+use Rattle.dt_host.proofs.Found.{none_there}
 use Rattle.dt_host.proofs.Maps.{at_insert, names_tie, get-insert_same, get-insert_other}
 use Rattle.dt_host.proofs.Spots.{IsDir-entry, IsLive-IsDir, IsLive-IsFile}
 use Rattle.dt_host.proofs.Valued.{get-map_values, map_values-insert, map_values-remove, entries-map_values}
 use Rattle.dt_tree.specs.declared.inode.Inode.{Inode}
 use Rattle.dt_tree.specs.Table.{Table, virtual, renumbered, node_for, shape_of, Pairs}
 use Rattle.dt_tree.specs.inner.Tables.{with_inode, with_names}
-
-pub same_some : {X : Type 0} (x y : X) → Some x ≡ Some y → x ≡ y
-same_some x y e = cc
 
 -- the node of a number, by its inode
 pub node_at-shape : (t : Table) (v : Forest) (q : ℕ) → node_at (shape_of t v) q ≡ option_map (node_for t v) (get t.inodes q)
@@ -167,18 +166,11 @@ module _ (t : Table) (v : Forest) (s : Pairs t v) (d : ℕ) (inode : Inode) (nam
       by_back : (real : ℕ) (found : Option ℕ) → entry v inode.real name ≡ Some real → get t.by_real real ≡ found → IsSome found → IsSome (get t.inodes n)
       by_back real None p q h = cc
       by_back real (Some m) p q h =
-          let same : m ≡ n = same_some m n (sym (entry-number real m p q) ∙ e) in
+          let same : m ≡ n = same_Some m n (sym (entry-number real m p q) ∙ e) in
           by_inode (get t.inodes n) real (s.back real n (q ∙ ap Some same))
 
       by_real : (found : Option ℕ) → entry v inode.real name ≡ found → IsSome (get t.inodes n)
-      by_real None p = absurd (none_there (real_named n e))
-        where
-          gone : (found : Option ℕ) → found ≡ None → IsSome found → ⊥
-          gone None a b = cc
-          gone (Some x) a b = cc
-
-          none_there : IsSome (entry v inode.real name) → ⊥
-          none_there h = gone (entry v inode.real name) p h
+      by_real None p = absurd (none_there (entry v inode.real name) p (real_named n e))
       by_real (Some real) p = by_back real (get t.by_real real) p refl (has_number real p)
 
 -- what is kept is there
@@ -244,7 +236,7 @@ module _ (t : Table) (v : Forest) (s : Pairs t v) (d n : ℕ) (above inode : Ino
       by_back : (real : ℕ) (found : Option ℕ) → entry v above.real name ≡ Some real → get t.by_real real ≡ found → IsSome found → entry v above.real name ≡ Some inode.real
       by_back real None p q h = cc
       by_back real (Some m) p q h =
-          let same : m ≡ n = same_some m n (sym (entry-number t v s d above name at_d real m p q) ∙ e) in
+          let same : m ≡ n = same_Some m n (sym (entry-number t v s d above name at_d real m p q) ∙ e) in
           let there = s.back real n (q ∙ ap Some same) in
           let at = ap (option_map (λ (inode : Inode). inode.real)) at_n in
           let real_is : real ≡ inode.real = cc in

@@ -4,6 +4,7 @@ use Rattle.std.proofs.lemmas.Bool.{cases_eq}
 use Rattle.std.specs.Prelude.{IfSome, unwrap_or}
 use Rattle.dt_host.specs.World.{Forest, entry, with_entry, without_entry, IsDir, IsFile, IsLive, IsBare}
 use Rattle.dt_host.specs.inner.Weight.{weight}
+use Rattle.dt_host.proofs.Found.{not_both}
 use Rattle.dt_host.proofs.Changes.{IsFile-bound}
 use Rattle.dt_host.proofs.Spots.{IsDir-entry, at_with_entry, IsDir-with_entry, IsDir-from_with_entry, IsLive-with_entry, is_some-with_entry, len-with_entry, root-with_entry}
 use Rattle.dt_host.proofs.Gone.{at_without_entry, IsDir-without_entry, IsDir-from_without_entry, IsFile-without_entry, IsLive-without_entry, is_some-without_entry, len-without_entry, root-without_entry, without_entry-none, with_entry-cleared}
@@ -16,7 +17,7 @@ use Rattle.dt_tree.specs.Changes.{with_shape, with_stamp, stamped, swept_found, 
 use Rattle.dt_tree.specs.Calls.{KeepsHeld, MayMove}
 use Rattle.dt_tree.specs.inner.Moves.{IsMove}
 use Rattle.dt_tree.proofs.Namings.{one_for-same, weight_zero, names_of-with_entry, names_of-without_entry, name_count-with_entry, name_count-without_entry, named}
-use Rattle.dt_tree.proofs.Shapes.{not_both, same_number, itself, inside, carry, root_if_both}
+use Rattle.dt_tree.proofs.Shapes.{same_number, itself, inside, carry, root_if_both}
 use Rattle.dt_tree.proofs.Below.{is_below-exact}
 use Rattle.dt_tree.proofs.Changing.{shape-with_attributes, IsTreeBut-stamped, IsTreeBut-with_shape, IsTree-swept_found}
 use Rattle.dt_tree.proofs.GoodNodes.{good-with_entry, good-without_entry}

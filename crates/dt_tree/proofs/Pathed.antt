@@ -19,8 +19,9 @@ use Rattle.dt_host.proofs.Conjuncts.{first, second}
 use Rattle.dt_host.specs.World.{Forest, Names, IsDir}
 use Rattle.dt_host.proofs.Spots.{IsDir-entry}
 use Rattle.dt_tree.specs.Shape.{names_of, LeadsUp, IsUnder, IsShaped, is_removed}
-use Rattle.dt_tree.specs.Above.{name_in, parent_at, names_up, path_of, path_text}
+use Rattle.dt_tree.specs.Above.{name_in, parent_at, dot_dot, names_up, path_of, path_text}
 use Rattle.dt_tree.specs.inner.Names.{name_for}
+use Rattle.dt_tree.proofs.Namings.{named}
 use Rattle.dt_tree.proofs.Shapes.{not_root, root_if_both}
 use Rattle.dt_tree.proofs.Aboves.{parent_is, no_parent, depth_bound}
 
@@ -96,6 +97,27 @@ module _ (v : Forest) (s : IsShaped v) where
           let some = named_if u.0 u.1 apart in
           let test : (names_of v n == 0) ≡ false = grind (arith, nat_tests) in
           there u ∙ sym (ap (λ b. not (not b && (names_of v n == 0))) e ∙ ap not test)
+
+  -- nor is there a directory above it
+  pub dot_dot-removed : (n : ℕ) → IsDir v n → is_some (dot_dot v n) ≡ not (is_removed v n)
+  unfolding LeadsUp
+  dot_dot-removed n is = by_root (n == v.root) refl
+    where
+      below : (k : ℕ) → LeadsUp v k n v.root → n ≢ v.root → is_some (parent_at v n) ≡ not (names_of v n == 0)
+      below zero up apart = absurd (apart up)
+      below (suc k) up apart =
+          let some = named v up.0 n up.1 up.2 in
+          let test : (names_of v n == 0) ≡ false = grind (arith, nat_tests) in
+          ap is_some (parent_is v s n up.0 up.1 is up.2) ∙ sym (ap not test)
+
+      by_root : (b : Bool) → (n == v.root) ≡ b → is_some (cond b (Some n) (parent_at v n)) ≡ not (not b && (names_of v n == 0))
+      by_root true e = refl
+      by_root false e = elim (s.placed n is) [
+        | inl u ↦ let apart : n ≢ v.root = grind (arith, nat_tests) in below u.0 u.1 apart
+        | inr r ↦
+            let none : (names_of v n == 0) ≡ true = grind (arith, nat_tests, r.nameless) in
+            ap is_some (no_parent v n r.nameless) ∙ sym (ap not none)
+      ]
 
 after_less : (r : Ordering) → T (is_lt r) → is_eq (ordering_reverse r) ≡ false
 after_less Less p = refl

@@ -40,7 +40,7 @@ first_component (b ∷ bs) = by_test (is_slash b) (first_component bs)
 some_component : (text : List ℕ) → 1 ≤ length (components_of text)
 some_component text = let first = first_component text in let size = ap length first.2 in omega arith
 
-components_of-append : (a b : List ℕ) → components_of (a ++ 47 ∷ b) ≡ components_of a ++ components_of b
+pub components_of-append : (a b : List ℕ) → components_of (a ++ 47 ∷ b) ≡ components_of a ++ components_of b
 components_of-append [] b = refl
 components_of-append (x ∷ a) b = by_test (is_slash x) (components_of-append a b) (first_component a)
   where
@@ -48,7 +48,7 @@ components_of-append (x ∷ a) b = by_test (is_slash x) (components_of-append a 
     by_test true e first = ap (λ xs. [] ∷ xs) e
     by_test false e first = ap (with_first x) e ∙ ap (λ xs. with_first x (xs ++ components_of b)) first.2 ∙ sym (ap (λ xs. with_first x xs ++ components_of b) first.2)
 
-one_component : (text : List ℕ) → list_any is_slash text ≡ false → components_of text ≡ text ∷ []
+pub one_component : (text : List ℕ) → list_any is_slash text ≡ false → components_of text ≡ text ∷ []
 one_component [] none = refl
 one_component (b ∷ bs) none =
     let parts = either (is_slash b) (list_any is_slash bs) none in

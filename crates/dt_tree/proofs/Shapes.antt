@@ -1,17 +1,15 @@
 -- Each change of a tree leaves its directories below the root, or removed.
 use Rattle.std.proofs.Common.{arith, ◌≡◌, ◌≢◌, ℕ, zero, suc, ◌+◌, ◌≤◌, List, Option, Some, None, ◌⊎◌, inl, inr, refl, sym, ap, subst, ◌∙◌}
 use Rattle.std.proofs.lemmas.Bool.{cases_eq}
-use Rattle.std.specs.Prelude.{IsSome, unwrap_or}
+use Rattle.std.specs.Prelude.{unwrap_or}
 use Rattle.std.specs.FinMap.{empty}
 use Rattle.dt_host.specs.World.{Forest, Node, dir_names, with_node, node_at, entry, with_entry, without_entry, without_node, IsDir, IsLive, IsBare}
 use Rattle.dt_host.specs.inner.Weight.{weight}
+use Rattle.dt_host.proofs.Found.{none_there, not_both}
 use Rattle.dt_host.proofs.Spots.{IsDir-entry, IsLive-IsDir, entry-with_new, IsDir-with_new, IsDir-from_with_new, IsLive-with_new, at_with_entry, IsDir-with_entry, IsDir-from_with_entry, IsLive-with_entry, root-with_entry}
 use Rattle.dt_host.proofs.Gone.{at_without_entry, IsDir-without_entry, IsDir-from_without_entry, IsLive-without_entry, root-without_entry, entry-without_node, IsLive-without_node, IsDir-without_node, IsDir-from_without_node}
 use Rattle.dt_tree.specs.Shape.{one_for, names_of, LeadsUp, IsBelow, IsUnder, IsRemoved, IsShaped}
 use Rattle.dt_tree.proofs.Namings.{same_name, one_for-same, one_for-other, names_of-with_entry, names_of-without_entry, names_of-without_node, names_of-with_new, named}
-
-pub not_both : {X : Type 0} (found : Option X) (x : X) → found ≡ None → found ≡ Some x → ⊥
-not_both found x a b = cc
 
 pub same_number : (found : Option ℕ) (n m : ℕ) → found ≡ Some n → found ≡ Some m → n ≡ m
 same_number found n m a b = cc
@@ -61,10 +59,6 @@ module _ (v : Forest) (s : IsShaped v) where
       by_steps : (k : ℕ) → LeadsUp v k n v.root → n ≡ v.root
       by_steps zero e = e
       by_steps (suc k) e = let some = named v e.0 n e.1 e.2 in absurd (omega arith)
-
-  -- what has an entry is below the root
-  pub under_if_full : (d n : ℕ) (name : List ℕ) → entry v d name ≡ Some n → IsUnder v d
-  under_if_full d n name e = elim (s.placed d (IsDir-entry v d name n e)) [ inl u ↦ u | inr r ↦ absurd (not_both _ n (r.bare name) e) ]
 
   -- the root has no name
   pub not_root : (d : ℕ) (name : List ℕ) (n : ℕ) → entry v d name ≡ Some n → n ≢ v.root
@@ -198,24 +192,16 @@ module _ (v : Forest) (s : IsShaped v) where
     pub nameless_if_free : names_of v m ≡ 0
     nameless_if_free = by_count (names_of v m) refl
       where
-        gone : (found : Option Node) → IsSome found → found ≡ None → ⊥
-        gone None a b = cc
-        gone (Some x) a b = cc
-
         by_count : (k : ℕ) → names_of v m ≡ k → k ≡ 0
         by_count zero e = refl
-        by_count (suc k) e = absurd (gone (node_at v m) (s.named m (omega arith)) free)
+        by_count (suc k) e = absurd (none_there (node_at v m) free (s.named m (omega arith)))
 
     no_entry : (c : List ℕ) → entry v m c ≡ None
     no_entry c = by_entry (entry v m c) refl
       where
-        gone : (found : Option Node) → IsSome found → found ≡ None → ⊥
-        gone None a b = cc
-        gone (Some x) a b = cc
-
         by_entry : (found : Option ℕ) → entry v m c ≡ found → found ≡ None
         by_entry None e = refl
-        by_entry (Some x) e = absurd (gone (node_at v m) (IsLive-IsDir v m (IsDir-entry v m c x e)) free)
+        by_entry (Some x) e = absurd (none_there (node_at v m) free (IsLive-IsDir v m (IsDir-entry v m c x e)))
 
     pub removed-with_new : IsRemoved (with_node v m node) m
     removed-with_new = record { nameless = names_of-with_new v m m node free none ∙ nameless_if_free; bare = λ c. entry-with_new v m node free none m c ∙ no_entry c }

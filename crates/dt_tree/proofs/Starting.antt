@@ -1,5 +1,6 @@
 -- At the start the tree is a root without entries, and stands for the host's.
 use Rattle.std.proofs.Common.{arith, ◌≡◌, ◌≢◌, ℕ, ◌+◌, List, [], cond, true, false, Option, Some, None, inl, refl, sym, ap, subst, ◌∙◌}
+use Rattle.std.proofs.lemmas.Option.{same_Some}
 use Rattle.std.specs.Prelude.{IsSome, is_some, unwrap_or, option_map, option_and_then}
 use Rattle.std.specs.Ordering.{nat_cmp}
 use Rattle.std.specs.Cmp.{IsTotalOrder, nat_cmp_total}
@@ -8,6 +9,7 @@ use Rattle.std.specs.declared.cmp.Ordering.{Ordering}
 use Rattle.std.specs.FinMap.{IsAntisymmetric, empty, get, insert, from_entries, get-from_entries, len, len-insert, len-empty, get-empty, same_map, nat_cmp-IsAntisymmetric}
 use Rattle.dt_host.specs.World.{Node, file, dir, node_at, dir_names, names_at, entry, empty_forest, IsDir, IsLive}
 use Rattle.dt_host.specs.Values.{map_values}
+use Rattle.dt_host.proofs.Found.{none_there, not_both}
 use Rattle.dt_host.proofs.Maps.{at_insert, names_tie, get-insert_same}
 use Rattle.dt_host.proofs.Totals.{total-insert, total-empty}
 use Rattle.dt_host.proofs.Valued.{get-map_values, map_values-insert}
@@ -77,16 +79,9 @@ no_name_count root =
 good_root : (n : ℕ) (node : Node) (a : Attributes) → node_at (empty_forest 1) n ≡ Some node → get (insert (empty {R = nat_cmp}) 1 (at_start 493)) n ≡ Some a → IsGoodNode node a.mode
 good_root n node a = at_only (λ found. found ≡ Some node → get (insert (empty {R = nat_cmp}) 1 (at_start 493)) n ≡ Some a → IsGoodNode node a.mode) 1 (dir empty) n
     (λ same e. at_only (λ found. found ≡ Some a → IsGoodNode node a.mode) 1 (at_start 493) n
-    (λ _ h. subst (λ x. IsGoodNode x a.mode) (same_node e) (subst (λ k. IsGoodNode (dir empty) k) (ap (λ (found : Option Attributes). unwrap_or (option_map (λ (a : Attributes). a.mode) found) 0) h) (λ name some. absurd (none_there (get (empty {X = ℕ} {R = slice_cmp nat_cmp}) name) (get-empty (slice_cmp nat_cmp) name) some), omega arith)))
+    (λ _ h. subst (λ x. IsGoodNode x a.mode) (same_Some (dir empty) node e) (subst (λ k. IsGoodNode (dir empty) k) (ap (λ (found : Option Attributes). unwrap_or (option_map (λ (a : Attributes). a.mode) found) 0) h) (λ name some. absurd (none_there (get (empty {X = ℕ} {R = slice_cmp nat_cmp}) name) (get-empty (slice_cmp nat_cmp) name) some), omega arith)))
     (λ _ h. cc))
     (λ _ e. cc)
-  where
-    same_node : Some (dir empty) ≡ Some node → dir empty ≡ node
-    same_node e = cc
-
-    none_there : (found : Option ℕ) → found ≡ None → IsSome found → ⊥
-    none_there None e some = cc
-    none_there (Some x) e some = cc
 
 pub one_node : len (empty_forest 1).nodes ≡ 1
 one_node = let size = len-insert nat_cmp_total (empty {X = Node} {R = nat_cmp}) 1 (dir empty) ∙ ap (λ found. cond (is_some found) (len (empty {X = Node} {R = nat_cmp})) (len (empty {X = Node} {R = nat_cmp}) + 1)) (get-empty nat_cmp 1) in let none = len-empty nat_cmp Node in omega arith
@@ -135,7 +130,7 @@ module _ (root : ℕ) (inode : Inode) (real : inode.real ≡ root) (bare : inode
       live = λ r. at_only (λ found. is_some found ≡ is_some (node_at (empty_forest root) r)) inode.real 1 r
           (λ e. at_only (λ found. true ≡ is_some found) root (dir empty) r (λ _. refl) (λ apart. absurd (apart (e ∙ real))))
           (λ apart. at_only (λ found. false ≡ is_some found) root (dir empty) r (λ e. absurd (apart (e ∙ sym real))) (λ _. refl));
-      closed = λ d r name e. absurd (not_there (no_entries root d name) e);
+      closed = λ d r name e. absurd (not_both _ r (no_entries root d name) e);
       root = ap (option_map (λ (inode : Inode). inode.real)) (get-insert_same nat_cmp_total nat_cmp-IsAntisymmetric empty 1 inode) ∙ ap Some real;
     };
     kept = λ n other e. subst (λ shape. Keeps shape n other) (sym shape_start) (at_only (λ found. found ≡ Some other → Keeps (empty_forest 1) n other) 1 inode n
@@ -147,6 +142,3 @@ module _ (root : ℕ) (inode : Inode) (real : inode.real ≡ root) (bare : inode
         (λ _ h. cc) e);
     counted = sym (ap (λ shape. name_count shape) shape_start ∙ no_name_count 1);
   }
-    where
-      not_there : {found : Option ℕ} {r : ℕ} → found ≡ None → found ≡ Some r → ⊥
-      not_there a b = cc

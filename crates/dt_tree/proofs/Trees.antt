@@ -2,6 +2,7 @@
 use Rattle.std.proofs.Common.{arith, ◌≡◌, ◌≢◌, ℕ, ◌+◌, ◌≤◌, ◌<◌, cond, true, List, length, Option, Some, None, inl, inr, refl, sym, ap, subst, ◌∙◌}
 use Rattle.std.proofs.lemmas.Bool.{cases_eq, and_parts}
 use Rattle.std.proofs.lemmas.Bool.Decides.{nat_tests}
+use Rattle.std.proofs.lemmas.Option.{same_Some}
 use Rattle.std.specs.Prelude.{is_some, IsSome, IsTrue, nat_le, ◌==◌, unwrap_or, option_map, option_and_then}
 use Rattle.std.specs.Cmp.{nat_cmp_total}
 use Rattle.std.specs.Cmp.Lexicographic.{slice_cmp, nat_list_cmp_total}
@@ -13,6 +14,7 @@ use Rattle.dt_base.specs.declared.limits.TheConstants.{FILE_LIMIT, MODE_LIMIT, L
 use Rattle.dt_base.specs.Image.{is_good_what, is_target}
 use Rattle.dt_host.specs.World.{Node, Names, file, dir, link, node_at, names_at, entry, dir_names, with_node, with_entry, IsLive, IsDir}
 use Rattle.dt_host.specs.inner.Weight.{weight}
+use Rattle.dt_host.proofs.Found.{none_there}
 use Rattle.dt_host.proofs.Maps.{at_insert, names_tie, get-insert_same, get-insert_other}
 use Rattle.dt_host.proofs.Worlds.{node_at-with_node_other}
 use Rattle.dt_host.proofs.Spots.{IsLive-IsDir, is_some-with_entry, len-with_entry, IsDir-with_new, entry-with_new, root-with_entry}
@@ -47,10 +49,6 @@ good_new (File bytes) mode h =
     let parts = and_parts (nat_le (length bytes) FILE_LIMIT) (nat_le mode MODE_LIMIT) h in
     (grind (arith, nat_tests, parts.0), grind (arith, nat_tests, parts.1))
 good_new Dir mode h = (λ name some. absurd (none_there (get (empty {X = ℕ} {R = slice_cmp nat_cmp}) name) (get-empty (slice_cmp nat_cmp) name) some), grind (arith, nat_tests))
-  where
-    none_there : (found : Option ℕ) → found ≡ None → IsSome found → ⊥
-    none_there None e some = cc
-    none_there (Some x) e some = cc
 good_new (Link target) mode h =
     let parts = and_parts (is_target target) (mode == LINK_MODE) h in
     (parts.0, grind (arith, nat_tests, parts.1))
@@ -119,14 +117,11 @@ module _ (t : FileTree) (d : ℕ) (name : List ℕ) (what : What) (mode stamp : 
   good_all : (n : ℕ) (node : Node) (a : Attributes) → node_at (with_entry (with_node t.shape t.next (new_node what)) d name t.next) n ≡ Some node → get (insert t.attributes t.next (record { mode = mode; stamp = stamp; holds = 0 })) n ≡ Some a → IsGoodNode node a.mode
   unfolding with_entry
   good_all n node a = at_insert nat_cmp_total nat_cmp-IsAntisymmetric (λ found. found ≡ Some node → get (insert t.attributes t.next (record { mode = mode; stamp = stamp; holds = 0 })) n ≡ Some a → IsGoodNode node a.mode) (with_node t.shape t.next (new_node what)).nodes d (dir (insert (names_at (with_node t.shape t.next (new_node what)) d) name t.next)) n
-      (λ same e mark. subst (λ x. IsGoodNode x a.mode) (same_node _ _ e) (good_dir a (sym (get-insert_other nat_cmp_total nat_cmp-IsAntisymmetric t.attributes t.next _ d apart) ∙ ap (get (insert t.attributes t.next (record { mode = mode; stamp = stamp; holds = 0 }))) (sym same) ∙ mark)))
+      (λ same e mark. subst (λ x. IsGoodNode x a.mode) (same_Some _ _ e) (good_dir a (sym (get-insert_other nat_cmp_total nat_cmp-IsAntisymmetric t.attributes t.next _ d apart) ∙ ap (get (insert t.attributes t.next (record { mode = mode; stamp = stamp; holds = 0 }))) (sym same) ∙ mark)))
       (λ _. at_first (λ found. found ≡ Some node → get (insert t.attributes t.next (record { mode = mode; stamp = stamp; holds = 0 })) n ≡ Some a → IsGoodNode node a.mode) n
-      (λ same e mark. subst (λ x. IsGoodNode x a.mode) (same_node _ _ e) (subst (λ k. IsGoodNode (new_node what) k) (same_mode a (sym (get-insert_same nat_cmp_total nat_cmp-IsAntisymmetric t.attributes t.next (record { mode = mode; stamp = stamp; holds = 0 })) ∙ ap (get (insert t.attributes t.next (record { mode = mode; stamp = stamp; holds = 0 }))) (sym same) ∙ mark)) (good_new what mode may.good)))
+      (λ same e mark. subst (λ x. IsGoodNode x a.mode) (same_Some _ _ e) (subst (λ k. IsGoodNode (new_node what) k) (same_mode a (sym (get-insert_same nat_cmp_total nat_cmp-IsAntisymmetric t.attributes t.next (record { mode = mode; stamp = stamp; holds = 0 })) ∙ ap (get (insert t.attributes t.next (record { mode = mode; stamp = stamp; holds = 0 }))) (sym same) ∙ mark)) (good_new what mode may.good)))
       (λ other e mark. s.good n node a e (sym (get-insert_other nat_cmp_total nat_cmp-IsAntisymmetric t.attributes t.next _ n other) ∙ mark)))
     where
-      same_node : (x y : Node) → Some x ≡ Some y → x ≡ y
-      same_node x y e = cc
-
       same_mode : (a : Attributes) → Some (record { mode = mode; stamp = stamp; holds = 0 }) ≡ Some a → mode ≡ a.mode
       same_mode a e = ap (λ (found : Option Attributes). unwrap_or (option_map (λ (a : Attributes). a.mode) found) 0) e
 

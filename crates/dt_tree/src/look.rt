@@ -1,9 +1,9 @@
 // What is read of a node.
-ghost use Rattle.std.specs.Prelude.{◌≡◌, ◌-◌, ◌++◌, Some, IfOk, length, take, drop, min};
+ghost use Rattle.std.specs.Prelude.{◌≡◌, ◌-◌, ◌++◌, Some, IfOk, is_some, length, not, take, drop, min};
 ghost use Rattle.dt_host.specs.Asks.{Asks};
 ghost use Rattle.dt_host.specs.World.{Forest, IsDir, IsFile, IsLink, content, entry, target_at};
 ghost use Rattle.dt_tree.specs.Above.{dot_dot, parent_at};
-ghost use Rattle.dt_tree.specs.Shape.{is_dir, is_link};
+ghost use Rattle.dt_tree.specs.Shape.{is_dir, is_link, is_removed};
 ghost use Rattle.dt_tree.specs.Table.{Stands, shape_of};
 
 use crate::inode::Kind;
@@ -36,8 +36,10 @@ impl Tree {
     /// What `..` of a directory is: the directory that names it, and of the root the root.
     /// None exactly where it is removed.
     pub fn dot_dot(&self, dir: u64) -> Option<u64>
-        ensures { (v : Forest) → Stands self.now v → IsDir (shape_of self.now v) dir
+        ensures value { (v : Forest) → Stands self.now v → IsDir (shape_of self.now v) dir
             → result ≡ dot_dot (shape_of self.now v) dir }
+        ensures removed { (v : Forest) → Stands self.now v → IsDir (shape_of self.now v) dir
+            → is_some result ≡ not (is_removed (shape_of self.now v) dir) }
     {
         if dir == ROOT {
             return Some(dir);

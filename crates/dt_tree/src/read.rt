@@ -7,13 +7,11 @@ ghost use Rattle.dt_tree.specs.Table.{Stands, shape_of};
 use crate::tree::Tree;
 use dt_base::FILE_LIMIT;
 use dt_host::{Host, HostErr};
-use std::alloc::Global;
 
 impl Tree {
     /// At most `most` bytes of a file, from an offset on. No more memory is taken than for what is left of the file.
     pub fn read_part<H: Host>(
         &self,
-        alloc: Global,
         host: &mut H,
         inode: u64,
         offset: u64,
@@ -27,24 +25,19 @@ impl Tree {
         ensures asks { Asks H.view H.count host.old host.new result }
     {
         let left = self.meta(host, inode)?.size.saturating_sub(offset);
-        let mut bytes = vec![in alloc; 0; left.min(most) as usize]?;
+        let mut bytes = vec![in self.alloc; 0; left.min(most) as usize]?;
         self.read_at(host, inode, offset, &mut bytes)?;
         Ok(bytes)
     }
 
     /// All the bytes of a file.
-    pub fn read_file<H: Host>(
-        &self,
-        alloc: Global,
-        host: &mut H,
-        inode: u64,
-    ) -> Result<Vec<u8>, HostErr>
+    pub fn read_file<H: Host>(&self, host: &mut H, inode: u64) -> Result<Vec<u8>, HostErr>
         requires stands { Stands self.now (H.view host.old).forest }
         requires file { IsFile (shape_of self.now (H.view host.old).forest) inode }
         ensures ok { IfOk result
             (λ bytes. bytes.items ≡ content (shape_of self.now (H.view host.old).forest) inode) }
         ensures asks { Asks H.view H.count host.old host.new result }
     {
-        self.read_part(alloc, host, inode, 0, FILE_LIMIT)
+        self.read_part(host, inode, 0, FILE_LIMIT)
     }
 }

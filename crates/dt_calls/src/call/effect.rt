@@ -16,7 +16,7 @@ pub enum Outcome {
     /// Its call waits, and is tried again in its next turn.
     Blocked,
     /// Its call has moved some bytes, and goes on in its next turn.
-    Moved,
+    Progress,
     /// It is over, by a code or a signal.
     Ends(End),
     /// Its call, by its number, isn't supported.

@@ -77,7 +77,7 @@ pub fn answered(
         Answer::Refused(errno) => Ok(Effect::refused(alloc, machine, errno)),
         Answer::Output(stream, bytes) => Effect::puts_out(alloc, machine, stream, bytes),
         Answer::Waits => Ok(Effect::quiet(alloc, Outcome::Blocked)),
-        Answer::Part(_) => Ok(Effect::quiet(alloc, Outcome::Moved)),
+        Answer::Part(_) => Ok(Effect::quiet(alloc, Outcome::Progress)),
         Answer::Pipe(Ok(moved)) => Ok(Effect::done(alloc, machine, moved)),
         Answer::Pipe(Err(errno)) => Ok(Effect::refused(alloc, machine, errno)),
         Answer::Unsupported => Ok(Effect::quiet(alloc, Outcome::Unsupported(number))),

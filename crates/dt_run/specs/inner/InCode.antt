@@ -13,7 +13,7 @@ use Rattle.dt_sched.specs.declared.process.Phase.TheVariants as as_queued
 use Rattle.dt_calls.specs.Container.{Machines}
 use Rattle.dt_calls.specs.InCode.{shared_of, home_of}
 use Rattle.dt_calls.specs.declared.container.Served.{Served}
-use Rattle.dt_calls.specs.declared.container.Served.TheVariants.{Done, Child, LastChild, Blocked, Moved, Ended, Unsupported}
+use Rattle.dt_calls.specs.declared.container.Served.TheVariants.{Done, Child, LastChild, Blocked, Progress, Ended, Unsupported}
 use Rattle.dt_run.specs.declared.phase.Phase.{Phase}
 use Rattle.dt_run.specs.declared.phase.Phase.TheVariants.{Owes, Ran, Waits}
 use Rattle.dt_run.specs.declared.run.Run.{Run as RunInCode}
@@ -75,6 +75,6 @@ noted phases p Done = insert phases p Owes
 noted phases p (Child vpid) = insert phases p Owes
 noted phases p (LastChild vpid) = remove phases p
 noted phases p Blocked = insert phases p Waits
-noted phases p Moved = insert phases p Waits
+noted phases p Progress = insert phases p Waits
 noted phases p Ended = remove phases p
 noted phases p (Unsupported number) = phases

@@ -508,7 +508,7 @@ const CUT_FILE: Status = Status {
     nlink: 1,
     size: 0,
     sectors: 0,
-    stamp: 286_000,
+    stamp: 290_000,
 };
 
 const CUT_TWICE: Status = Status {
@@ -517,5 +517,5 @@ const CUT_TWICE: Status = Status {
     nlink: 1,
     size: 0,
     sectors: 0,
-    stamp: 290_000,
+    stamp: 294_000,
 };

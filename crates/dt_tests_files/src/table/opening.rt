@@ -3,7 +3,7 @@
 // empty directory `/e`, from `/r` and `/s` to `d/` and `f/`, and from `/v` to the root; from `/q`, `/t` and `/u` to
 // `no`, `no/` and `d/new`, where nothing is; and from `/i` and `/j` to each other.
 use crate::row::After::{Stays, Tells, Ticks};
-use crate::row::Arg::{A, N, T};
+use crate::row::Arg::{A, N, S, T};
 use crate::row::{Row, Status};
 use crate::table::errors::{EEXIST, EFAULT, EISDIR, ELOOP, ENAMETOOLONG, ENOENT, ENOTDIR};
 use crate::table::flags::{
@@ -86,7 +86,11 @@ pub const PLAIN: &[Row] = &[
     (OPENAT, &[CWD, A(256), ZERO, ZERO], ENAMETOOLONG, Stays),
     (OPENAT, &[CWD, A(4_095), ZERO, ZERO], ENAMETOOLONG, Stays),
     (OPENAT, &[CWD, A(4_096), ZERO, ZERO], ENAMETOOLONG, Stays),
+    (OPENAT, &[CWD, S(4_096), ZERO, ZERO], ENAMETOOLONG, Stays),
     // Which node it is.
+    (OPENAT, &[CWD, S(4_095), ZERO, ZERO], 3, Stays),
+    (FSTAT, &[N(3), BUF], 0, Tells(ROOT)),
+    (CLOSE, &[N(3)], 0, Stays),
     (OPENAT, &[CWD, T("/l"), ZERO, ZERO], 3, Stays),
     (FSTAT, &[N(3), BUF], 0, Tells(FILE)),
     (CLOSE, &[N(3)], 0, Stays),
@@ -396,7 +400,7 @@ const MADE: Status = Status {
     nlink: 1,
     size: 0,
     sectors: 0,
-    stamp: 180_000,
+    stamp: 184_000,
 };
 
 const ROOT_WITH_MADE: Status = Status {
@@ -405,7 +409,7 @@ const ROOT_WITH_MADE: Status = Status {
     nlink: 4,
     size: 4_096,
     sectors: 0,
-    stamp: 180_000,
+    stamp: 184_000,
 };
 
 const MADE_BY_A_LINK: Status = Status {
@@ -414,7 +418,7 @@ const MADE_BY_A_LINK: Status = Status {
     nlink: 1,
     size: 0,
     sectors: 0,
-    stamp: 189_000,
+    stamp: 193_000,
 };
 
 const MADE_BELOW: Status = Status {
@@ -423,7 +427,7 @@ const MADE_BELOW: Status = Status {
     nlink: 1,
     size: 0,
     sectors: 0,
-    stamp: 195_000,
+    stamp: 199_000,
 };
 
 const DIRECTORY_WITH_MADE: Status = Status {
@@ -432,5 +436,5 @@ const DIRECTORY_WITH_MADE: Status = Status {
     nlink: 2,
     size: 4_096,
     sectors: 0,
-    stamp: 195_000,
+    stamp: 199_000,
 };

@@ -202,7 +202,7 @@ const MODE_7755: Status = Status {
     nlink: 1,
     size: 0,
     sectors: 0,
-    stamp: 489_000,
+    stamp: 493_000,
 };
 
 const MODE_7755_AGAIN: Status = Status {
@@ -211,7 +211,7 @@ const MODE_7755_AGAIN: Status = Status {
     nlink: 1,
     size: 0,
     sectors: 0,
-    stamp: 498_000,
+    stamp: 502_000,
 };
 
 const MODE_0600: Status = Status {
@@ -220,7 +220,7 @@ const MODE_0600: Status = Status {
     nlink: 1,
     size: 0,
     sectors: 0,
-    stamp: 505_000,
+    stamp: 509_000,
 };
 
 const MODE_7000: Status = Status {
@@ -229,7 +229,7 @@ const MODE_7000: Status = Status {
     nlink: 1,
     size: 0,
     sectors: 0,
-    stamp: 512_000,
+    stamp: 516_000,
 };
 
 const MODE_0666: Status = Status {
@@ -238,7 +238,7 @@ const MODE_0666: Status = Status {
     nlink: 1,
     size: 0,
     sectors: 0,
-    stamp: 519_000,
+    stamp: 523_000,
 };
 
 const MODE_4321: Status = Status {
@@ -247,7 +247,7 @@ const MODE_4321: Status = Status {
     nlink: 1,
     size: 0,
     sectors: 0,
-    stamp: 525_000,
+    stamp: 529_000,
 };
 
 const REMOVED: Status = Status {
@@ -256,5 +256,5 @@ const REMOVED: Status = Status {
     nlink: 0,
     size: 4_096,
     sectors: 0,
-    stamp: 587_000,
+    stamp: 591_000,
 };

@@ -4,7 +4,7 @@ use Rattle.std.specs.FinMap.{empty, get, remove}
 use Rattle.dt_procs.specs.declared.member.TheConstants.{FIRST_PID}
 use Rattle.dt_calls.specs.Container.{with_process}
 use Rattle.dt_calls.specs.InCode.{ContainerView, with_child_place, shared_of, effect_as, container_of, turned_as}
-use Rattle.dt_calls.specs.declared.container.Served.TheVariants.{Blocked, Moved, Unsupported}
+use Rattle.dt_calls.specs.declared.container.Served.TheVariants.{Blocked, Progress, Unsupported}
 use Rattle.dt_calls.specs.Settle.{settled_by, all_ended, ends, ends_shown}
 use Rattle.dt_calls.specs.Sound.{IsPaired, with_part}
 use Rattle.dt_calls.proofs.Settled.{kept-view, goes_on-lives, settle-kept, paired-kept, sound-kept, settle-ended, parts-kept, part-here, child-kept}
@@ -63,24 +63,24 @@ returns-in_ok-enter-in-Blocked-clause-sound g c =
     let new = kept-view _ c.args.self.now c.args.next c.args.own c.args.effect c.put.new.self _ c.self.view_is c.put.ensures c.in_ok-enter-in-Blocked.ensures in
     sound-kept c.args.self.now c.args.next c.args.own c.args.effect c.enter-in-Blocked.new.self (g.H.Host.view c.args.host.now) new c.requires.sound (paired-kept c.args.self.now c.args.next c.args.own c.args.effect c.enter-in-Blocked.new.self new c.requires.paired c.requires.child) c.counted-in-Blocked.ensures
 
-pub counted-requires-in-Moved-clause-paired : goal.counted-requires-in-Moved-clause-paired
-counted-requires-in-Moved-clause-paired g c =
-    let new = kept-view _ c.args.self.now c.args.next c.args.own c.args.effect c.put.new.self _ c.self.view_is c.put.ensures c.in_ok-enter-in-Moved.ensures in
-    paired-kept c.args.self.now c.args.next c.args.own c.args.effect c.enter-in-Moved.new.self new c.requires.paired c.requires.child
+pub counted-requires-in-Progress-clause-paired : goal.counted-requires-in-Progress-clause-paired
+counted-requires-in-Progress-clause-paired g c =
+    let new = kept-view _ c.args.self.now c.args.next c.args.own c.args.effect c.put.new.self _ c.self.view_is c.put.ensures c.in_ok-enter-in-Progress.ensures in
+    paired-kept c.args.self.now c.args.next c.args.own c.args.effect c.enter-in-Progress.new.self new c.requires.paired c.requires.child
 
-pub returns-in_ok-enter-in-Moved-clause-ok : goal.returns-in_ok-enter-in-Moved-clause-ok
-returns-in_ok-enter-in-Moved-clause-ok g c = λ m home.
-    let new = kept-view _ c.args.self.now c.args.next c.args.own c.args.effect c.put.new.self _ c.self.view_is c.put.ensures c.in_ok-enter-in-Moved.ensures in
+pub returns-in_ok-enter-in-Progress-clause-ok : goal.returns-in_ok-enter-in-Progress-clause-ok
+returns-in_ok-enter-in-Progress-clause-ok g c = λ m home.
+    let new = kept-view _ c.args.self.now c.args.next c.args.own c.args.effect c.put.new.self _ c.self.view_is c.put.ensures c.in_ok-enter-in-Progress.ensures in
     let s = shared_of c.args.self.now.shared (g.H.Host.view c.args.host.now) in
-    settle-kept c.args.self.now (g.H.Host.view c.args.host.now) c.args.next c.args.own m c.args.effect c.requires.number c.enter-in-Moved.new.self Moved home new
-    (ap (settled_by c.args.next c.args.own.caller.vpid (effect_as s c.args.own m c.args.effect)) c.in-Moved.is
+    settle-kept c.args.self.now (g.H.Host.view c.args.host.now) c.args.next c.args.own m c.args.effect c.requires.number c.enter-in-Progress.new.self Progress home new
+    (ap (settled_by c.args.next c.args.own.caller.vpid (effect_as s c.args.own m c.args.effect)) c.in-Progress.is
     ∙ refl)
     refl
 
-pub returns-in_ok-enter-in-Moved-clause-sound : goal.returns-in_ok-enter-in-Moved-clause-sound
-returns-in_ok-enter-in-Moved-clause-sound g c =
-    let new = kept-view _ c.args.self.now c.args.next c.args.own c.args.effect c.put.new.self _ c.self.view_is c.put.ensures c.in_ok-enter-in-Moved.ensures in
-    sound-kept c.args.self.now c.args.next c.args.own c.args.effect c.enter-in-Moved.new.self (g.H.Host.view c.args.host.now) new c.requires.sound (paired-kept c.args.self.now c.args.next c.args.own c.args.effect c.enter-in-Moved.new.self new c.requires.paired c.requires.child) c.counted-in-Moved.ensures
+pub returns-in_ok-enter-in-Progress-clause-sound : goal.returns-in_ok-enter-in-Progress-clause-sound
+returns-in_ok-enter-in-Progress-clause-sound g c =
+    let new = kept-view _ c.args.self.now c.args.next c.args.own c.args.effect c.put.new.self _ c.self.view_is c.put.ensures c.in_ok-enter-in-Progress.ensures in
+    sound-kept c.args.self.now c.args.next c.args.own c.args.effect c.enter-in-Progress.new.self (g.H.Host.view c.args.host.now) new c.requires.sound (paired-kept c.args.self.now c.args.next c.args.own c.args.effect c.enter-in-Progress.new.self new c.requires.paired c.requires.child) c.counted-in-Progress.ensures
 
 pub counted-requires-in-Unsupported-clause-paired : goal.counted-requires-in-Unsupported-clause-paired
 counted-requires-in-Unsupported-clause-paired g c =

@@ -13,7 +13,9 @@ use Rattle.dt_fds.specs.Holding.{Holding, over, read_end, write_end}
 use Rattle.dt_fds.specs.Backs.{Backs, KeepsOthers}
 use Rattle.dt_fds.proofs.Slots.{slot-opened_other, table-opened}
 use Rattle.dt_fds.proofs.Piping.{backs-pipe, others-pipe, counted-pipe, next-free}
+use Rattle.dt_fds.proofs.files.Files.open_pipe.Given as given
 use Rattle.dt_fds.proofs.files.Files.open_pipe.Goals as goal
+use Rattle.dt_fds.proofs.files.Files.open_pipe.Goals.{In_ok-put}
 
 pub enter-requires-2-clause-table : goal.enter-requires-2-clause-table
 enter-requires-2-clause-table g c =
@@ -24,6 +26,21 @@ enter-requires-2-clause-free g c =
     ap (λ f. slot_at f c.args.pid c.args.write) c.in_ok-enter.ensures.ok
     ∙ slot-opened_other c.args.self.now.descriptors c.args.pid c.args.read c.args.write c.read_end.result c.has-cloexec.result (λ same. omega (arith, c.requires.apart))
     ∙ c.requires.free_too
+
+-- the end that is read from is open, and then the other
+first_open : (g : given.Over) (c : In_ok-put g) → c.enter.new.self ≡ opened c.args.self.now.descriptors c.args.pid c.args.read (read_end c.args.self.now.pipes.next c.args.flags) (has c.args.flags O_CLOEXEC)
+first_open g c =
+    c.in_ok-enter.ensures.ok
+    ∙ (λ i. opened c.args.self.now.descriptors c.args.pid c.args.read ((c.read_end.ensures ∙ ap (λ q. read_end q c.args.flags) c.in_ok-q.ensures.number) i) (c.has-cloexec.ensures i))
+
+both_open : (g : given.Over) (c : In_ok-put g)
+    → c.enter-2.new.self ≡ opened (opened c.args.self.now.descriptors c.args.pid c.args.read (read_end c.args.self.now.pipes.next c.args.flags) (has c.args.flags O_CLOEXEC)) c.args.pid c.args.write (write_end c.args.self.now.pipes.next c.args.flags) (has c.args.flags O_CLOEXEC)
+both_open g c =
+    c.in_ok-enter-2.ensures.ok
+    ∙ (λ i. opened (first_open g c i) c.args.pid c.args.write ((c.write_end.ensures ∙ ap (λ q. write_end q c.args.flags) c.in_ok-q.ensures.number) i) (c.has-cloexec.ensures i))
+
+pub returns-clause-opened : goal.returns-clause-opened
+returns-clause-opened g c = λ t i. over t (record { contents = c.in_ok-q.ensures.pipes i; next = c.in_ok-q.ensures.next i }) (both_open g (goal.at.returns-clause-opened g c).In_ok-put i)
 
 pub returns-clause-leaves : goal.returns-clause-leaves
 returns-clause-leaves g c = λ table backed.
@@ -38,8 +55,9 @@ returns-clause-leaves g c = λ table backed.
     let cloexec = has flags O_CLOEXEC in
     let one = opened f p c.args.read (read_end m.next flags) cloexec in
     let two = opened one p c.args.write (write_end m.next flags) cloexec in
-    let first : c.enter.new.self ≡ one = c.in_ok-enter.ensures.ok ∙ (λ i. opened f p c.args.read ((c.read_end.ensures ∙ ap (λ q. read_end q flags) made.number) i) (c.has-cloexec.ensures i)) in
-    let second : c.enter-2.new.self ≡ two = c.in_ok-enter-2.ensures.ok ∙ (λ i. opened (first i) p c.args.write ((c.write_end.ensures ∙ ap (λ q. write_end q flags) made.number) i) (c.has-cloexec.ensures i)) in
+    let ended = (goal.at.returns-clause-leaves g c).In_ok-put in
+    let first : c.enter.new.self ≡ one = first_open g ended in
+    let second : c.enter-2.new.self ≡ two = both_open g ended in
     let fresh_too = subst (λ g. get g.descs g.next ≡ None) first c.in_ok-enter-2.ensures.fresh in
     let none = next-free old.pipes world.pipes c.requires.piped.stands in
     let ends = c.in_ok-put.ensures.ok ∙ ap (λ q. insert old.ends q (record { read = true; write = true })) (c.from.ensures ∙ made.number) in

@@ -6,12 +6,13 @@ use Rattle.dt_tree.specs.Table.{tree_of}
 use Rattle.dt_pipes.specs.Table.{pipes_of}
 use Rattle.dt_pipes.proofs.Held.{has-pipes_of}
 use Rattle.dt_fds.specs.Descriptions.{description_at, writers}
+use Rattle.dt_fds.specs.OpenFiles.{pipes_at}
 use Rattle.dt_fds.specs.Pipes.{pipe_content, with_pipe_content, none_held}
 use Rattle.dt_fds.specs.Holding.{over, done, pipe_read_call, bytes_read}
 use Rattle.dt_fds.specs.declared.flow.Flow.TheVariants.{Moved}
 use Rattle.dt_fds.specs.Backs.{at, holding_at}
 use Rattle.dt_fds.proofs.Ending.{of-described, read-there, read-by, held-by}
-use Rattle.dt_fds.proofs.Piped.{no_zero, backed-piped, others-piped, if_ok, nothing-came, came}
+use Rattle.dt_fds.proofs.Piped.{no_zero, backed-piped, others-piped, does-piped, if_ok, nothing-came, came}
 use Rattle.dt_fds.proofs.files.Files.pipe_read.Goals as goal
 
 pub held-requires : goal.held-requires
@@ -54,12 +55,12 @@ returns-clause-bytes g c = λ table.
     subst (λ bytes. c.take.new.buf ≡ take (length c.args.buf.now) bytes ++ drop (length (take (length c.args.buf.now) bytes)) c.args.buf.now) (sym held)
     (came (length c.args.buf.now) c.in_ok-count.count (pipe_content h.pipes c.in-Some.q) c.args.buf.now c.take.new.buf takes.most takes.prefix)
 
-pub returns-clause-makes : goal.returns-clause-makes
+pub returns-clause-call : goal.returns-clause-call
 unfolding pipe_read_call
-returns-clause-makes g c = λ table backed.
+returns-clause-call g c = λ t.
     let f = c.args.self.now in
     let world = g.H.Host.view c.args.host.now in
-    let h = holding_at (at f table world) in
+    let h = over t (pipes_at f world.pipes) f.descriptors in
     let found = description_at f.descriptors c.args.pid c.args.fd in
     let q = c.in-Some.q in
     let bytes = pipe_content h.pipes q in
@@ -69,15 +70,20 @@ returns-clause-makes g c = λ table backed.
     let some : (length bytes == 0) ≡ false = no_zero (length bytes) (λ none. c.if-held-eq0.false (count ∙ none)) in
     let most = min (length c.args.buf.now) (length bytes) in
     let contents = takes.left ∙ ap (λ n. insert (pipes_of f.pipes world.pipes) q (drop n bytes)) takes.most in
+    read-by h (length c.args.buf.now) found q c.in-Some.nonblock (sym c.in-Some.ensures)
+    ∙ ap (λ b. if b then record { answer = none_held (writers f.descriptors q) c.in-Some.nonblock; next = h } else done (record h { pipes = with_pipe_content h.pipes q (drop most bytes) }) (Moved most)) some
+    ∙ (λ i. record { answer = Ok (Moved (sym takes.most i)); next = over t (record { contents = sym contents i; next = sym took.next i }) f.descriptors })
+
+pub returns-clause-makes : goal.returns-clause-makes
+returns-clause-makes g c = λ table backed.
+    let f = c.args.self.now in
+    let world = g.H.Host.view c.args.host.now in
+    let now = g.H.Host.view c.take.new.host in
+    let took = c.in_ok-count.ensures in
     record {
-      made = read-by h (length c.args.buf.now) found q c.in-Some.nonblock (sym c.in-Some.ensures)
-          ∙ ap (λ b. if b then record { answer = none_held (writers f.descriptors q) c.in-Some.nonblock; next = h } else done (record h { pipes = with_pipe_content h.pipes q (drop most bytes) }) (Moved most)) some
-          ∙ (λ i. record {
-            answer = Ok (Moved (sym takes.most i));
-            next = over (tree_of table (sym took.rest.forest i)) (record { contents = sym contents i; next = sym took.next i }) f.descriptors;
-          });
-      backed = backed-piped f c.take.new.self world (g.H.Host.view c.take.new.host) table backed took.stands took.there took.rest;
-      others = others-piped f c.take.new.self world (g.H.Host.view c.take.new.host) table backed took.stands took.there took.rest c.args.pid;
+      made = does-piped f c.take.new.self world now table backed took.stands took.there took.rest (Ok (Moved c.in_ok-count.count)) _ (returns-clause-call g c (tree_of table world.forest));
+      backed = backed-piped f c.take.new.self world now table backed took.stands took.there took.rest;
+      others = others-piped f c.take.new.self world now table backed took.stands took.there took.rest c.args.pid;
       rest = took.rest.pids;
       cause = record { later = took.cause.later; rose = λ never. absurd never };
     }

@@ -1,5 +1,5 @@
-use Rattle.std.proofs.Common.{refl, sym, ap, ◌∙◌, take, drop}
-use Rattle.dt_fds.proofs.Moving.{has_ends}
+use Rattle.std.proofs.Common.{refl}
+use Rattle.dt_fds.proofs.Moving.{has_ends, piece-cut}
 use Rattle.dt_fds.proofs.files.Files.pipe_write.Goals as goal
 
 pub pipe_moves-moved-requires-clause-ends : goal.pipe_moves-moved-requires-clause-ends
@@ -8,5 +8,9 @@ pipe_moves-moved-requires-clause-ends g c = has_ends c.args.self.now (g.H.Host.v
 pub returns-clause-makes : goal.returns-clause-makes
 returns-clause-makes g c = λ table backed.
     c.pipe_write_part.ensures.makes table c.args.bytes.now backed refl
-    (ap (λ n. take n (drop c.args.done c.args.bytes.now)) c.split_at-2.ensures.front_len
-    ∙ sym (c.split_at-2.ensures.front ∙ ap (take c.pipe_moves-moved.result) c.split_at.ensures.back))
+    (piece-cut c.args.done c.pipe_moves-moved.result c.args.bytes.now _ _ c.split_at.ensures.back c.split_at-2.ensures.front c.split_at-2.ensures.front_len)
+
+pub returns-clause-call : goal.returns-clause-call
+returns-clause-call g c = λ t.
+    c.pipe_write_part.ensures.call t c.args.bytes.now refl
+    (piece-cut c.args.done c.pipe_moves-moved.result c.args.bytes.now _ _ c.split_at.ensures.back c.split_at-2.ensures.front c.split_at-2.ensures.front_len)

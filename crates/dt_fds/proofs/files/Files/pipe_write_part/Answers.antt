@@ -10,10 +10,9 @@ use Rattle.dt_fds.specs.OpenFiles.{pipes_at}
 use Rattle.dt_fds.specs.Pipes.{pipe_content, goes, write_flow}
 use Rattle.dt_fds.specs.Holding.{over, done, write_on, pipe_write_call}
 use Rattle.dt_fds.specs.declared.flow.Flow.TheVariants.{Broken}
-use Rattle.dt_fds.specs.Backs.{at, holding_at}
 use Rattle.dt_fds.proofs.Ending.{of-described, write-there, write-by, none-if}
 use Rattle.dt_fds.proofs.Moving.{goes-left, goes-room, held-within, moves-read}
-use Rattle.dt_fds.proofs.Piped.{backed-piped, others-piped, does-as, unless-as, never-as}
+use Rattle.dt_fds.proofs.Piped.{backed-piped, others-piped, does-piped, does-as, unless-as, never-as}
 use Rattle.dt_fds.proofs.files.Files.pipe_write_part.Goals as goal
 
 pub put-requires-clause-there : goal.put-requires-clause-there
@@ -40,12 +39,12 @@ write_flow-requires g c =
     let moved = c.requires.moves ∙ moves-read f host c.args.pid c.args.fd c.args.whole c.args.done c.in-Some.q c.in-Some.nonblock c.requires.piped (sym c.in-Some.ensures) (sym c.is_read.ensures ∙ c.if-not-is_read.false) in
     subst (λ n. c.args.done + n ≤ c.args.whole) (sym moved) (goes-left (length old) c.args.whole c.args.done c.requires.within)
 
-pub returns-clause-makes : goal.returns-clause-makes
+pub returns-clause-call : goal.returns-clause-call
 unfolding pipe_write_call
-returns-clause-makes g c = λ table bytes backed sized part.
+returns-clause-call g c = λ t bytes sized part.
     let f = c.args.self.now in
     let world = g.H.Host.view c.args.host.now in
-    let h = holding_at (at f table world) in
+    let h = over t (pipes_at f world.pipes) f.descriptors in
     let found = description_at f.descriptors c.args.pid c.args.fd in
     let q = c.in-Some.q in
     let nonblock = c.in-Some.nonblock in
@@ -56,7 +55,7 @@ returns-clause-makes g c = λ table bytes backed sized part.
     let answer = write_flow whole c.args.done (length piece) nonblock in
     let read : (readers f.descriptors q == 0) ≡ false = none-if (readers f.descriptors q) _ (c.requires.piped.counted.reading q) ∙ ap not (sym c.is_read.ensures ∙ c.if-not-is_read.false) in
     let moved = c.requires.moves ∙ moves-read f world.pipes c.args.pid c.args.fd whole c.args.done q nonblock c.requires.piped (sym c.in-Some.ensures) (sym c.is_read.ensures ∙ c.if-not-is_read.false) in
-    let made = write-by h bytes c.args.done found q nonblock (sym c.in-Some.ensures)
+    does-as answer c.write_flow.result _ _ c.write_flow.ensures (write-by h bytes c.args.done found q nonblock (sym c.in-Some.ensures)
     ∙ ap (λ b. if b then done h (Broken c.args.done) else write_on h nonblock bytes c.args.done q) read
     ∙ ap (λ n. record {
       answer = write_flow n c.args.done (goes (length old) n c.args.done) nonblock;
@@ -70,14 +69,19 @@ returns-clause-makes g c = λ table bytes backed sized part.
       answer = answer;
       next = record h { pipes = record h.pipes { contents = insert (pipes_of f.pipes world.pipes) q (old ++ part i) } };
     })
-    ∙ (λ i. record {
-      answer = answer;
-      next = over (tree_of table (sym put.rest.forest i)) (record { contents = sym put.pipes i; next = sym put.next i }) f.descriptors;
-    }) in
+    ∙ (λ i. record { answer = answer; next = over t (record { contents = sym put.pipes i; next = sym put.next i }) f.descriptors }))
+
+pub returns-clause-makes : goal.returns-clause-makes
+returns-clause-makes g c = λ table bytes backed sized part.
+    let f = c.args.self.now in
+    let world = g.H.Host.view c.args.host.now in
+    let now = g.H.Host.view c.put.new.host in
+    let put = c.in_ok-put.ensures in
+    let answer = write_flow c.args.whole c.args.done (length c.args.piece.now) c.in-Some.nonblock in
     record {
-      made = does-as answer c.write_flow.result _ _ c.write_flow.ensures made;
-      backed = unless-as answer c.write_flow.result _ c.write_flow.ensures (backed-piped f c.put.new.self world (g.H.Host.view c.put.new.host) table backed put.stands put.there put.rest);
-      others = unless-as answer c.write_flow.result _ c.write_flow.ensures (others-piped f c.put.new.self world (g.H.Host.view c.put.new.host) table backed put.stands put.there put.rest c.args.pid);
+      made = does-piped f c.put.new.self world now table backed put.stands put.there put.rest c.write_flow.result _ (returns-clause-call g c (tree_of table world.forest) bytes sized part);
+      backed = unless-as answer c.write_flow.result _ c.write_flow.ensures (backed-piped f c.put.new.self world now table backed put.stands put.there put.rest);
+      others = unless-as answer c.write_flow.result _ c.write_flow.ensures (others-piped f c.put.new.self world now table backed put.stands put.there put.rest c.args.pid);
       rest = put.rest.pids;
       cause = record { later = put.cause.later; rose = λ failed. absurd (never-as answer c.write_flow.result c.write_flow.ensures failed) };
     }

@@ -29,7 +29,7 @@ returns-clause-ok g c =
     c.in_ok-add.ensures v s ∙ ap (λ xs. added last c.args.most xs dot) (c.new-list.ensures.items ∙ next_of-nil last c.args.most) ∙ sym (next_of-push last c.args.most [] dot) in
     let second : c.add-2.new.list.items ≡ next_of last c.args.most (dot ∷ dots ∷ []) =
     c.in_ok-add-2.ensures v s
-    ∙ ap (λ n. added last c.args.most c.add.new.list.items (listed shape (codes "..", n))) (c.unwrap_or.ensures ∙ ap (λ found. unwrap_or found 0) (c.dot_dot.ensures v s c.requires.directory))
+    ∙ ap (λ n. added last c.args.most c.add.new.list.items (listed shape (codes "..", n))) (c.unwrap_or.ensures ∙ ap (λ found. unwrap_or found 0) (c.dot_dot.ensures.value v s c.requires.directory))
     ∙ ap (λ xs. added last c.args.most xs dots) first ∙ sym (next_of-push last c.args.most (dot ∷ []) dots) in
     c.in_ok-add_all.ensures v s (dot ∷ dots ∷ []) second
     ∙ ap (λ (xs : List HostEntry). next_of last c.args.most (dot ∷ dots ∷ map (listed_real c.args.self.now v) xs)) c.deref.ensures.value
