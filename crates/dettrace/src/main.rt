@@ -12,7 +12,7 @@ use dt_base::NoMemory;
 use dt_host::NoGate;
 use dt_memhost::{MemHost, Picker};
 use dt_run::{Failure, dettrace, write_failure};
-use std::env;
+use std::env::{self, Env, FillError};
 use std::io::ErrorKind;
 use std::process::ExitCode;
 use std::rt::Clock;
@@ -39,13 +39,29 @@ fn main(rt: HostRuntime) -> ExitCode {
 
 // The words after the program's name. Words that are no text are refused like any others.
 fn command_words(rt: &HostRuntime) -> Result<Vec<String>, Failure> {
-    match env::args(rt) {
-        Ok(mut args) => {
-            let _program = args.next();
-            Ok(args.collect(rt.alloc()).map_err(|_| Failure::NoMemory)?)
-        }
+    let alloc = rt.alloc();
+    match env::args(&(AfterName(rt), alloc)) {
+        Ok(words) => words.collect(alloc).map_err(|_| Failure::NoMemory),
         Err(error) if error.kind() == ErrorKind::OutOfMemory => Err(Failure::NoMemory),
         Err(_) => Err(Failure::Usage),
+    }
+}
+
+// The arguments from the one after the program's name on. That name is a path, which need not be text.
+#[derive(Drop)]
+struct AfterName<'a>(&'a HostRuntime);
+
+impl Env for AfterName<'_> {
+    fn arg(&self, i: usize, buf: &mut [u8]) -> Result<usize, FillError> {
+        self.0.arg(i.saturating_add(1), buf)
+    }
+
+    fn var(&self, name: &str, buf: &mut [u8]) -> Result<usize, FillError> {
+        self.0.var(name, buf)
+    }
+
+    fn var_at(&self, i: usize, buf: &mut [u8]) -> Result<usize, FillError> {
+        self.0.var_at(i, buf)
     }
 }
 

@@ -113,12 +113,7 @@ impl Container {
 
     /// Starts the program of a command (execve(2)), or says why it can't be started.
     #[tactic(auto, unfolding(crate::specs::Launch::launch))]
-    pub fn launch<H: Host>(
-        &mut self,
-        alloc: Global,
-        host: &mut H,
-        command: &Command,
-    ) -> Result<Launch, HostErr>
+    pub fn launch<H: Host>(&mut self, host: &mut H, command: &Command) -> Result<Launch, HostErr>
         requires sound { IsSoundContainer self.old (H.view host.old) }
         requires lives { Lives self.old FIRST_PID }
         ensures ok { IfOk result (λ l. launch (container_of self.old (H.view host.old)) command.now
@@ -127,7 +122,7 @@ impl Container {
         ensures cause { HasCause (H.count host.old) (H.count host.new) (IsErrOf result HostErr.Failed) }
     {
         let random = self.shared.fs.rand.start16();
-        match start_program(alloc, host, &self.shared.fs.tree, command, &random)? {
+        match start_program(self.alloc, host, &self.shared.fs.tree, command, &random)? {
             Ok(program) => {
                 let mut own = self.shared.process(FIRST_PID);
                 own.start(program.break_start);
@@ -176,13 +171,7 @@ impl Container {
 
     /// Serves the stop of a process that lives and has its machine at home, and settles what becomes of it.
     #[tactic(auto, unfolding(crate::specs::Settle::serve, crate::specs::Settle::serve_machine))]
-    pub fn serve<H: Host>(
-        &mut self,
-        alloc: Global,
-        host: &mut H,
-        vpid: u32,
-        stop: Stop,
-    ) -> Result<Served, HostErr>
+    pub fn serve<H: Host>(&mut self, host: &mut H, vpid: u32, stop: Stop) -> Result<Served, HostErr>
         requires sound { IsSoundContainer self.old (H.view host.old) }
         requires home { IsSome (get (home_of self.old.places) vpid) }
         ensures ok { IfOk result (λ s. serve (container_of self.old (H.view host.old)) vpid stop
@@ -193,7 +182,7 @@ impl Container {
         let mut own = self.shared.process(vpid);
         let next = self.shared.pids.next();
         let effect = serve_at(
-            alloc,
+            self.alloc,
             host,
             &mut self.shared,
             &mut own,
@@ -205,12 +194,7 @@ impl Container {
     }
 
     /// Tries the call of a process again, which waits or goes on.
-    pub fn retry<H: Host>(
-        &mut self,
-        alloc: Global,
-        host: &mut H,
-        vpid: u32,
-    ) -> Result<Served, HostErr>
+    pub fn retry<H: Host>(&mut self, host: &mut H, vpid: u32) -> Result<Served, HostErr>
         requires sound { IsSoundContainer self.old (H.view host.old) }
         requires home { IsSome (get (home_of self.old.places) vpid) }
         ensures ok { IfOk result (λ s. serve (container_of self.old (H.view host.old)) vpid a_call
@@ -218,7 +202,7 @@ impl Container {
         ensures sound { IfOk result (λ _. IsSoundContainer self.new (H.view host.new)) }
         ensures cause { HasCause (H.count host.old) (H.count host.new) (IsErrOf result HostErr.Failed) }
     {
-        self.serve(alloc, host, vpid, Stop::Call)
+        self.serve(host, vpid, Stop::Call)
     }
 
     /// What the last turn showed.

@@ -49,7 +49,7 @@ impl Descriptors {
 
     /// Gives the open file description of a descriptor another offset (lseek(2)), or point in its listing; all that
     /// refer to it see that. Nothing is done where the descriptor is not open.
-    pub(crate) fn set_spot(&mut self, pid: u32, fd: u32, spot: Spot)
+    pub(crate) fn set_place(&mut self, pid: u32, fd: u32, spot: Spot)
         requires { IfSome (description_at self.old pid fd)
             (λ desc. is_after spot ≡ is_of_dir desc.kind) }
         ensures files { self.new ≡ with_slot_description self.old (at_spot spot) (slot_at self.old pid fd) }

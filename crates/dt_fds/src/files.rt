@@ -72,14 +72,14 @@ impl Files {
 
     /// Gives the open file description of a descriptor another offset (lseek(2)), or point in its listing; all that
     /// refer to it see that. Nothing is done where the descriptor is not open.
-    pub fn set_spot(&mut self, pid: u32, fd: u32, spot: Spot)
+    pub fn set_place(&mut self, pid: u32, fd: u32, spot: Spot)
         requires { IfSome (description_at self.old.descriptors pid fd)
             (λ desc. is_after spot ≡ is_of_dir desc.kind) }
         ensures files { self.new ≡ with_descriptors self.old
             (with_slot_description self.old.descriptors (at_spot spot) (slot_at self.old.descriptors pid fd)) }
         ensures nodes { KeepsNodes pid self.old.descriptors self.new.descriptors }
     {
-        self.descriptors.set_spot(pid, fd, spot);
+        self.descriptors.set_place(pid, fd, spot);
     }
 
     /// Gives the open file description of a descriptor other flags (fcntl(2), F_SETFL); all that refer to it see them.

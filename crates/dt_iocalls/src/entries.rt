@@ -251,6 +251,6 @@ fn go_on<H: Host>(
     if space.write_bytes(buffer, bytes).is_err() {
         return Ok(Answer::Refused(Errno::Fault));
     }
-    fs.files.set_spot(caller.vpid, fd, Spot::After(Some(last)));
+    fs.files.set_place(caller.vpid, fd, Spot::After(Some(last)));
     Ok(Answer::Value(bytes.len() as u64))
 }

@@ -248,7 +248,8 @@ fn receive<H: Host>(
         return Ok(Answer::Refused(Errno::Fault));
     }
     let count = bytes.len() as u64;
-    fs.files.set_spot(caller.vpid, fd, Spot::At(offset + count));
+    fs.files
+        .set_place(caller.vpid, fd, Spot::At(offset + count));
     Ok(Answer::Value(count))
 }
 

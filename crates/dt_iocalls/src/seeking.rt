@@ -132,7 +132,7 @@ fn go_to<H: Host>(
 {
     match found {
         Some(offset) => {
-            fs.files.set_spot(caller.vpid, fd, Spot::At(offset));
+            fs.files.set_place(caller.vpid, fd, Spot::At(offset));
             Ok(Answer::Value(offset))
         }
         None => Ok(Answer::Refused(Errno::Inval)),
@@ -159,6 +159,6 @@ fn rewind<H: Host>(
     if by != 0 || whence != SEEK_SET {
         return Ok(Answer::Refused(Errno::Inval));
     }
-    fs.files.set_spot(caller.vpid, fd, Spot::After(None));
+    fs.files.set_place(caller.vpid, fd, Spot::After(None));
     Ok(Answer::Value(0))
 }

@@ -362,7 +362,7 @@ fn go_on<H: Host>(
         (stage fs.new (H.view host.now) caller.now space.now) result
         (H.count host.now) (H.count host.now) }
 {
-    fs.files.set_spot(caller.vpid, fd, Spot::At(offset));
+    fs.files.set_place(caller.vpid, fd, Spot::At(offset));
     Ok(Answer::Value(count))
 }
 

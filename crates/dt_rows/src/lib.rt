@@ -6,6 +6,8 @@ mod anywhere;
 #[cfg(test)]
 mod came;
 #[cfg(test)]
+mod choices;
+#[cfg(test)]
 mod images;
 #[cfg(test)]
 mod twice;

@@ -160,6 +160,8 @@ fn a_program_that_cannot_start_has_its_errno_in_the_verdict(rt: HostRuntime) -> 
         ("/hello/.", 20),
         ("/hello/x", 20),
         ("1A=/hello", 2),
+        ("Ü=1", 2),
+        ("AÜ=1", 2),
         (long_name.as_str(), 36),
         (long_path.as_str(), 36),
         (more_slashes.as_str(), 36),

@@ -80,7 +80,7 @@ fn play<H: Host>(
     ensures cause { HasCause (H.count host.old) (H.count host.new) (IsErrOf result HostErr.Failed) }
 {
     let mut container = Container::install(alloc, host, image, seed)?;
-    let launch = container.launch(alloc, host, command)?;
+    let launch = container.launch(host, command)?;
     run_from(alloc, host, container, budget, launch)
 }
 
@@ -124,7 +124,7 @@ fn run_turns<H: Host>(alloc: Global, host: &mut H, mut state: State) -> Result<R
     loop {
         match state.core.head() {
             Head::NotArrived(_) => state.arrive_next(host)?,
-            Head::Ready(vpid) => events.append(&mut state.turn(alloc, host, vpid)?)?,
+            Head::Ready(vpid) => events.append(&mut state.turn(host, vpid)?)?,
             Head::Over(verdict) => {
                 return Ok(Run {
                     events,

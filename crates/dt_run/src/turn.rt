@@ -21,16 +21,10 @@ use dt_host::{Host, HostErr};
 use dt_numbered::Numbered;
 use dt_rv64::Stop;
 use dt_sched::Settled;
-use std::alloc::Global;
 
 impl State {
     /// Takes the turn of the head of the queue, which is ready, and answers what it shows.
-    pub fn turn<H: Host>(
-        &mut self,
-        alloc: Global,
-        host: &mut H,
-        vpid: u32,
-    ) -> Result<Vec<Event>, HostErr>
+    pub fn turn<H: Host>(&mut self, host: &mut H, vpid: u32) -> Result<Vec<Event>, HostErr>
         requires sound { IsSoundContainer self.old.container (H.view host.old) }
         requires good { IsGood self.old }
         requires core { IsCore self.old.core }
@@ -43,7 +37,7 @@ impl State {
         ensures cause { HasCause (H.count host.old) (H.count host.new) (IsErrOf result HostErr.Failed) }
     {
         let phase = self.phase(vpid);
-        let served = serve_phase(alloc, host, &mut self.container, vpid, phase)?;
+        let served = serve_phase(host, &mut self.container, vpid, phase)?;
         note(&mut self.phases, vpid, served);
         self.core.settle(told(served));
         Ok(self.container.take_events())
@@ -52,7 +46,6 @@ impl State {
 
 // Serves the stop of the segment that a process ran, or again its call that waits or goes on.
 fn serve_phase<H: Host>(
-    alloc: Global,
     host: &mut H,
     container: &mut Container,
     vpid: u32,
@@ -66,9 +59,9 @@ fn serve_phase<H: Host>(
     ensures cause { HasCause (H.count host.old) (H.count host.new) (IsErrOf result HostErr.Failed) }
 {
     match phase {
-        Phase::Owes => container.serve(alloc, host, vpid, Stop::Slice),
-        Phase::Ran(seg) => container.serve(alloc, host, vpid, seg.stop),
-        Phase::Waits => container.retry(alloc, host, vpid),
+        Phase::Owes => container.serve(host, vpid, Stop::Slice),
+        Phase::Ran(seg) => container.serve(host, vpid, seg.stop),
+        Phase::Waits => container.retry(host, vpid),
     }
 }
 

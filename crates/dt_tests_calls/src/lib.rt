@@ -6,6 +6,8 @@ mod descriptors;
 #[cfg(test)]
 mod files;
 #[cfg(test)]
+mod flags;
+#[cfg(test)]
 mod full;
 #[cfg(test)]
 mod memory;

@@ -1,7 +1,7 @@
 // What programs do, seen in their reports.
 use dt_asm::{AsmErr, Guest};
 use dt_rv64::Instr;
-use dt_testing::{Call, HELLO_INDEX, RUN_HELLO, hello};
+use dt_testing::{Call, HELLO_INDEX, HELLO_SHOWN, RUN_HELLO, hello};
 use std::alloc::Global;
 use std::test::Fail;
 
@@ -17,6 +17,13 @@ const SOCKET: u32 = 198;
 
 // Where a program lies, its ELF header first.
 const START: i64 = 0x1_0000;
+
+// Where the header of an ELF file has the entry, the offset of the table of program headers, and their number (elf(5)).
+const ENTRY: usize = 24;
+
+const PHOFF: usize = 32;
+
+const PHNUM: usize = 56;
 
 const NOP: Instr = Instr::Addi {
     rd: 0,
@@ -213,6 +220,90 @@ fn files_that_are_no_executables(rt: HostRuntime) -> Result<(), Fail> {
             b"dettrace 1\nverdict nostart 8".as_slice(),
             "{length}"
         );
+    }
+    Ok(())
+}
+
+// A file with bytes put at an offset.
+fn patched(alloc: Global, file: &[u8], offset: usize, bytes: &[u8]) -> Result<Vec<u8>, Fail> {
+    let mut copy = Vec::from_slice(alloc, file)?;
+    for (index, byte) in bytes.iter().enumerate() {
+        if let Some(there) = copy.get_mut(offset.saturating_add(index)) {
+            *there = *byte;
+        }
+    }
+    Ok(copy)
+}
+
+// `hello` with one more segment of zeros at an address, of so many bytes. Its table of program headers stands at the
+// end, where first its own one comes again.
+fn with_segment(alloc: Global, vaddr: u64, memsz: u64) -> Result<Vec<u8>, Fail> {
+    let hello = hello(alloc)?;
+    let end = (hello.len() as u64).to_le_bytes();
+    let moved = patched(alloc, &hello, PHOFF, &end)?;
+    let mut file = patched(alloc, &moved, PHNUM, &[2])?;
+    file.extend_from_slice(hello.get(64..120).unwrap_or(&[]))?;
+    // PT_LOAD, to be read and written.
+    file.extend_from_slice(&[1, 0, 0, 0, 6, 0, 0, 0])?;
+    // The offset, both addresses, the sizes in the file and in memory, and the alignment.
+    for number in [0, vaddr, vaddr, 0, memsz, 4_096] {
+        file.extend_from_slice(&u64::to_le_bytes(number))?;
+    }
+    Ok(file)
+}
+
+#[test]
+fn segments_that_share_a_byte_are_no_executable(rt: HostRuntime) -> Result<(), Fail> {
+    let alloc = rt.alloc();
+    let refused = "verdict nostart 8";
+    // The segment of `hello` has 162 bytes from 0x1_0000 on.
+    let rows = [
+        (0x1_00a2, 10, HELLO_SHOWN),
+        (0x1_00a1, 10, refused),
+        (0xfff6, 10, HELLO_SHOWN),
+        (0xfff6, 11, refused),
+        (0x1_0000, 162, refused),
+        (0x1_0050, 1, refused),
+        (0x1_0050, 0, HELLO_SHOWN),
+        (0x8000, 0x1_0000, refused),
+    ];
+    for (vaddr, memsz, want) in rows {
+        let (status, before) = shown(alloc, &with_segment(alloc, vaddr, memsz)?)?;
+        let want_status = if want == refused { 10 } else { 0 };
+        let want = format!(in alloc; "dettrace 1\n{want}")?;
+        assert_eq!(rt; before.as_slice(), want.as_bytes(), "{vaddr} {memsz}");
+        assert_eq!(rt; status, want_status, "{vaddr} {memsz}");
+    }
+    Ok(())
+}
+
+#[test]
+fn a_program_whose_entry_is_no_instruction_ends_at_once(rt: HostRuntime) -> Result<(), Fail> {
+    let alloc = rt.alloc();
+    let hello = hello(alloc)?;
+    // Whether it is a multiple of 4 is looked at before whether code is there.
+    let rows: [(u64, &str); 12] = [
+        (0x1_0078 + 1, "7"),
+        (0x1_0078 + 2, "7"),
+        (0x1_0078 + 3, "7"),
+        // Zeros behind the code.
+        (0x1_0ffc, "4"),
+        (0, "11"),
+        (2, "7"),
+        (0xfffc, "11"),
+        (0x1_1000, "11"),
+        (0x1_1001, "7"),
+        // The last page of the stack, which is no code, and the last address below 2^38.
+        (0x3f_ffff_d000, "11"),
+        (0x3f_ffff_d002, "7"),
+        (0x3f_ffff_ffff, "7"),
+    ];
+    for (entry, signal) in rows {
+        let file = patched(alloc, &hello, ENTRY, &entry.to_le_bytes())?;
+        let (status, before) = shown(alloc, &file)?;
+        let want = format!(in alloc; "dettrace 1\nexit 1 signal {signal}\nverdict ended")?;
+        assert_eq!(rt; before.as_slice(), want.as_bytes(), "{entry}");
+        assert_eq!(rt; status, 1, "{entry}");
     }
     Ok(())
 }

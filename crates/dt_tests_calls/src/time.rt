@@ -5,7 +5,15 @@ use std::alloc::Global;
 use std::process::Abort;
 use std::test::Fail;
 
+const MKDIRAT: u32 = 34;
+
+const OPENAT: u32 = 56;
+
 const WRITE: u32 = 64;
+
+const NEWFSTATAT: u32 = 79;
+
+const FSTAT: u32 = 80;
 
 const NANOSLEEP: u32 = 101;
 
@@ -26,6 +34,13 @@ const END: i64 = MEMORY + 0x1_0000;
 const EFAULT: i64 = -14;
 
 const EINVAL: i64 = -22;
+
+const AT_FDCWD: i64 = -100;
+
+// Where a `struct stat` has its three times, each a second and a nanosecond, and how many bytes those are.
+const TIMES: i64 = 72;
+
+const TIMES_SIZE: i64 = 48;
 
 // The second of 2000-01-01, since 1970.
 const YEAR_2000: i64 = 946_684_800;
@@ -314,4 +329,118 @@ fn a_buffer_whose_last_bytes_are_missing_is_left_alone(rt: HostRuntime) -> Resul
         drawn.as_slice(),
     ];
     expect(&rt, alloc, &acts, &outs, &answers)
+}
+
+// The clocks of clock_gettime(2), each with what it tells after a sleep where those before it were read.
+const CLOCKS: [(i64, i64, i64); 8] = [
+    (0, YEAR_2000 + 3, 900_001_007),
+    (1, 3, 900_002_007),
+    (2, 3, 900_003_007),
+    (3, 3, 900_004_007),
+    (4, 3, 900_005_007),
+    (5, YEAR_2000 + 3, 900_006_007),
+    (6, 3, 900_007_007),
+    (7, 3, 900_008_007),
+];
+
+#[test]
+fn each_of_eight_clocks_tells_one_of_two_times(rt: HostRuntime) -> Result<(), Fail> {
+    let alloc = rt.alloc();
+    let mut acts = Vec::new(alloc);
+    let mut answers = Vec::new(alloc);
+    let mut told = Vec::new(alloc);
+    acts.extend_from_slice(&[
+        put(0, 3),
+        put(8, 900_000_007),
+        Does::Call(NANOSLEEP, MEMORY, 0, 0),
+    ])?;
+    answers.push(0)?;
+    let mut at = MEMORY + 16;
+    for (clock, second, nanosecond) in CLOCKS {
+        acts.push(Does::Call(CLOCK_GETTIME, clock, at, 0))?;
+        answers.push(0)?;
+        told.extend_from_slice(&words(alloc, &[second, nanosecond])?)?;
+        at = at.saturating_add(16);
+    }
+    // No other is known, so nothing is written and no time passes.
+    for clock in [8, 9, 16, -1, -0x8000_0000] {
+        acts.push(Does::Call(CLOCK_GETTIME, clock, at, 0))?;
+        answers.push(EINVAL)?;
+    }
+    told.extend_from_slice(&[0; 16])?;
+    acts.extend_from_slice(&[show(16, 144), read_counter()])?;
+    answers.extend_from_slice(&[144, 3_900_009_007])?;
+    expect(&rt, alloc, &acts, &[told.as_slice()], &answers)
+}
+
+#[test]
+fn a_sleep_is_by_one_of_three_clocks(rt: HostRuntime) -> Result<(), Fail> {
+    let alloc = rt.alloc();
+    let mut acts = Vec::new(alloc);
+    let mut answers = Vec::new(alloc);
+    acts.extend_from_slice(&[put(0, 3), put(8, 7)])?;
+    for clock in [2, 3, 4, 5, 6, 8, 9, -1, -0x8000_0000] {
+        // For a time, until a time, and from an address where nothing is: the clock is looked at first.
+        acts.push(Does::Call(CLOCK_NANOSLEEP, clock, 0, MEMORY))?;
+        acts.push(Does::Call(CLOCK_NANOSLEEP, clock, 1, MEMORY))?;
+        acts.push(Does::Call(CLOCK_NANOSLEEP, clock, 0, 0))?;
+        answers.extend_from_slice(&[EINVAL, EINVAL, EINVAL])?;
+    }
+    for clock in [0, 1, 7] {
+        acts.push(Does::Call(CLOCK_NANOSLEEP, clock, 0, MEMORY))?;
+        answers.push(0)?;
+    }
+    acts.push(read_counter())?;
+    answers.push(9_000_001_021)?;
+    expect(&rt, alloc, &acts, &[], &answers)
+}
+
+// A guest that sleeps so long, and then makes a directory, sees these times of it: by its path, and where it is open.
+fn expect_times(
+    rt: &impl Abort,
+    alloc: Global,
+    sleep: (i64, i64),
+    time: (i64, i64),
+) -> Result<(), Fail> {
+    let (path, by_path, opened) = (MEMORY + 16, MEMORY + 128, MEMORY + 256);
+    let acts = [
+        put(0, sleep.0),
+        put(8, sleep.1),
+        Does::Store(path, *b"/d\0\0\0\0\0\0"),
+        Does::Call(NANOSLEEP, MEMORY, 0, 0),
+        Does::Call(MKDIRAT, AT_FDCWD, path, 0o777),
+        Does::Ask(NEWFSTATAT, [AT_FDCWD, path, by_path, 0, 0]),
+        Does::Call(OPENAT, AT_FDCWD, path, 0),
+        Does::Call(FSTAT, 3, opened, 0),
+        show(128 + TIMES, TIMES_SIZE),
+        show(256 + TIMES, TIMES_SIZE),
+    ];
+    // Those of access, modification and change are one.
+    let (second, nanosecond) = time;
+    let told = [second, nanosecond, second, nanosecond, second, nanosecond];
+    let told = words(alloc, &told)?;
+    let outs = [told.as_slice(), told.as_slice()];
+    let answers = [0, 0, 0, 3, 0, TIMES_SIZE, TIMES_SIZE];
+    expect(rt, alloc, &acts, &outs, &answers)
+}
+
+#[test]
+fn times_of_nodes_are_seconds_and_the_nanoseconds_past_them(rt: HostRuntime) -> Result<(), Fail> {
+    let alloc = rt.alloc();
+    // Making the directory takes 1,000 nanoseconds more, which may fill a second.
+    let rows = [
+        ((0, 0), (YEAR_2000, 1_000)),
+        ((0, 999_998_999), (YEAR_2000, 999_999_999)),
+        ((0, 999_999_000), (YEAR_2000 + 1, 0)),
+        ((3, 900_000_007), (YEAR_2000 + 3, 900_001_007)),
+        ((3, 999_999_500), (YEAR_2000 + 4, 500)),
+        ((4, 999_998_999), (YEAR_2000 + 4, 999_999_999)),
+        // Behind the last second of 32 bits, and where the clock stands still.
+        ((1_200_798_848, 1), (2_147_483_648, 1_001)),
+        ((5_000_000_000, 0), (YEAR_2000 + 4_611_686_018, 427_387_903)),
+    ];
+    for (sleep, time) in rows {
+        expect_times(&rt, alloc, sleep, time)?;
+    }
+    Ok(())
 }

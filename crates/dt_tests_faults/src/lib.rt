@@ -6,4 +6,6 @@ mod came;
 #[cfg(test)]
 mod faults;
 #[cfg(test)]
+mod first;
+#[cfg(test)]
 mod memory;

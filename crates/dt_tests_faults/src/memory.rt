@@ -7,9 +7,11 @@ use dt_run::dettrace;
 use dt_testing::{HELLO_INDEX, hello, strings};
 use std::test::Fail;
 
-// A sink that never has memory for a piece.
+// A sink that never has memory for a piece, and counts the pieces.
 #[derive(Drop)]
-struct Wanting;
+struct Wanting {
+    pieces: u64,
+}
 
 impl Sink for Wanting {
     ghost told = { λ _. None };
@@ -21,6 +23,7 @@ impl Sink for Wanting {
     }
 
     fn write(&mut self, _piece: &[u8]) -> Result<usize, SinkErr> {
+        self.pieces = self.pieces.saturating_add(1);
         Err(SinkErr::NoMemory)
     }
 }
@@ -39,16 +42,12 @@ fn a_report_that_wants_memory_is_status_7(rt: HostRuntime) -> Result<(), Fail> {
         Vec::new(alloc),
         None,
     )?;
+    let mut out = Wanting { pieces: 0 };
     let status = dettrace(
-        alloc,
-        &words,
-        &mut store,
-        &mut host,
-        &mut Wanting,
-        &mut err,
-        &NoGate,
+        alloc, &words, &mut store, &mut host, &mut out, &mut err, &NoGate,
     );
     assert_eq!(rt; status, 7);
+    assert_eq!(rt; out.pieces, 1);
     assert_eq!(rt; err.bytes(), b"dettrace: out of memory\n".as_slice());
     Ok(())
 }
@@ -65,16 +64,12 @@ fn a_refusal_whose_line_wants_memory_is_status_7(rt: HostRuntime) -> Result<(), 
         None,
     )?;
     let words = strings(alloc, "run")?;
+    let mut err = Wanting { pieces: 0 };
     let status = dettrace(
-        alloc,
-        &words,
-        &mut store,
-        &mut host,
-        &mut out,
-        &mut Wanting,
-        &NoGate,
+        alloc, &words, &mut store, &mut host, &mut out, &mut err, &NoGate,
     );
     assert_eq!(rt; status, 7);
     assert_eq!(rt; out.bytes().len(), 0);
+    assert_eq!(rt; err.pieces, 1);
     Ok(())
 }

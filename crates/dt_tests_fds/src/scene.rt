@@ -144,7 +144,7 @@ impl Scene {
         if is_of_dir(&self.files, pid, fd) {
             return Ok(Outcome::Misused);
         }
-        self.files.set_spot(pid, fd, Spot::At(offset));
+        self.files.set_place(pid, fd, Spot::At(offset));
         Ok(Outcome::Done)
     }
 

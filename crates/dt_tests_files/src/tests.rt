@@ -68,8 +68,8 @@ const OPEN_FILES: Image = Image {
 fn changed_tree(alloc: Global, line: &str) -> Result<String, AllocError> {
     format!(in alloc;
         "tree 8\n\
-        dir 14 0755 322000 /e2\n\
-        dir 4 0751 315000 /e2/r\n\
+        dir 14 0755 352000 /e2\n\
+        dir 4 0751 345000 /e2/r\n\
         file 2 0640 0 3 {ABC} /f\n\
         link 10 53000 /k d\n\
         file 2 0640 0 3 {ABC} /l\n\

@@ -1,7 +1,8 @@
 // Breaks that move up and down, and stay.
-use dt_base::{ADDRESS_LIMIT, PAGE_LIMIT, PAGE_SIZE};
-use dt_mcalls::{Break, brk};
+use dt_base::{ADDRESS_LIMIT, Answer, PAGE_LIMIT, PAGE_SIZE};
+use dt_mcalls::{Break, brk, mmap, munmap};
 use dt_space::{EXECUTE, Miss, READ, Space, WriteErr};
+use std::alloc::{AllocError, Global};
 use std::test::Fail;
 
 // One page of code, right before the break's start.
@@ -106,5 +107,138 @@ fn break_reaches_the_last_address_and_no_further(rt: HostRuntime) -> Result<(), 
         ADDRESS_LIMIT
     );
     assert_eq!(rt; space.load8(ADDRESS_LIMIT - 8), Ok(0));
+    Ok(())
+}
+
+// What is done to the pages behind the break's start.
+#[derive(Clone, Copy, Debug)]
+enum Act {
+    // The break goes to this address.
+    Moved(u64),
+    // It was to go to this address, and stays.
+    Stays(u64),
+    // The page at this address goes.
+    Unmapped(u64),
+    // A page at this address, which is read alone, comes with `MAP_FIXED`, in the place of one that is there.
+    Mapped(u64),
+}
+
+use Act::{Mapped, Moved, Stays, Unmapped};
+
+impl Act {
+    fn act(self, end: &mut Break, space: &mut Space) -> Result<bool, Fail> {
+        let old = end.end;
+        Ok(match self {
+            Moved(address) => brk(end, space, address)? == address && end.end == address,
+            Stays(address) => brk(end, space, address)? == old && end.end == old,
+            Unmapped(address) => munmap(space, address, PAGE_SIZE) == Answer::Value(0),
+            Mapped(address) => {
+                mmap(space, address, PAGE_SIZE, 1, 0x32)? == Answer::Value(address)
+            }
+        })
+    }
+}
+
+// Of seven pages from the break's start on: which can be written, which only read, and which are not there.
+fn shown(alloc: Global, space: &Space) -> Result<String, AllocError> {
+    let mut pages = String::new(alloc);
+    for page in 0..7 {
+        let address = START + page * PAGE_SIZE;
+        pages.push(if space.writable(address, PAGE_SIZE).is_ok() {
+            'w'
+        } else if space.readable(address, PAGE_SIZE).is_ok() {
+            'r'
+        } else {
+            '.'
+        })?;
+    }
+    Ok(pages)
+}
+
+// Acts one after the other, each with the pages that are there after it.
+const OTHERS_PAGES: &[(&str, &[(Act, &str)])] = &[
+    (
+        "falls over a hole",
+        &[
+            (Moved(0x1_5000), "wwww..."),
+            (Unmapped(0x1_2000), "w.ww..."),
+            (Moved(0x1_3001), "w.w...."),
+            (Moved(0x1_1001), "w......"),
+            (Moved(0x1_4000), "www...."),
+        ],
+    ),
+    (
+        "falls into a hole, and over one at its end",
+        &[
+            (Moved(0x1_5000), "wwww..."),
+            (Unmapped(0x1_2000), "w.ww..."),
+            (Unmapped(0x1_4000), "w.w...."),
+            (Moved(0x1_2001), "w......"),
+            (Moved(0x1_3000), "w......"),
+            (Moved(0x1_3001), "w.w...."),
+        ],
+    ),
+    (
+        "falls over pages that others put there",
+        &[
+            (Moved(0x1_5000), "wwww..."),
+            (Mapped(0x1_2000), "wrww..."),
+            (Unmapped(0x1_4000), "wrw...."),
+            (Mapped(0x1_4000), "wrwr..."),
+            (Moved(0x1_3000), "wr....."),
+            (Moved(0x1_1000), "......."),
+            (Moved(0x1_3000), "ww....."),
+        ],
+    ),
+    (
+        "falls where a page stands behind it, and rises up to that",
+        &[
+            (Moved(0x1_3000), "ww....."),
+            (Mapped(0x1_3000), "wwr...."),
+            (Mapped(0x1_5000), "wwr.r.."),
+            (Moved(0x1_2000), "w.r.r.."),
+            (Stays(0x1_3001), "w.r.r.."),
+            (Stays(0x1_7000), "w.r.r.."),
+            (Moved(0x1_3000), "wwr.r.."),
+        ],
+    ),
+    (
+        "rises with a hole and another's page below it",
+        &[
+            (Moved(0x1_4000), "www...."),
+            (Unmapped(0x1_1000), ".ww...."),
+            (Mapped(0x1_2000), ".rw...."),
+            (Moved(0x1_5000), ".rww..."),
+            (Unmapped(0x1_4000), ".rw...."),
+            (Moved(0x1_7000), ".rw.ww."),
+        ],
+    ),
+    (
+        "rises within a page that is gone",
+        &[
+            (Moved(0x1_1001), "w......"),
+            (Unmapped(0x1_1000), "......."),
+            (Moved(0x1_1fff), "......."),
+            (Moved(0x1_2000), "......."),
+            (Moved(0x1_2001), ".w....."),
+        ],
+    ),
+];
+
+#[test]
+fn break_moves_over_holes_and_pages_of_others(rt: HostRuntime) -> Result<(), Fail> {
+    let alloc = rt.alloc();
+    for (what, acts) in OTHERS_PAGES {
+        let mut space = Space::new(alloc);
+        let mut end = Break {
+            start: START,
+            end: START,
+        };
+        for (act, pages) in *acts {
+            assert!(rt; act.act(&mut end, &mut space)?, "{what}, {act:?}");
+            let there = shown(alloc, &space)?;
+            assert_eq!(rt; there.as_str(), *pages, "{what}, {act:?}");
+        }
+    }
     Ok(())
 }

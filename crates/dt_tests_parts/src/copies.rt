@@ -6,7 +6,7 @@ use dt_options::read_options;
 use std::test::Fail;
 
 // An index of one file, `/hello`.
-const INDEX: &[u8] =
+pub const INDEX: &[u8] =
     b"{\"version\":1,\"entries\":[{\"path\":\"/hello\",\"type\":\"file\",\"mode\":493,\"blob\":\"hello\"}]}";
 
 #[test]

@@ -1,6 +1,8 @@
-//! Tests of calls below the run: copies of plain values, and numbers.
+//! Tests of calls below the run: a container's machine, copies of plain values, and numbers.
 #![tactic(auto)]
 
+#[cfg(test)]
+mod container;
 #[cfg(test)]
 mod copies;
 #[cfg(test)]

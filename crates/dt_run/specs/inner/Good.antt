@@ -24,6 +24,7 @@ pub record IsGood (s : State) : Type 0 where
   pub placed : AllByRecursion (IsPlacedIn s) s.core.queue
   pub fresh : (q : ℕ) → s.container.shared.pids.next ≤ q → get s.phases q ≡ None
 
--- how far a run is from its end, at most: each turn takes one from the budget, after which 65 processes may owe
+-- how far a run is from its end, at most: each turn takes one from the budget, after which as many processes may owe as
+-- the queue holds, at most 64
 abbrev pub steps_left : CoreView → ℕ
 steps_left core = core.left * 100 + length (owing core.queue)

@@ -192,5 +192,5 @@ const DIRECTORY: Status = Status {
     nlink: 3,
     size: 4_096,
     sectors: 0,
-    stamp: 322_000,
+    stamp: 352_000,
 };

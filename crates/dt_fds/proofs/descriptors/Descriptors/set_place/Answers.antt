@@ -2,7 +2,7 @@ use Rattle.std.proofs.Common.{◌≡◌, sym, subst}
 use Rattle.std.specs.Prelude.{IfSome}
 use Rattle.std.specs.Option.{option_and_then}
 use Rattle.dt_fds.specs.Descriptions.{slot_description, description_at, is_after, is_of_dir}
-use Rattle.dt_fds.proofs.descriptors.Descriptors.set_spot.Goals as goal
+use Rattle.dt_fds.proofs.descriptors.Descriptors.set_place.Goals as goal
 
 pub move_to-requires-clause-kind : goal.move_to-requires-clause-kind
 unfolding description_at
