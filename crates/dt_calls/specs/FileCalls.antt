@@ -6,6 +6,7 @@ use Rattle.dt_rv64.specs.Effects.{register}
 use Rattle.dt_scene.specs.Scene.{Scene, Row}
 use Rattle.dt_fcalls.specs.Calls.{file_row}
 use Rattle.dt_iocalls.specs.Calls.{is_io, io_row}
+use Rattle.dt_namecalls.specs.Calls.{is_naming, name_row}
 use Rattle.dt_calls.specs.declared.shared.Process.{Process}
 use Rattle.dt_calls.specs.Container.{Shared, Signals, raised_at}
 use Rattle.dt_base.specs.declared.answer.Answer.{Answer}
@@ -34,9 +35,12 @@ scene_of c own m = record {
 abbrev pub with_scene : Shared → Scene → Shared
 with_scene c s = record c { tree = s.tree; files = s.files; pipes = s.pipes; clock = s.clock; rand = s.rand }
 
--- the row of the call of a number: one on open files, or one on paths, names, time or random bytes
+-- the row of the call of a number: one on open files, one on names, or one on paths, time or random bytes
 unfoldable pub row_of : ℕ → List ℕ → Scene → Row
-row_of number args s = if is_io number then io_row number args s else file_row number args s
+row_of number args s =
+    if is_io number then io_row number args s
+    else if is_naming number then name_row number args s
+    else file_row number args s
 
 -- how many bytes a call has moved that answers so, where it had moved so many before: none once it is over
 abbrev pub done_after : ℕ → Answer → ℕ

@@ -1,7 +1,5 @@
-pub mod Targets
 pub mod Drawn
 pub mod Kept
 pub mod Described
 pub mod Opening
 pub mod Moved
-pub mod May

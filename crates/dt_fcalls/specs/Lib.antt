@@ -1,9 +1,4 @@
-pub mod Arguments
-pub mod Places
 pub mod Nodes
-pub mod Names
-pub mod Unlink
-pub mod Rename
 pub mod Stat
 pub mod Status
 pub mod Time

@@ -8,9 +8,9 @@ use Rattle.dt_base.specs.declared.limits.TheConstants.{MODE_LIMIT}
 use Rattle.dt_tree.specs.Changes.{chmodded, held, released}
 use Rattle.dt_tree.specs.Shape.{is_dir}
 use Rattle.dt_fcalls.specs.declared.modes.TheConstants.{PERMISSIONS}
-use Rattle.dt_fcalls.specs.declared.places.LastLink.TheVariants.{Follow}
+use Rattle.dt_scene.specs.declared.places.LastLink.TheVariants.{Follow}
 use Rattle.dt_scene.specs.Arguments.{argument}
-use Rattle.dt_fcalls.specs.Places.{on_path}
+use Rattle.dt_scene.specs.Places.{on_path}
 use Rattle.dt_scene.specs.Scene.{Scene, Row, refused, answers}
 
 -- umask(2): the old mask is the answer

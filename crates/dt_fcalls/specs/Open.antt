@@ -20,14 +20,14 @@ use Rattle.dt_tree.specs.FileTree.{FileTree}
 use Rattle.dt_tree.specs.Shape.{is_dir, is_link}
 use Rattle.dt_walk.specs.declared.place.Place.{Place}
 use Rattle.dt_fcalls.specs.declared.open.TheConstants.{OPEN_FLAGS}
-use Rattle.dt_fcalls.specs.declared.places.LastLink.{LastLink}
-use Rattle.dt_fcalls.specs.declared.places.LastLink.TheVariants.{Follow, Keep, KeepWithoutSlash}
+use Rattle.dt_scene.specs.declared.places.LastLink.{LastLink}
+use Rattle.dt_scene.specs.declared.places.LastLink.TheVariants.{Follow, Keep, KeepWithoutSlash}
 use Rattle.dt_space.specs.Argument.{path_argument}
-use Rattle.dt_fcalls.specs.Arguments.{start_of}
-use Rattle.dt_fcalls.specs.Names.{masked, on_text, unless_refused}
-use Rattle.dt_fcalls.specs.Places.{place_from, on_place}
 use Rattle.dt_scene.specs.Arguments.{argument, has_only}
-use Rattle.dt_scene.specs.Scene.{Scene, Row, refused, unsupported, stamp, changed_to, holding, by_outcome}
+use Rattle.dt_scene.specs.Modes.{masked}
+use Rattle.dt_scene.specs.Places.{place_from, on_place}
+use Rattle.dt_scene.specs.Start.{start_of}
+use Rattle.dt_scene.specs.Scene.{Scene, Row, refused, unless_refused, on_text, unsupported, stamp, changed_to, holding, by_outcome}
 
 -- the access mode: to read (O_RDONLY), to write (O_WRONLY) or both (O_RDWR)
 abbrev pub access_of : ℕ → ℕ

@@ -12,12 +12,12 @@ use Rattle.dt_space.specs.Space.{PageView}
 use Rattle.dt_tree.specs.Above.{path_of}
 use Rattle.dt_tree.specs.declared.meta.Meta.{Meta}
 use Rattle.dt_tree.specs.Meta.{meta_of}
-use Rattle.dt_fcalls.specs.declared.places.LastLink.{LastLink}
-use Rattle.dt_fcalls.specs.declared.places.LastLink.TheVariants.{Follow, KeepWithoutSlash}
+use Rattle.dt_scene.specs.declared.places.LastLink.{LastLink}
+use Rattle.dt_scene.specs.declared.places.LastLink.TheVariants.{Follow, KeepWithoutSlash}
 use Rattle.dt_fcalls.specs.declared.stat.TheConstants.{STAT_FLAGS}
 use Rattle.dt_scene.specs.Arguments.{argument, has_only}
 use Rattle.dt_space.specs.Argument.{text_argument}
-use Rattle.dt_fcalls.specs.Places.{on_path}
+use Rattle.dt_scene.specs.Places.{on_path}
 use Rattle.dt_scene.specs.Scene.{Scene, Row, refused, described, on_description}
 use Rattle.dt_fcalls.specs.Stat.{stat_of, stream_stat, pipe_stat}
 use Rattle.dt_scene.specs.Filling.{fills, fills_whole}

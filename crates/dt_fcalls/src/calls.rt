@@ -1,8 +1,7 @@
-// The calls on files, time and random bytes, by their numbers.
+// The calls on paths, time and random bytes, by their numbers.
 ghost use Rattle.dt_fcalls.specs.Calls.{file_row};
 ghost use Rattle.dt_scene.specs.Sound.{Sound, Serves, stage};
 
-use crate::names::{linkat, mkdirat, renameat2, symlinkat, unlinkat};
 use crate::nodes::{chdir, faccessat, fchmodat, umask};
 use crate::open::openat;
 use crate::random::getrandom;
@@ -10,8 +9,7 @@ use crate::status::{fstat, getcwd, newfstatat, readlinkat};
 use crate::time::{clock_gettime, clock_nanosleep, gettimeofday, nanosleep};
 use dt_base::abi::{
     CHDIR, CLOCK_GETTIME, CLOCK_NANOSLEEP, FACCESSAT, FCHMODAT, FSTAT, GETCWD, GETRANDOM,
-    GETTIMEOFDAY, LINKAT, MKDIRAT, NANOSLEEP, NEWFSTATAT, OPENAT, READLINKAT, RENAMEAT2, SYMLINKAT,
-    UMASK, UNLINKAT,
+    GETTIMEOFDAY, NANOSLEEP, NEWFSTATAT, OPENAT, READLINKAT, UMASK,
 };
 use dt_base::{Answer, Caller};
 use dt_host::{Host, HostErr};
@@ -38,10 +36,6 @@ pub fn file_call<H: Host>(
     let _before = host.faults();
     match number {
         GETCWD => getcwd(alloc, fs, host, caller, space, args),
-        MKDIRAT => mkdirat(alloc, fs, host, caller, space, args),
-        UNLINKAT => unlinkat(alloc, fs, host, caller, space, args),
-        SYMLINKAT => symlinkat(alloc, fs, host, caller, space, args),
-        LINKAT => linkat(alloc, fs, host, caller, space, args),
         FACCESSAT => faccessat(alloc, fs, host, caller, space, args),
         CHDIR => chdir(alloc, fs, host, caller, space, args),
         FCHMODAT => fchmodat(alloc, fs, host, caller, space, args),
@@ -54,7 +48,6 @@ pub fn file_call<H: Host>(
         CLOCK_NANOSLEEP => clock_nanosleep(fs, host, caller, space, args),
         UMASK => Ok(umask(caller, args)),
         GETTIMEOFDAY => gettimeofday(fs, host, caller, space, args),
-        RENAMEAT2 => renameat2(alloc, fs, host, caller, space, args),
         GETRANDOM => getrandom(alloc, fs, host, caller, space, args),
         _ => Ok(Answer::Unsupported),
     }

@@ -13,16 +13,15 @@ ghost use Rattle.dt_walk.specs.declared.place.Last.TheVariants.{Follow as follow
 ghost use Rattle.dt_walk.specs.Placed.{IsPlaceIn, IsFollowed};
 ghost use Rattle.dt_scene.specs.Arguments.{argument};
 ghost use Rattle.dt_fcalls.specs.Nodes.{umask_row, faccessat_row, chmods, fchmodat_row, with_cwd, chdir_row};
-ghost use Rattle.dt_fcalls.specs.Places.{place_at};
+ghost use Rattle.dt_scene.specs.Places.{place_at};
 ghost use Rattle.dt_scene.specs.Scene.{Scene};
 ghost use Rattle.dt_scene.specs.Sound.{Sound, Serves, Ends, stage, scene};
 
 use crate::modes::PERMISSIONS;
-use crate::places::{LastLink, place_at};
 use dt_base::abi::{ACCESS_ALL, CWD_DIRFD, low_word};
 use dt_base::{Answer, Caller, Errno, MODE_LIMIT};
 use dt_host::{Host, HostErr};
-use dt_scene::Fs;
+use dt_scene::{Fs, LastLink, place_at};
 use dt_space::Space;
 use dt_tree::Tree;
 use dt_walk::Place;

@@ -12,12 +12,9 @@ ghost use Rattle.dt_tree.specs.Table.{Stands, shape_of, tree_of};
 ghost use Rattle.dt_fcalls.specs.Open.{access_of, is_exclusive, open_rule, desc_of, file_desc, dir_desc, opens};
 ghost use Rattle.dt_fcalls.specs.Open.{makes_file, creates, opens_missing, open_refusal, cuts_file, cuts, opens_found};
 ghost use Rattle.dt_fcalls.specs.Open.{opens_at, is_full, place_of_path, opens_path, openat_row};
-ghost use Rattle.dt_fcalls.specs.Places.{IsFound};
+ghost use Rattle.dt_scene.specs.Places.{IsFound};
 ghost use Rattle.dt_scene.specs.Sound.{Sound, Serves, Ends, stage, scene};
 
-use crate::arguments::start_of;
-use crate::names::masked;
-use crate::places::{LastLink, walk_from};
 use dt_base::abi::{
     O_ACCMODE, O_APPEND, O_CLOEXEC, O_CREAT, O_DIRECTORY, O_EXCL, O_LARGEFILE, O_NOCTTY,
     O_NOFOLLOW, O_NONBLOCK, O_RDONLY, O_RDWR, O_TRUNC, O_WRONLY, has, low_word,
@@ -25,7 +22,7 @@ use dt_base::abi::{
 use dt_base::{Answer, Blob, Caller, Errno, MODE_LIMIT, What};
 use dt_fds::{Desc, DescKind, Spot};
 use dt_host::{CallErr, Host, HostErr};
-use dt_scene::Fs;
+use dt_scene::{Fs, LastLink, masked, start_of, walk_from};
 use dt_space::{Space, path_argument};
 use dt_tree::Tree;
 use dt_walk::Place;

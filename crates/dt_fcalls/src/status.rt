@@ -6,17 +6,16 @@ ghost use Rattle.dt_tree.specs.Above.{path_of};
 ghost use Rattle.dt_tree.specs.Table.{shape_of};
 ghost use Rattle.dt_walk.specs.Placed.{IsPlaceIn};
 ghost use Rattle.dt_scene.specs.Arguments.{argument};
-ghost use Rattle.dt_fcalls.specs.Places.{place_at};
+ghost use Rattle.dt_scene.specs.Places.{place_at};
 ghost use Rattle.dt_scene.specs.Sound.{Sound, Serves, Ends, stage, scene};
 ghost use Rattle.dt_fcalls.specs.Status.{getcwd_row, tells_target, readlinkat_row};
 
 mod node;
 
-use crate::places::{LastLink, place_at};
 use dt_base::abi::{low_word, signed_word};
 use dt_base::{Answer, Blob, Caller, Errno, NoMemory};
 use dt_host::{Host, HostErr};
-use dt_scene::{Fs, fill};
+use dt_scene::{Fs, LastLink, fill, place_at};
 use dt_space::Space;
 use dt_walk::Place;
 pub use node::{fstat, newfstatat};

@@ -34,3 +34,5 @@ file_live v f p fd desc n all is kind = live-in v (File n) (described_file v f p
 
 pub dir_live : (v : Forest) (f : Descriptions) (p fd : ℕ) (desc : Desc) (n : ℕ) → AllIn v f → Some desc ≡ description_at f p fd → desc.kind ≡ Dir n → IsLive v n
 dir_live v f p fd desc n all is kind = live-in v (Dir n) (described_dir v f p fd desc n all is kind)
+
+pub ruleset is_there = (described_file, described_dir, file_live, dir_live)

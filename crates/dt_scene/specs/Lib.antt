@@ -1,4 +1,7 @@
 pub mod Scene
 pub mod Arguments
+pub mod Start
+pub mod Places
+pub mod Modes
 pub mod Filling
 pub mod Sound

@@ -39,6 +39,16 @@ answers s value = record { next = s; answer = Value value }
 abbrev pub refused : Scene → Errno → Row
 refused s errno = record { next = s; answer = Refused errno }
 
+-- a row, unless there is a reason to refuse it
+abbrev pub unless_refused : Scene → Option Errno → Row → Row
+unless_refused s None row = row
+unless_refused s (Some errno) row = refused s errno
+
+-- a row for a text that was read, or the reason why there is none
+abbrev pub on_text : Scene → Result (List ℕ) Errno → (List ℕ → Row) → Row
+on_text s (Err errno) row = refused s errno
+on_text s (Ok text) row = row text
+
 -- the call is not supported, and changes nothing
 abbrev pub unsupported : Scene → Row
 unsupported s = record { next = s; answer = Unsupported }

@@ -1,8 +1,14 @@
-//! What the calls on files work on, and what their rows have in common.
+//! What the calls on files work on, where the paths that they are handed lead, and what their rows have in common.
 #![tactic(auto)]
 
 mod filling;
 mod fs;
+mod modes;
+mod places;
+mod start;
 
 pub use filling::fill;
 pub use fs::Fs;
+pub use modes::masked;
+pub use places::{LastLink, place_at, walk_from};
+pub use start::start_of;

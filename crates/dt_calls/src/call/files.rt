@@ -13,6 +13,7 @@ use dt_base::{Answer, Caller};
 use dt_fcalls::file_call;
 use dt_host::{Host, HostErr};
 use dt_iocalls::{io_call, is_io};
+use dt_namecalls::{is_naming, name_call};
 use dt_rv64::Machine;
 use dt_scene::Fs;
 use dt_space::Space;
@@ -66,6 +67,8 @@ fn serve_row<H: Host>(
 {
     if is_io(number) {
         io_call(alloc, fs, host, caller, space, number, args)
+    } else if is_naming(number) {
+        name_call(alloc, fs, host, caller, space, number, args)
     } else {
         file_call(alloc, fs, host, caller, space, number, args)
     }

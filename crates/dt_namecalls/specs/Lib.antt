@@ -1,0 +1,4 @@
+pub mod Names
+pub mod Unlink
+pub mod Rename
+pub mod Calls
