@@ -7,7 +7,36 @@ use dt_memhost::{MemHost, MemSink, MemStore, Picker};
 use dt_run::dettrace;
 use dt_testing::{HELLO_INDEX, RUN_HELLO, hello, strings};
 use std::alloc::{AllocError, Global};
+use std::process::Abort;
 use std::test::Fail;
+
+// A number for each that a run meets: the call at which it fails, or how many of its calls failed.
+#[derive(Clone, Copy, Debug, PartialEq)]
+struct Each {
+    store: u64,
+    host: u64,
+    out: u64,
+    err: u64,
+}
+
+// No run makes so many calls.
+const MANY: u64 = 1 << 32;
+
+// Each fails at no call.
+const NEVER: Each = Each {
+    store: MANY,
+    host: MANY,
+    out: MANY,
+    err: MANY,
+};
+
+// No call of any failed.
+const NONE: Each = Each {
+    store: 0,
+    host: 0,
+    out: 0,
+    err: 0,
+};
 
 // What a run of `/hello` meets. Each fails at the call of a number, and at the one after it: so a call that a run makes
 // after a fault is a second fault.
@@ -19,23 +48,18 @@ struct Met {
     err: MemSink,
 }
 
-// No run makes so many calls.
-const NEVER: u64 = 1 << 32;
-
 impl Met {
-    // The numbers are those of the store, the host and the two sinks.
-    fn new(alloc: Global, fails: [u64; 4]) -> Result<Self, Fail>
+    fn new(alloc: Global, fails: Each) -> Result<Self, Fail>
         ensures { IfOk result (λ met. IsEmptyStart met.host.view) }
     {
-        let [store_fails, host_fails, out_fails, err_fails] = fails;
-        let mut store = MemStore::new(alloc, picker(alloc)?, two(alloc, store_fails)?)?;
+        let mut store = MemStore::new(alloc, picker(alloc)?, two(alloc, fails.store)?)?;
         store.put("img/image.json", HELLO_INDEX)?;
         store.put("img/hello", &hello(alloc)?)?;
         Ok(Met {
             store,
-            host: MemHost::new(alloc, picker(alloc)?, two(alloc, host_fails)?)?,
-            out: MemSink::new(alloc, picker(alloc)?, two(alloc, out_fails)?, None)?,
-            err: MemSink::new(alloc, picker(alloc)?, two(alloc, err_fails)?, None)?,
+            host: MemHost::new(alloc, picker(alloc)?, two(alloc, fails.host)?)?,
+            out: MemSink::new(alloc, picker(alloc)?, two(alloc, fails.out)?, None)?,
+            err: MemSink::new(alloc, picker(alloc)?, two(alloc, fails.err)?, None)?,
         })
     }
 
@@ -63,13 +87,13 @@ impl Met {
     }
 
     // How many calls of each failed.
-    fn faults(&self) -> [u64; 4] {
-        [
-            self.store.faults(),
-            self.host.faults(),
-            self.out.faults(),
-            self.err.faults(),
-        ]
+    fn faults(&self) -> Each {
+        Each {
+            store: self.store.faults(),
+            host: self.host.faults(),
+            out: self.out.faults(),
+            err: self.err.faults(),
+        }
     }
 }
 
@@ -83,48 +107,100 @@ fn two(alloc: Global, number: u64) -> Result<Vec<u64>, AllocError> {
     Ok(vec![in alloc; number, number.saturating_add(1)]?)
 }
 
-// Each number is below that of the bytes that move, so that the call is made. A store, host or sink that is not to be
-// asked at all fails at its first call, which is then the one by hand.
+// What fails in a run of which the rest is whole.
+#[derive(Clone, Copy)]
+enum Failing {
+    Store,
+    Host,
+}
+
+impl Failing {
+    // It fails at the call of a number, and nothing else fails.
+    fn at(self, number: u64) -> Each {
+        match self {
+            Failing::Store => Each {
+                store: number,
+                ..NEVER
+            },
+            Failing::Host => Each {
+                host: number,
+                ..NEVER
+            },
+        }
+    }
+}
+
+// The number of the first of its calls that a whole run does not make. A run that makes a call that fails isn't whole.
+fn first_not_made(alloc: Global, failing: Failing) -> Result<u64, Fail> {
+    let mut made = 0u64;
+    for more in [2048, 1024, 512, 256, 128, 64, 32, 16, 8, 4, 2, 1] {
+        let number = made.saturating_add(more);
+        if Met::new(alloc, failing.at(number))?.run(alloc, RUN_HELLO)? != 0 {
+            made = number;
+        }
+    }
+    Ok(made.saturating_add(1))
+}
+
+// A run that ends by this fault alone. Then the next call of each that fails at any is a fault: so it was not made.
+fn expect_one_fault(
+    rt: &impl Abort,
+    alloc: Global,
+    words: &str,
+    fails: Each,
+    status: u8,
+    fault: Each,
+) -> Result<(), Fail> {
+    let mut met = Met::new(alloc, fails)?;
+    assert_eq!(rt; met.run(alloc, words)?, status, "{fails:?}");
+    assert_eq!(rt; met.faults(), fault, "{fails:?}");
+    met.ask_each();
+    let more = |fails: u64, faults: u64| faults.saturating_add(u64::from(fails != MANY));
+    let all = Each {
+        store: more(fails.store, fault.store),
+        host: more(fails.host, fault.host),
+        out: more(fails.out, fault.out),
+        err: more(fails.err, fault.err),
+    };
+    assert_eq!(rt; met.faults(), all, "{fails:?}");
+    Ok(())
+}
+
+// Each number is below that of the bytes that move, so that the call is made.
 #[test]
 fn nothing_is_asked_for_after_a_fault(rt: HostRuntime) -> Result<(), Fail> {
     let alloc = rt.alloc();
+    let store = first_not_made(alloc, Failing::Store)?;
+    let host = first_not_made(alloc, Failing::Host)?;
     for number in [1, 2, 3, 50, 100, 150] {
-        for (words, fails, status, faults, more) in [
-            (
-                RUN_HELLO,
-                [number, 1, 1, NEVER],
-                4,
-                [1, 0, 0, 0],
-                [2, 1, 1, 0],
-            ),
-            (
-                RUN_HELLO,
-                [NEVER, number, 1, NEVER],
-                5,
-                [0, 1, 0, 0],
-                [0, 2, 1, 0],
-            ),
-            (
-                RUN_HELLO,
-                [NEVER, NEVER, number, NEVER],
-                6,
-                [0, 0, 1, 0],
-                [0, 0, 2, 0],
-            ),
-            (
-                "run",
-                [1, 1, 1, number.min(100)],
-                2,
-                [0, 0, 0, 1],
-                [1, 1, 1, 2],
-            ),
-        ] {
-            let mut met = Met::new(alloc, fails)?;
-            assert_eq!(rt; met.run(alloc, words)?, status, "{fails:?}");
-            assert_eq!(rt; met.faults(), faults, "{fails:?}");
-            met.ask_each();
-            assert_eq!(rt; met.faults(), more, "{fails:?}");
-        }
+        let fails = Each {
+            store: number,
+            host: 1,
+            out: 1,
+            err: MANY,
+        };
+        expect_one_fault(&rt, alloc, RUN_HELLO, fails, 4, Each { store: 1, ..NONE })?;
+        let fails = Each {
+            store,
+            host: number,
+            out: 1,
+            err: MANY,
+        };
+        expect_one_fault(&rt, alloc, RUN_HELLO, fails, 5, Each { host: 1, ..NONE })?;
+        let fails = Each {
+            store,
+            host,
+            out: number,
+            err: MANY,
+        };
+        expect_one_fault(&rt, alloc, RUN_HELLO, fails, 6, Each { out: 1, ..NONE })?;
+        let fails = Each {
+            store: 1,
+            host: 1,
+            out: 1,
+            err: number.min(100),
+        };
+        expect_one_fault(&rt, alloc, "run", fails, 2, Each { err: 1, ..NONE })?;
     }
     Ok(())
 }

@@ -1,6 +1,7 @@
 // A small image, a host in memory, and the tree of the image over it.
-ghost use Rattle.std.specs.Prelude.{◌≡◌, IfOk, IfSome};
-ghost use Rattle.dt_host.specs.World.{IsEmptyStart, IsFile};
+ghost use Rattle.std.specs.Prelude.{◌≡◌, Some, IfOk, IfSome};
+ghost use Rattle.dt_host.specs.World.{IsEmptyStart, IsFile, entry};
+ghost use Rattle.dt_tree.specs.declared.limits.TheConstants.{ROOT};
 ghost use Rattle.dt_tree.specs.Table.{Stands, shape_of};
 
 use dt_base::{Blob, Entry, Image, NoMemory, What};
@@ -46,6 +47,8 @@ pub fn file_in_root(host: &mut MemHost, tree: &Tree, name: &[u8]) -> Result<Opti
     requires { Stands tree.now host.old.view.forest }
     ensures stands { Stands tree.now host.new.view.forest }
     ensures file { IfOk result (λ found. IfSome found (IsFile (shape_of tree.now host.new.view.forest))) }
+    ensures named { IfOk result (λ found. IfSome found
+        (λ inode. entry (shape_of tree.now host.new.view.forest) ROOT name.now ≡ Some inode)) }
 {
     let Some(inode) = tree.find(host, ROOT, name)? else {
         return Ok(None);

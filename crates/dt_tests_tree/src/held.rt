@@ -1,10 +1,15 @@
-// What the host holds right after an image is installed, read by its own calls from its root.
+// What the host itself holds, read by its own calls from its root: the image once it is installed, and each change as
+// soon as it is made.
 ghost use Rattle.std.specs.Prelude.{◌≡◌, Some, IfOk, IfSome};
 ghost use Rattle.dt_host.specs.World.{IsDir, IsFile, IsLink, IsLive};
 ghost use Rattle.dt_tree.specs.declared.limits.TheConstants.{ROOT};
 ghost use Rattle.dt_tree.specs.Table.{Stands, real_of, shape_of};
 
-use crate::fixture::{host, load};
+use crate::play::play;
+use crate::row::Call::{Cut, Drop, Held, Link, Make, Move, Write};
+use crate::row::Outcome::{Done, Text};
+use crate::row::{Found, Row};
+use dt_base::Blob;
 use dt_host::{Host, HostErr, read_whole, sorted_names};
 use dt_memhost::MemHost;
 use dt_tree::{ROOT, Tree};
@@ -103,13 +108,13 @@ fn entry_of(
     }
 }
 
-// What the host holds where names lead to from its root. None where they lead to nothing.
-fn held(
+/// What the host holds where names lead to from its root.
+pub fn held(
     alloc: Global,
     host: &mut MemHost,
     tree: &Tree,
     names: &[&str],
-) -> Result<Option<Vec<u8>>, HostErr>
+) -> Result<Found, HostErr>
     requires { Stands tree.now host.old.view.forest }
     ensures { Stands tree.now host.new.view.forest }
 {
@@ -117,52 +122,72 @@ fn held(
     let mut real = root_of(host, tree)?;
     for name in names {
         if !tree.is_dir(inode) {
-            return Ok(None);
+            return Ok(Found::Absent);
         }
         match entry_of(host, tree, inode, real, name.as_bytes())? {
             Some(at) => {
                 inode = at.0;
                 real = at.1;
             }
-            None => return Ok(None),
+            None => return Ok(Found::Absent),
         }
     }
-    Ok(Some(text_of(alloc, host, tree, inode, real)?))
+    let text = text_of(alloc, host, tree, inode, real)?;
+    Ok(Found::Text(Blob::new(text)))
 }
 
-// Names from the root, and what the host holds there.
-const ROWS: [(&[&str], &str); 9] = [
-    (&[], "dir d hello l m s t"),
-    (&["d"], "dir f up"),
-    (&["d", "f"], "file deep"),
-    (&["d", "up"], "link .."),
-    (&["hello"], "file hello"),
-    (&["l"], "link hello"),
-    (&["m"], "link /m"),
-    (&["s"], "link //"),
-    (&["t"], "link d/"),
+const IMAGE: &[Row] = &[
+    Row(Held(&[]), Text(b"dir d hello l m s t")),
+    Row(Held(&["d"]), Text(b"dir f up")),
+    Row(Held(&["d", "f"]), Text(b"file deep")),
+    Row(Held(&["d", "up"]), Text(b"link ..")),
+    Row(Held(&["hello"]), Text(b"file hello")),
+    Row(Held(&["l"]), Text(b"link hello")),
+    Row(Held(&["m"]), Text(b"link /m")),
+    Row(Held(&["s"]), Text(b"link //")),
+    Row(Held(&["t"]), Text(b"link d/")),
 ];
-
-// Whether the host holds what the rows list.
-fn holds_as_listed(alloc: Global, host: &mut MemHost, tree: &Tree) -> Result<bool, HostErr>
-    requires { Stands tree.now host.old.view.forest }
-{
-    for (names, wanted) in ROWS {
-        match held(alloc, host, tree, names)? {
-            Some(text) if text.as_slice() == wanted.as_bytes() => {}
-            _ => return Ok(false),
-        }
-    }
-    Ok(true)
-}
 
 #[test]
 fn the_host_holds_an_image_once_it_is_installed(rt: HostRuntime) -> Result<(), Fail> {
-    let alloc = rt.alloc();
     for stream in [1, 2, 3] {
-        let mut host = host(alloc, stream, 0)?;
-        let tree = load(alloc, &mut host)?;
-        assert!(rt; holds_as_listed(alloc, &mut host, &tree)?);
+        let mismatch = play(rt.alloc(), stream, IMAGE)?;
+        assert!(rt; mismatch.is_none(), "{stream}: {mismatch:?}");
+    }
+    Ok(())
+}
+
+const CHANGES: &[Row] = &[
+    Row(Write(b"hello", 1, b"EL"), Done),
+    Row(Held(&["hello"]), Text(b"file hELlo")),
+    Row(Write(b"hello", 7, b"!"), Done),
+    Row(Held(&["hello"]), Text(b"file hELlo\0\0!")),
+    Row(Cut(b"hello", 2), Done),
+    Row(Held(&["hello"]), Text(b"file hE")),
+    Row(Cut(b"hello", 4), Done),
+    Row(Held(&["hello"]), Text(b"file hE\0\0")),
+    Row(Make(b"made"), Done),
+    Row(Held(&["new"]), Text(b"file made")),
+    Row(Held(&[]), Text(b"dir d hello l m new s t")),
+    Row(Link(b"new"), Done),
+    Row(Held(&["other"]), Text(b"file made")),
+    Row(Write(b"other", 0, b"MA"), Done),
+    Row(Held(&["new"]), Text(b"file MAde")),
+    Row(Drop(b"new"), Done),
+    Row(Held(&[]), Text(b"dir d hello l m other s t")),
+    Row(Move(b"other"), Done),
+    Row(Held(&[]), Text(b"dir d hello l m moved s t")),
+    Row(Held(&["moved"]), Text(b"file MAde")),
+    Row(Drop(b"hello"), Done),
+    Row(Held(&[]), Text(b"dir d l m moved s t")),
+];
+
+// A tree that keeps files in a map of its own, and brings them to the host at the end of a run, fails here.
+#[test]
+fn the_host_holds_each_change_right_after_it(rt: HostRuntime) -> Result<(), Fail> {
+    for stream in [1, 2, 3] {
+        let mismatch = play(rt.alloc(), stream, CHANGES)?;
+        assert!(rt; mismatch.is_none(), "{stream}: {mismatch:?}");
     }
     Ok(())
 }
