@@ -180,30 +180,31 @@ fn a_program_goes_on_after_a_slice(rt: HostRuntime) -> Result<(), Fail> {
     Ok(())
 }
 
+// The offset of a byte of a program, what it becomes, and the errno: 8 is ENOEXEC, 7 is E2BIG.
+const SPOILT: [(usize, u8, u8); 16] = [
+    (0, 0x7e, 8),
+    (4, 1, 8),
+    (5, 2, 8),
+    (6, 0, 8),
+    (16, 3, 8),
+    (18, 0xf4, 8),
+    (29, 0x40, 8),
+    (54, 57, 8),
+    (56, 0, 8),
+    (57, 1, 8),
+    (64, 2, 8),
+    (64, 3, 8),
+    (73, 1, 8),
+    (82, 0, 8),
+    (96, 163, 8),
+    (107, 4, 7),
+];
+
 #[test]
 fn files_that_are_no_executables(rt: HostRuntime) -> Result<(), Fail> {
     let alloc = rt.alloc();
     let good = hello(alloc)?;
-    // The offset of a byte, what it becomes, and the errno: 8 is ENOEXEC, 7 is E2BIG.
-    let changes: [(usize, u8, u8); 16] = [
-        (0, 0x7e, 8),
-        (4, 1, 8),
-        (5, 2, 8),
-        (6, 0, 8),
-        (16, 3, 8),
-        (18, 0xf4, 8),
-        (29, 0x40, 8),
-        (54, 57, 8),
-        (56, 0, 8),
-        (57, 1, 8),
-        (64, 2, 8),
-        (64, 3, 8),
-        (73, 1, 8),
-        (82, 0, 8),
-        (96, 163, 8),
-        (107, 4, 7),
-    ];
-    for (offset, byte, errno) in changes {
+    for (offset, byte, errno) in SPOILT {
         let mut file = good.clone()?;
         assert!(rt; offset < file.len());
         file[offset] = byte;
@@ -212,6 +213,13 @@ fn files_that_are_no_executables(rt: HostRuntime) -> Result<(), Fail> {
         assert_eq!(rt; before.as_slice(), want.as_bytes(), "{offset}");
         assert_eq!(rt; status, 10, "{offset}");
     }
+    Ok(())
+}
+
+#[test]
+fn files_that_end_early_are_no_executables(rt: HostRuntime) -> Result<(), Fail> {
+    let alloc = rt.alloc();
+    let good = hello(alloc)?;
     for length in [0, 63, 100, 119] {
         assert!(rt; length < good.len());
         let (_, before) = shown(alloc, &good[..length])?;

@@ -36,33 +36,16 @@ const NO_END: Run = Run {
     status: 10,
 };
 
-// From the greatest budget down, at the sums of the costs and one below.
-const RUNS: &[Run] = &[
-    Run {
-        budget: 1_000_000_000,
-        shown: ALL_ENDS,
-        status: 0,
-    },
-    ENOUGH,
-    SHORT,
-    Run {
-        budget: 24,
-        shown: TWO_ENDS,
-        status: 10,
-    },
-    Run {
-        budget: 23,
-        shown: "exit 2 code 7\nverdict budget",
-        status: 10,
-    },
-    ONE_END,
-    NO_END,
-    Run {
-        budget: 1,
-        shown: "verdict budget",
-        status: 10,
-    },
-];
+// The run with a budget. The children end in the turns that reach 13 and 24 of it.
+fn with_budget(budget: u64) -> Run {
+    let run = match budget {
+        0..=12 => NO_END,
+        13..=23 => ONE_END,
+        24..=28 => SHORT,
+        _ => ENOUGH,
+    };
+    Run { budget, ..run }
+}
 
 // The file of the program.
 fn trio(alloc: Global) -> Result<Vec<u8>, Fail> {
@@ -115,7 +98,8 @@ fn a_hundred_numbers_for_the_host_give_the_same_bytes(rt: HostRuntime) -> Result
 fn each_turn_needs_its_budget(rt: HostRuntime) -> Result<(), Fail> {
     let alloc = rt.alloc();
     let file = trio(alloc)?;
-    for run in RUNS {
+    for budget in 1..=40 {
+        let run = with_budget(budget);
         for choices in [Words::Zeros(60_000), Words::Stream(1)] {
             let difference = run.difference(alloc, &file, TREE, "", choices)?;
             assert_eq!(rt; difference.as_str(), "");

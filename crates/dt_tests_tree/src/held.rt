@@ -8,7 +8,7 @@ ghost use Rattle.dt_tree.specs.Table.{Stands, real_of, shape_of};
 use crate::play::play;
 use crate::row::Call::{Cut, Drop, Held, Link, Make, Move, Write};
 use crate::row::Outcome::{Done, Text};
-use crate::row::{Found, Row};
+use crate::row::{Found, NewNode, Row};
 use dt_base::Blob;
 use dt_host::{Host, HostErr, read_whole, sorted_names};
 use dt_memhost::MemHost;
@@ -166,7 +166,7 @@ const CHANGES: &[Row] = &[
     Row(Held(&["hello"]), Text(b"file hE")),
     Row(Cut(b"hello", 4), Done),
     Row(Held(&["hello"]), Text(b"file hE\0\0")),
-    Row(Make(b"made"), Done),
+    Row(Make(NewNode::File(b"made")), Done),
     Row(Held(&["new"]), Text(b"file made")),
     Row(Held(&[]), Text(b"dir d hello l m new s t")),
     Row(Link(b"new"), Done),
@@ -180,6 +180,16 @@ const CHANGES: &[Row] = &[
     Row(Held(&["moved"]), Text(b"file MAde")),
     Row(Drop(b"hello"), Done),
     Row(Held(&[]), Text(b"dir d l m moved s t")),
+    Row(Make(NewNode::Dir), Done),
+    Row(Held(&["new"]), Text(b"dir")),
+    Row(Held(&[]), Text(b"dir d l m moved new s t")),
+    Row(Drop(b"new"), Done),
+    Row(Held(&[]), Text(b"dir d l m moved s t")),
+    Row(Make(NewNode::Link), Done),
+    Row(Held(&["new"]), Text(b"link hello")),
+    Row(Held(&[]), Text(b"dir d l m moved new s t")),
+    Row(Drop(b"l"), Done),
+    Row(Held(&[]), Text(b"dir d m moved new s t")),
 ];
 
 // A tree that keeps files in a map of its own, and brings them to the host at the end of a run, fails here.

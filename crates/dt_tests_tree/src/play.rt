@@ -5,7 +5,7 @@ ghost use Rattle.dt_tree.specs.Table.{Stands};
 use crate::calls::{cut, dot_dot, go, list, path_of, target_of, told, told_of_file, write};
 use crate::fixture::{host, load};
 use crate::held::held;
-use crate::names::{add_other, drop_file, make_new, move_away};
+use crate::names::{add_other, drop_node, make_new, move_away};
 use crate::row::{Call, Found, Mismatch, Row, is_met};
 use dt_host::HostErr;
 use dt_memhost::MemHost;
@@ -54,10 +54,10 @@ fn found_by(
         Call::List(dir, last, most) => list(host, tree, dir, last, most),
         Call::Write(name, off, bytes) => write(host, tree, name, off, bytes),
         Call::Cut(name, len) => cut(host, tree, name, len),
-        Call::Make(bytes) => make_new(alloc, host, tree, bytes),
+        Call::Make(node) => make_new(alloc, host, tree, node),
         Call::Link(name) => add_other(host, tree, name),
         Call::Move(name) => move_away(host, tree, name),
-        Call::Drop(name) => drop_file(host, tree, name),
+        Call::Drop(name) => drop_node(host, tree, name),
         Call::Held(names) => held(alloc, host, tree, names),
     }
 }

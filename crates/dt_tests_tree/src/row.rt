@@ -28,17 +28,27 @@ pub enum Call<'a> {
     Write(&'a [u8], u64, &'a [u8]),
     /// A file in the root gets another length; the time is 2,000.
     Cut(&'a [u8], u64),
-    /// A file of these bytes is made in the root, under the name `new`; the time is 3,000.
-    Make(&'a [u8]),
+    /// A node is made in the root, under the name `new`; the time is 3,000.
+    Make(NewNode<'a>),
     /// A file in the root gets a second name there, `other`; the time is 4,000.
     Link(&'a [u8]),
     /// A file in the root gets the name `moved` there; the time is 5,000.
     Move(&'a [u8]),
-    /// The name of a file in the root is taken away; the time is 6,000.
+    /// A name in the root is taken away, unless it is that of a directory with entries; the time is 6,000.
     Drop(&'a [u8]),
     /// What the host itself holds where names lead to from its root: the kind of node, and the names in a directory,
     /// the first 16 bytes of a file or the target of a link.
     Held(&'a [&'a str]),
+}
+
+/// A node that is made.
+#[derive(Clone, Copy, Debug)]
+pub enum NewNode<'a> {
+    /// A file of these bytes.
+    File(&'a [u8]),
+    Dir,
+    /// A link to `hello`.
+    Link,
 }
 
 /// What a call is to come to.
