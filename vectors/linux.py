@@ -1,0 +1,426 @@
+#!/usr/bin/env python3
+"""Makes random sequences of calls on files twice, by this machine's Linux and in dettrace, and compares what came.
+
+    python3 vectors/linux.py [SEQUENCES [FIRST]]
+
+Each sequence has 120 calls and begins in an empty root; it is a function of its number, which counts from FIRST (0).
+Two calls agree where both are refused, or both are done with one answer and leave the same bytes (of what is told of a
+node, all but its device, its times, its blocks and a directory's size; inodes by which of them are equal). Which errno
+a refused call has isn't compared, since Linux looks for refusals in another order. What docs/GUESTS.md says of files
+is known, and ends a sequence where it makes the two trees differ: a file that would get too large, a place in a
+directory, `..` of a working directory that was removed. Modes with the bit 02000 aren't tried, nor the right to execute.
+The last line is 'N sequences of 120 calls, M calls done, K differ'; the status is 0 where K is 0.
+
+It needs a Linux system on x86-64, root or a user namespace (for chroot), and the program that is built.
+"""
+import argparse
+import contextlib
+import ctypes
+import errno
+import json
+import mmap
+import os
+import pathlib
+import random
+import resource
+import signal
+import struct
+import subprocess
+import sys
+import tempfile
+from dataclasses import dataclass
+from typing import Callable, NamedTuple
+
+TOP = pathlib.Path(__file__).resolve().parent.parent
+PROGRAM = TOP / "crates/dettrace/out/dettrace"
+CALLS_OF_A_SEQUENCE = 120
+
+# Where things lie in memory, on both sides: the calls' data, the answers, and behind these a buffer for each call.
+TABLE, DATA, ANSWERS, BUFFERS, BUFFER = 0x40000, 0x80000, 0x100000, 0x110000, 0x400
+SIZE = BUFFERS - ANSWERS + BUFFER * CALLS_OF_A_SEQUENCE
+AT_FDCWD = -100
+# As a first argument: the descriptor that the last openat answered.
+OPENED = -777
+CONTENT = bytes(range(65, 91)) * 8
+NAMES = [b"a", b"a", b"b", b"b", b"c", b"l"]
+ODD_PATHS = [b"", b"/", b"//", b".", b"..", b"/.", b"/..", b"./", b"../", b"n" * 255, b"n" * 256, b"a/" + b"x" * 256,
+             b"/" * 4094 + b"a", b"/" * 4095 + b"a"]
+BAD_ADDRESSES = [0, 8, 1 << 38]
+MODES = [0o644, 0o755, 0o777, 0o700, 0o4755, 0o1777, 0, 0o175755]
+
+
+class Sequence:
+    """Random calls, and the bytes that their arguments point to."""
+
+    def __init__(self, seed: int):
+        self.random = random.Random(seed)
+        self.calls: list[tuple[str, tuple[int, ...]]] = []
+        self.data = bytearray(CONTENT)
+        self.texts: dict[bytes, int] = {}
+        for name, *arguments in self.setup():
+            if self.random.random() < 0.75:
+                self.calls.append((name, tuple(arguments)))
+        names = list(CALLS)
+        weights = [call.weight for call in CALLS.values()]
+        while len(self.calls) < CALLS_OF_A_SEQUENCE:
+            name, = self.random.choices(names, weights)
+            self.calls.append((name, CALLS[name].arguments(self)))
+
+    def setup(self):
+        """Calls by which a tree comes to be; a quarter of them is left out."""
+        for path in b"a", b"b", b"a/b", b"b/a":
+            yield "mkdirat", AT_FDCWD, self.text(path), 0o755
+        for path in b"c", b"a/c":
+            yield "openat", AT_FDCWD, self.text(path), os.O_CREAT | os.O_RDWR, 0o644
+            yield "write", OPENED, DATA, 30
+        for target, path in (b"a", b"l"), (b"../c", b"b/l"), (b"/a/b", b"a/l"), (b"nothing", b"b/b"):
+            yield "symlinkat", self.text(target), AT_FDCWD, self.text(path)
+        yield "linkat", AT_FDCWD, self.text(b"c"), AT_FDCWD, self.text(b"b/c"), 0
+        yield "openat", AT_FDCWD, self.text(b"a"), os.O_DIRECTORY
+        yield "chdir", self.text(b"a")
+        yield "chdir", self.text(b"b")
+
+    def one(self, *choices: int) -> int:
+        return self.random.choice(choices)
+
+    def text(self, text: bytes) -> int:
+        """Where a text stands, with a zero behind it."""
+        if text not in self.texts:
+            self.texts[text] = DATA + len(self.data)
+            self.data += text + bytes(8 - len(text) % 8)
+        return self.texts[text]
+
+    def name(self) -> bytes:
+        """A path: mostly one of a few names, or two or three of them."""
+        if self.random.random() < 0.03:
+            return self.random.choice(ODD_PATHS)
+        dots = [b".", b".."] if self.random.random() < 0.4 else []
+        path = b"/".join(self.random.choices(NAMES + dots, k=self.one(1, 1, 1, 2, 2, 3)))
+        if self.random.random() < 0.35:
+            path = b"/" + path
+        if self.random.random() < 0.1:
+            path += b"/"
+        return path.replace(b"/", b"//") if self.random.random() < 0.05 else path
+
+    def path(self) -> int:
+        return self.one(*BAD_ADDRESSES) if self.random.random() < 0.015 else self.text(self.name())
+
+    def at(self) -> int:
+        """A directory that paths begin at."""
+        return AT_FDCWD if self.random.random() < 0.85 else self.one(3, 4, 5, 6, 7, 1, 99, -1, OPENED, OPENED)
+
+    def fd(self) -> int:
+        return OPENED if self.random.random() < 0.6 else self.one(3, 3, 4, 4, 5, 5, 6, 7, 8, 9, 10, 63, 64, -1)
+
+    def buffer(self) -> int:
+        """The buffer of the call that is made next."""
+        return BUFFERS + BUFFER * len(self.calls)
+
+    def flags(self) -> int:
+        """Flags of openat. Linux has refused O_CREAT with O_DIRECTORY since 6.4 alone."""
+        flags = self.one(os.O_RDONLY, os.O_RDONLY, os.O_WRONLY, os.O_RDWR)
+        made = self.one(0, os.O_CREAT, os.O_CREAT, os.O_CREAT | os.O_EXCL, os.O_DIRECTORY)
+        for flag in os.O_TRUNC, os.O_APPEND, os.O_NOFOLLOW, os.O_CLOEXEC, os.O_NONBLOCK:
+            flags |= self.one(0, 0, 0, flag)
+        return flags | made
+
+    def mode(self) -> int:
+        return self.one(*MODES)
+
+
+class Kind(NamedTuple):
+    """A call: its number on RISC-V and on x86-64, how often it is made, and its arguments."""
+    number: int
+    native: int
+    weight: int
+    arguments: Callable[[Sequence], tuple[int, ...]]
+
+
+CALLS = {
+    "openat": Kind(56, 257, 12, lambda s: (s.at(), s.path(), s.flags(), s.mode())),
+    "mkdirat": Kind(34, 258, 6, lambda s: (s.at(), s.path(), s.mode())),
+    "symlinkat": Kind(36, 266, 6, lambda s: (s.path(), s.at(), s.path())),
+    "linkat": Kind(37, 265, 6, lambda s: (s.at(), s.path(), s.at(), s.path(), s.one(0, 0, 0x400))),
+    "unlinkat": Kind(35, 263, 8, lambda s: (s.at(), s.path(), s.one(0, 0, 0x200))),
+    "renameat2": Kind(276, 316, 10, lambda s: (s.at(), s.path(), s.at(), s.path(), s.one(0, 0, 0, 1))),
+    "newfstatat": Kind(79, 262, 8, lambda s: (s.at(), s.path(), s.buffer(), s.one(0, 0, 0x100, 0x100, 0x800, 0x1100))),
+    "fstat": Kind(80, 5, 3, lambda s: (s.fd(), s.buffer())),
+    "faccessat": Kind(48, 269, 3, lambda s: (s.at(), s.path(), s.one(0, 2, 4, 6))),
+    "chdir": Kind(49, 80, 3, lambda s: (s.path(),)),
+    "getcwd": Kind(17, 79, 2, lambda s: (s.buffer(), s.one(0, 1, 2, 3, 8, BUFFER))),
+    "readlinkat": Kind(78, 267, 3, lambda s: (s.at(), s.path(), s.buffer(), s.one(BUFFER, BUFFER, 1, 2, 0, -1))),
+    "read": Kind(63, 0, 3, lambda s: (s.fd(), s.buffer(), s.one(0, 1, 5, 100, BUFFER))),
+    "write": Kind(64, 1, 4, lambda s: (s.fd(), DATA + s.one(*range(26)), s.one(0, 1, 5, 26, 100))),
+    "pread64": Kind(67, 17, 2, lambda s: (s.fd(), s.buffer(), s.one(0, 1, 5, 100), s.one(0, 3, 50, 1000, -1))),
+    "pwrite64": Kind(68, 18, 2, lambda s: (s.fd(), DATA, s.one(0, 1, 5, 100), s.one(0, 3, 50, 300, -1))),
+    "lseek": Kind(62, 8, 3, lambda s: (s.fd(), s.one(0, 1, 5, 100, -1, -5, 1 << 40), s.one(0, 1, 2, 5))),
+    "ftruncate": Kind(46, 77, 2, lambda s: (s.fd(), s.one(0, 1, 5, 100, 1000, -1))),
+    "close": Kind(57, 3, 4, lambda s: (s.fd(),)),
+    "dup": Kind(23, 32, 1, lambda s: (s.fd(),)),
+    "dup3": Kind(24, 292, 1, lambda s: (s.fd(), s.fd(), s.one(0, 0x80000, 1))),
+    "fcntl": Kind(25, 72, 2, lambda s: (s.fd(), s.one(0, 1, 2, 3, 1030), s.one(0, 1, 3, 9, 63, 64, -1))),
+    "pipe2": Kind(59, 293, 1, lambda s: (s.buffer(), s.one(0x800, 0x800, 0x80800, 0x801))),
+    "umask": Kind(166, 95, 1, lambda s: (s.one(0, 0o22, 0o77, 0o777, -1, 0o7777),)),
+    "fchmodat": Kind(53, 268, 3, lambda s: (s.at(), s.path(), s.mode())),
+    "getdents64": Kind(61, 217, 3, lambda s: (OPENED, s.buffer(), BUFFER)),
+}
+
+
+@dataclass
+class Outcome:
+    """The answers of a sequence's calls, and what is in their buffers."""
+    memory: bytes
+
+    def answer(self, index: int) -> int:
+        return struct.unpack_from("<q", self.memory, 8 * index)[0]
+
+    def buffer(self, index: int) -> bytes:
+        start = BUFFERS - ANSWERS + BUFFER * index
+        return self.memory[start:start + BUFFER]
+
+
+# --- dettrace: a guest that goes through a table of calls
+
+def addi(rd: int, rs1: int, value: int) -> int:
+    return (value & 0xFFF) << 20 | rs1 << 15 | rd << 7 | 0x13
+
+
+def li(rd: int, value: int) -> list[int]:
+    high = (value + 0x800) >> 12
+    return [(high & 0xFFFFF) << 12 | rd << 7 | 0x37, addi(rd, rd, value - (high << 12))]
+
+
+def ld(rd: int, offset: int, rs1: int) -> int:
+    return offset << 20 | rs1 << 15 | 3 << 12 | rd << 7 | 0x03
+
+
+def bne(rs1: int, rs2: int, offset: int) -> int:
+    return ((offset >> 12 & 1) << 31 | (offset >> 5 & 0x3F) << 25 | rs2 << 20 | rs1 << 15 | 1 << 12
+            | (offset >> 1 & 15) << 8 | (offset >> 11 & 1) << 7 | 0x63)
+
+
+def code() -> bytes:
+    """Makes the calls of the table, keeps the answers, writes them with the buffers to standard output, and exits."""
+    ecall, a0, a1, a2, a7, s0, s1, s2, s3, s4, s5 = 0x73, 10, 11, 12, 17, 8, 9, 18, 19, 20, 21
+    keep_a0 = a0 << 20 | s1 << 15 | 3 << 12 | 0x23
+    loop = [ld(a7, 0, s0), *(ld(a0 + i, 8 + 8 * i, s0) for i in range(6)), bne(a0, s4, 8), addi(a0, s3, 0), ecall,
+            bne(a7, s5, 8), addi(s3, a0, 0), keep_a0, addi(s1, s1, 8), addi(s0, s0, 56), addi(s2, s2, -1)]
+    words = [*li(s0, TABLE), *li(s1, ANSWERS), *li(s2, CALLS_OF_A_SEQUENCE), *li(s3, -1), *li(s4, OPENED),
+             *li(s5, CALLS["openat"].number), *loop, bne(s2, 0, -4 * len(loop)), *li(a0, 1), *li(a1, ANSWERS),
+             *li(a2, SIZE), *li(a7, 64), ecall, *li(a0, 0), *li(a7, 93), ecall]
+    return b"".join(struct.pack("<I", word & 0xFFFFFFFF) for word in words)
+
+
+def guest(sequence: Sequence) -> bytes:
+    """The executable: code, table of calls, data, and room for what comes."""
+    table = b"".join(struct.pack("<7q", CALLS[name].number, *arguments, *[0] * (6 - len(arguments)))
+                     for name, arguments in sequence.calls)
+    parts = [(0x10000, code(), 5), (TABLE, table, 6), (DATA, bytes(sequence.data), 6), (ANSWERS, b"", 6)]
+    headers, file = b"", bytes(0x1000)
+    for address, part, rights in parts:
+        size = SIZE if address == ANSWERS else len(part)
+        headers += struct.pack("<IIQQQQQQ", 1, rights, len(file), address, address, len(part), size, 0x1000)
+        file += part + bytes(-len(part) % 0x1000)
+    start = b"\x7fELF\x02\x01\x01" + bytes(9) + struct.pack(
+        "<HHIQQQIHHHHHH", 2, 243, 1, 0x10000, 64, 0, 0, 64, 56, len(parts), 0, 0, 0)
+    return start + headers + file[len(start + headers):]
+
+
+def in_dettrace(sequence: Sequence, folder: pathlib.Path) -> Outcome | None:
+    """What comes in dettrace; None where the run ended before, as by a signal."""
+    (folder / "p").write_bytes(guest(sequence))
+    entry = {"path": "/p", "type": "file", "mode": 0o755, "blob": "p"}
+    (folder / "image.json").write_text(json.dumps({"version": 1, "entries": [entry]}))
+    ran = subprocess.run([PROGRAM, "run", folder, "--", "/p"], stdin=subprocess.DEVNULL, capture_output=True)
+    if ran.returncode != 0:
+        return None
+    event, report = ran.stdout.split(b"\n", 2)[1:]
+    assert event == b"out 1 %d" % SIZE, event
+    return Outcome(report[:SIZE])
+
+
+# --- Linux: a child that makes the calls itself
+
+LIBC = ctypes.CDLL(None, use_errno=True)
+LIBC.syscall.restype = ctypes.c_long
+LIBC.mmap.restype = ctypes.c_void_p
+LIBC.mmap.argtypes = [ctypes.c_void_p, ctypes.c_size_t, ctypes.c_int, ctypes.c_int, ctypes.c_int, ctypes.c_long]
+
+
+def system_call(number: int, *arguments: int) -> int:
+    """A call's answer, minus the errno where it is refused."""
+    answer = LIBC.syscall(*map(ctypes.c_long, (number, *arguments)))
+    return -ctypes.get_errno() if answer == -1 else answer
+
+
+def become_root() -> None:
+    """Enters a user namespace in which the user is root."""
+    user, group = os.geteuid(), os.getegid()
+    if LIBC.unshare(0x10000000) != 0:
+        raise OSError("no user namespace")
+    for file, text in ("setgroups", "deny"), ("uid_map", f"0 {user} 1"), ("gid_map", f"0 {group} 1"):
+        pathlib.Path("/proc/self", file).write_text(text)
+
+
+def enter(root: str) -> None:
+    """Makes a folder the root, with the descriptors and the mask of a guest."""
+    if os.geteuid() != 0:
+        become_root()
+    null = os.open("/dev/null", os.O_RDWR)
+    os.chroot(root)
+    os.chdir("/")
+    os.umask(0o22)
+    signal.signal(signal.SIGPIPE, signal.SIG_DFL)
+    resource.setrlimit(resource.RLIMIT_NOFILE, (64, 64))
+    for descriptor in range(3):
+        os.dup2(null, descriptor)
+    os.closerange(3, 64)
+
+
+def make_calls(sequence: Sequence, shared: mmap.mmap) -> None:
+    """Makes the calls, with data and buffers at the guest's addresses."""
+    private, writable = mmap.MAP_PRIVATE | mmap.MAP_ANONYMOUS | 0x10, mmap.PROT_READ | mmap.PROT_WRITE
+    for address, size in (DATA, len(sequence.data)), (ANSWERS, SIZE):
+        assert LIBC.mmap(address, size, writable, private, -1, 0) == address
+    ctypes.memmove(DATA, bytes(sequence.data), len(sequence.data))
+    opened = -1
+    for index, (name, arguments) in enumerate(sequence.calls):
+        first = opened if arguments[0] == OPENED else arguments[0]
+        answer = system_call(CALLS[name].native, first, *arguments[1:])
+        if name == "openat":
+            opened = answer
+        ctypes.memmove(ANSWERS + 8 * index, struct.pack("<q", answer), 8)
+    shared[:] = ctypes.string_at(ANSWERS, SIZE)
+
+
+def on_linux(sequence: Sequence, folder: pathlib.Path) -> Outcome | None:
+    """What comes on Linux, where the root has one file, `/p`; None where a signal ended the calls."""
+    (folder / "p").write_bytes(b"p")
+    for node in folder, folder / "p":
+        node.chmod(0o755)
+    with mmap.mmap(-1, SIZE) as shared:
+        child = os.fork()
+        if child == 0:
+            with contextlib.suppress(BaseException):
+                enter(str(folder))
+                make_calls(sequence, shared)
+                os._exit(0)
+            os._exit(1)
+        status = os.waitpid(child, 0)[1]
+        if os.WIFSIGNALED(status):
+            return None
+        if status != 0:
+            raise OSError("Linux doesn't let this program change its root")
+        return Outcome(shared[:])
+
+
+# --- what is compared
+
+def told(buffer: bytes, native: bool, inodes: dict[int, int]) -> tuple:
+    """What is told of a node, as far as it is compared."""
+    if native:
+        _, inode, links, mode, user, group, _, device, size, block = struct.unpack_from("<QQQIIIIQQQ", buffer)
+    else:
+        _, inode, mode, links, user, group, device, _, size, block = struct.unpack_from("<QQIIIIQQqi", buffer)
+    is_dir = mode & 0o170000 == 0o040000
+    is_pipe = mode & 0o170000 == 0o010000
+    which = None if is_pipe else inodes.setdefault(inode, len(inodes))
+    return which, oct(mode), links, user, group, device, None if is_dir else size, block
+
+
+def entries(buffer: bytes) -> list[tuple]:
+    """A listing's names and types, in order of names."""
+    found, at = [], 0
+    while size := struct.unpack_from("<H", buffer, at + 16)[0]:
+        found.append((buffer[at + 19:at + size].split(b"\0")[0], buffer[at + 18]))
+        at += size
+    return sorted(found)
+
+
+class Known(Exception):
+    """A difference that docs/GUESTS.md tells, behind which the trees differ."""
+
+
+def goes_up(sequence: Sequence, arguments: tuple[int, ...]) -> bool:
+    """Whether one of a call's paths leads to `..` of the directory that it begins at."""
+    paths = (text for text, address in sequence.texts.items() if address in arguments)
+    names = ([name for name in path.split(b"/") if name != b"."] for path in paths)
+    return any(first == b".." for first, *_ in filter(None, names))
+
+
+def agree(sequence: Sequence, index: int, ours: int, linux: int) -> bool:
+    """Whether two answers of a call agree."""
+    name, arguments = sequence.calls[index]
+    if ours < 0 and linux < 0:
+        return True
+    if ours == -errno.ENOENT and goes_up(sequence, arguments):
+        raise Known("`..` of a directory that was removed")
+    if name == "newfstatat" and arguments[1] == 0 and ours == -errno.EFAULT:
+        return linux == 0  # since 6.11 an address of 0 is an empty path
+    if ours == -errno.EFBIG and name in ("write", "pwrite64"):
+        raise Known("a file that would get too large")
+    if ours == -errno.EINVAL and name == "lseek":
+        raise Known("a place in a directory")
+    if name == "fcntl" and arguments[1] == 3:
+        return ours == linux & (os.O_ACCMODE | os.O_APPEND | os.O_NONBLOCK)
+    return ours == linux
+
+
+def differences(sequence: Sequence, ours: Outcome, linux: Outcome):
+    """The calls that differ, each with what came; none behind a known difference of the trees."""
+    here, there = {}, {}
+    for index, (name, _) in enumerate(sequence.calls):
+        pair = ours.answer(index), linux.answer(index)
+        buffers = ours.buffer(index), linux.buffer(index)
+        if not agree(sequence, index, *pair):
+            yield index, pair
+        elif pair[0] >= 0 and name in ("fstat", "newfstatat"):
+            nodes = told(buffers[0], False, here), told(buffers[1], True, there)
+            if nodes[0] != nodes[1]:
+                yield index, nodes
+        elif name == "getdents64" and pair[0] >= 0:
+            listings = entries(buffers[0]), entries(buffers[1])
+            if listings[0] != listings[1]:
+                yield index, listings
+        elif pair[0] >= 0 and buffers[0] != buffers[1]:
+            yield index, buffers
+
+
+def first_difference(sequence: Sequence, ours: Outcome, linux: Outcome) -> str | None:
+    """The first call that differs, in words."""
+    try:
+        index, (here, there) = next(differences(sequence, ours, linux))
+    except (StopIteration, Known):
+        return None
+    name, arguments = sequence.calls[index]
+    where = {address: text for text, address in sequence.texts.items()}
+    shown = ", ".join(repr(where[a][:60]) if a in where else str(a) for a in arguments)
+    return f"call {index}, {name}({shown}): {here}, on Linux {there}"
+
+
+def main() -> int:
+    parser = argparse.ArgumentParser(description=__doc__, formatter_class=argparse.RawDescriptionHelpFormatter)
+    parser.add_argument("sequences", nargs="?", type=int, default=1000)
+    parser.add_argument("first", nargs="?", type=int, default=0)
+    count, first = vars(parser.parse_args()).values()
+    if not os.access(PROGRAM, os.X_OK):
+        parser.error("the program is not built; ./dettrace builds it")
+    done = differ = 0
+    for number in range(first, first + count):
+        sequence = Sequence(number)
+        with tempfile.TemporaryDirectory() as image, tempfile.TemporaryDirectory(dir="/dev/shm") as root:
+            ours, linux = in_dettrace(sequence, pathlib.Path(image)), on_linux(sequence, pathlib.Path(root))
+        if ours is None or linux is None:
+            difference = None if ours is linux else "one of the two was ended by a signal"
+        else:
+            done += sum(linux.answer(index) >= 0 for index in range(CALLS_OF_A_SEQUENCE))
+            difference = first_difference(sequence, ours, linux)
+        if difference is not None:
+            differ += 1
+            print(f"sequence {number}: {difference}")
+    print(f"{count} sequences of {CALLS_OF_A_SEQUENCE} calls, {done} calls done, {differ} differ")
+    return differ > 0
+
+
+if __name__ == "__main__":
+    sys.exit(main())
