@@ -8,8 +8,8 @@ Two calls agree where both are refused, or both are done with one answer and lea
 node, all but its device, its times, its blocks and a directory's size; inodes by which of them are equal). Which errno
 a refused call has isn't compared, since Linux looks for refusals in another order. What docs/GUESTS.md says of files
 is known, and ends a sequence where it makes the two trees differ: a file that would get too large, a place in a
-directory, `..` of a working directory that was removed. Modes with the bit 02000 aren't tried, nor the right to execute.
-The last line is 'N sequences of 120 calls, M calls done, K differ'; the status is 0 where K is 0.
+directory, `..` of a directory that was removed. Modes with the bit 02000 aren't tried, nor the right to execute.
+The last line is 'N sequences, M calls compared, L of them done, K sequences differ'; the status is 0 where K is 0.
 
 It needs a Linux system on x86-64, root or a user namespace (for chroot), and the program that is built.
 """
@@ -24,6 +24,7 @@ import pathlib
 import random
 import resource
 import signal
+import stat
 import struct
 import subprocess
 import sys
@@ -38,6 +39,8 @@ CALLS_OF_A_SEQUENCE = 120
 # Where things lie in memory, on both sides: the calls' data, the answers, and behind these a buffer for each call.
 TABLE, DATA, ANSWERS, BUFFERS, BUFFER = 0x40000, 0x80000, 0x100000, 0x110000, 0x400
 SIZE = BUFFERS - ANSWERS + BUFFER * CALLS_OF_A_SEQUENCE
+# Behind them Linux keeps a byte for each call.
+SHARED = SIZE + CALLS_OF_A_SEQUENCE
 AT_FDCWD = -100
 # As a first argument: the descriptor that the last openat answered.
 OPENED = -777
@@ -46,6 +49,10 @@ NAMES = [b"a", b"a", b"b", b"b", b"c", b"l"]
 ODD_PATHS = [b"", b"/", b"//", b".", b"..", b"/.", b"/..", b"./", b"../", b"n" * 255, b"n" * 256, b"a/" + b"x" * 256,
              b"/" * 4094 + b"a", b"/" * 4095 + b"a"]
 BAD_ADDRESSES = [0, 8, 1 << 38]
+FILE_LIMIT = 16_777_216
+# What Linux knows before a call: its descriptor is a directory, or has a place behind which a write would be too large;
+# a directory at which a path may begin was removed.
+IS_DIRECTORY, IS_FAR, IS_REMOVED = 1, 2, 4
 MODES = [0o644, 0o755, 0o777, 0o700, 0o4755, 0o1777, 0, 0o175755]
 
 
@@ -166,6 +173,10 @@ CALLS = {
 }
 
 
+# Which arguments are directories at which a path begins, where that is not the first alone.
+STARTS = {"symlinkat": [1], "linkat": [0, 2], "renameat2": [0, 2]}
+
+
 @dataclass
 class Outcome:
     """The answers of a sequence's calls, and what is in their buffers."""
@@ -173,6 +184,10 @@ class Outcome:
 
     def answer(self, index: int) -> int:
         return struct.unpack_from("<q", self.memory, 8 * index)[0]
+
+    def notes(self, index: int) -> int:
+        """What Linux knew before the call."""
+        return self.memory[SIZE + index]
 
     def buffer(self, index: int) -> bytes:
         start = BUFFERS - ANSWERS + BUFFER * index
@@ -277,6 +292,21 @@ def enter(root: str) -> None:
     os.closerange(3, 64)
 
 
+def notes(name: str, arguments: tuple[int, ...]) -> int:
+    """What Linux knows before a call, as far as it matters to a known difference."""
+    found = 0
+    for start in [".", *(arguments[at] for at in STARTS.get(name, [0]) if 0 <= arguments[at] < 64)]:
+        with contextlib.suppress(OSError):
+            found |= IS_REMOVED * (os.stat(start).st_nlink == 0)
+    with contextlib.suppress(OSError, OverflowError):
+        node = os.fstat(arguments[0])
+        found |= IS_DIRECTORY * stat.S_ISDIR(node.st_mode)
+        if name in ("write", "pwrite64"):
+            place = arguments[3] if name == "pwrite64" else os.lseek(arguments[0], 0, os.SEEK_CUR)
+            found |= IS_FAR * (max(place, node.st_size) + arguments[2] > FILE_LIMIT)
+    return found
+
+
 def make_calls(sequence: Sequence, shared: mmap.mmap) -> None:
     """Makes the calls, with data and buffers at the guest's addresses."""
     private, writable = mmap.MAP_PRIVATE | mmap.MAP_ANONYMOUS | 0x10, mmap.PROT_READ | mmap.PROT_WRITE
@@ -285,12 +315,14 @@ def make_calls(sequence: Sequence, shared: mmap.mmap) -> None:
     ctypes.memmove(DATA, bytes(sequence.data), len(sequence.data))
     opened = -1
     for index, (name, arguments) in enumerate(sequence.calls):
-        first = opened if arguments[0] == OPENED else arguments[0]
-        answer = system_call(CALLS[name].native, first, *arguments[1:])
+        if arguments[0] == OPENED:
+            arguments = opened, *arguments[1:]
+        shared[SIZE + index] = notes(name, arguments)
+        answer = system_call(CALLS[name].native, *arguments)
         if name == "openat":
             opened = answer
         ctypes.memmove(ANSWERS + 8 * index, struct.pack("<q", answer), 8)
-    shared[:] = ctypes.string_at(ANSWERS, SIZE)
+    shared[:SIZE] = ctypes.string_at(ANSWERS, SIZE)
 
 
 def on_linux(sequence: Sequence, folder: pathlib.Path) -> Outcome | None:
@@ -298,7 +330,7 @@ def on_linux(sequence: Sequence, folder: pathlib.Path) -> Outcome | None:
     (folder / "p").write_bytes(b"p")
     for node in folder, folder / "p":
         node.chmod(0o755)
-    with mmap.mmap(-1, SIZE) as shared:
+    with mmap.mmap(-1, SHARED) as shared:
         child = os.fork()
         if child == 0:
             with contextlib.suppress(BaseException):
@@ -310,7 +342,7 @@ def on_linux(sequence: Sequence, folder: pathlib.Path) -> Outcome | None:
         if os.WIFSIGNALED(status):
             return None
         if status != 0:
-            raise OSError("Linux doesn't let this program change its root")
+            raise OSError("the calls can't be made on this Linux: is there root or a user namespace?")
         return Outcome(shared[:])
 
 
@@ -348,78 +380,97 @@ def goes_up(sequence: Sequence, arguments: tuple[int, ...]) -> bool:
     return any(first == b".." for first, *_ in filter(None, names))
 
 
-def agree(sequence: Sequence, index: int, ours: int, linux: int) -> bool:
+def agree(sequence: Sequence, index: int, ours: int, linux: int, notes: int) -> bool:
     """Whether two answers of a call agree."""
     name, arguments = sequence.calls[index]
     if ours < 0 and linux < 0:
         return True
-    if ours == -errno.ENOENT and goes_up(sequence, arguments):
+    if ours == -errno.ENOENT and notes & IS_REMOVED and goes_up(sequence, arguments):
         raise Known("`..` of a directory that was removed")
     if name == "newfstatat" and arguments[1] == 0 and ours == -errno.EFAULT:
         return linux == 0  # since 6.11 an address of 0 is an empty path
-    if ours == -errno.EFBIG and name in ("write", "pwrite64"):
+    if ours == -errno.EFBIG and notes & IS_FAR:
         raise Known("a file that would get too large")
-    if ours == -errno.EINVAL and name == "lseek":
+    if ours == -errno.EINVAL and notes & IS_DIRECTORY and name == "lseek":
         raise Known("a place in a directory")
     if name == "fcntl" and arguments[1] == 3:
         return ours == linux & (os.O_ACCMODE | os.O_APPEND | os.O_NONBLOCK)
     return ours == linux
 
 
-def differences(sequence: Sequence, ours: Outcome, linux: Outcome):
-    """The calls that differ, each with what came; none behind a known difference of the trees."""
-    here, there = {}, {}
-    for index, (name, _) in enumerate(sequence.calls):
-        pair = ours.answer(index), linux.answer(index)
-        buffers = ours.buffer(index), linux.buffer(index)
-        if not agree(sequence, index, *pair):
-            yield index, pair
-        elif pair[0] >= 0 and name in ("fstat", "newfstatat"):
-            nodes = told(buffers[0], False, here), told(buffers[1], True, there)
-            if nodes[0] != nodes[1]:
-                yield index, nodes
-        elif name == "getdents64" and pair[0] >= 0:
-            listings = entries(buffers[0]), entries(buffers[1])
-            if listings[0] != listings[1]:
-                yield index, listings
-        elif pair[0] >= 0 and buffers[0] != buffers[1]:
-            yield index, buffers
-
-
-def first_difference(sequence: Sequence, ours: Outcome, linux: Outcome) -> str | None:
-    """The first call that differs, in words."""
-    try:
-        index, (here, there) = next(differences(sequence, ours, linux))
-    except (StopIteration, Known):
+def difference(sequence: Sequence, index: int, pair: tuple[Outcome, Outcome], inodes: tuple[dict, dict]):
+    """What came of a call on both sides where that differs, or None."""
+    ours, linux = pair
+    name = sequence.calls[index][0]
+    answers = ours.answer(index), linux.answer(index)
+    if not agree(sequence, index, *answers, linux.notes(index)):
+        return answers
+    if answers[0] < 0:
         return None
+    came = ours.buffer(index), linux.buffer(index)
+    if name in ("fstat", "newfstatat"):
+        came = told(came[0], False, inodes[0]), told(came[1], True, inodes[1])
+    elif name == "getdents64":
+        came = entries(came[0]), entries(came[1])
+    return came if came[0] != came[1] else None
+
+
+def shown(sequence: Sequence, index: int) -> str:
+    """A call with its arguments, the paths among them as texts."""
     name, arguments = sequence.calls[index]
     where = {address: text for text, address in sequence.texts.items()}
-    shown = ", ".join(repr(where[a][:60]) if a in where else str(a) for a in arguments)
-    return f"call {index}, {name}({shown}): {here}, on Linux {there}"
+    texts = (repr(where[value][:60]) if value in where else str(value) for value in arguments)
+    return f"call {index}, {name}({', '.join(texts)})"
+
+
+@dataclass
+class Tally:
+    """How many calls were compared, how many of these were done, and how many sequences differ."""
+    compared: int = 0
+    done: int = 0
+    differ: int = 0
+
+    def compare(self, sequence: Sequence, ours: Outcome, linux: Outcome) -> str | None:
+        """The first call that differs, in words, if none comes before it behind which the trees differ."""
+        inodes: tuple[dict, dict] = {}, {}
+        for index in range(CALLS_OF_A_SEQUENCE):
+            try:
+                found = difference(sequence, index, (ours, linux), inodes)
+            except Known:
+                return None
+            if found is not None:
+                return f"{shown(sequence, index)}: {found[0]}, on Linux {found[1]}"
+            self.compared += 1
+            self.done += ours.answer(index) >= 0
+        return None
+
+    def run(self, number: int) -> None:
+        """Makes the calls of a sequence, and tells what differs."""
+        sequence = Sequence(number)
+        with tempfile.TemporaryDirectory() as image, tempfile.TemporaryDirectory(dir="/dev/shm") as root:
+            ours, linux = in_dettrace(sequence, pathlib.Path(image)), on_linux(sequence, pathlib.Path(root))
+        if ours is not None and linux is not None:
+            found = self.compare(sequence, ours, linux)
+        else:
+            found = None if ours is linux else "one of the two was ended by a signal"
+        if found is not None:
+            self.differ += 1
+            print(f"sequence {number}: {found}")
 
 
 def main() -> int:
     parser = argparse.ArgumentParser(description=__doc__, formatter_class=argparse.RawDescriptionHelpFormatter)
     parser.add_argument("sequences", nargs="?", type=int, default=1000)
     parser.add_argument("first", nargs="?", type=int, default=0)
-    count, first = vars(parser.parse_args()).values()
+    given = parser.parse_args()
     if not os.access(PROGRAM, os.X_OK):
         parser.error("the program is not built; ./dettrace builds it")
-    done = differ = 0
-    for number in range(first, first + count):
-        sequence = Sequence(number)
-        with tempfile.TemporaryDirectory() as image, tempfile.TemporaryDirectory(dir="/dev/shm") as root:
-            ours, linux = in_dettrace(sequence, pathlib.Path(image)), on_linux(sequence, pathlib.Path(root))
-        if ours is None or linux is None:
-            difference = None if ours is linux else "one of the two was ended by a signal"
-        else:
-            done += sum(linux.answer(index) >= 0 for index in range(CALLS_OF_A_SEQUENCE))
-            difference = first_difference(sequence, ours, linux)
-        if difference is not None:
-            differ += 1
-            print(f"sequence {number}: {difference}")
-    print(f"{count} sequences of {CALLS_OF_A_SEQUENCE} calls, {done} calls done, {differ} differ")
-    return differ > 0
+    tally = Tally()
+    for number in range(given.first, given.first + given.sequences):
+        tally.run(number)
+    print(f"{given.sequences} sequences, {tally.compared} calls compared, {tally.done} of them done, "
+          f"{tally.differ} sequences differ")
+    return tally.differ > 0
 
 
 if __name__ == "__main__":
