@@ -38,6 +38,13 @@ def command(program, folder, guest):
     return [program, "run", folder, "--budget", "1000000000", "--", "/" + os.path.basename(guest)]
 
 
+def print_growth(what, sizes, times, bound, bound_of):
+    """Prints the times at two sizes, in seconds, how much longer the second is, and how much it would be by a bound."""
+    print("%s: %d in %.1f microseconds, %d in %.1f, ratio %.2f, of %s %.2f"
+          % (what, sizes[0], times[0] * 1e6, sizes[1], times[1] * 1e6, times[1] / times[0], bound,
+             bound_of(sizes[1]) / bound_of(sizes[0])), flush=True)
+
+
 def run(*benches):
     """Runs each bench with the program that the command line names and an empty folder, and answers an exit status."""
     if len(sys.argv) != 2 or not os.access(sys.argv[1], os.X_OK):

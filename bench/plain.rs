@@ -306,7 +306,7 @@ const ROUNDS: u64 = 5_000_000;
 const CODE_PAGE: u64 = 16;
 const DATA_PAGE: u64 = 256;
 
-// The loop of crates/dt_bench/src/guest.rt.
+// The loop of bench/machine/machine.c.
 const WORDS: [u32; 11] = [
     0x0074_8333, 0x0003_3283, 0x0055_0533, 0x0082_c2b3, 0x0012_9293, 0x0053_3023, 0x0123_83b3, 0x0133_f3b3,
     0xfff4_0413, 0xfc04_1ee3, 0x0000_0073,

@@ -51,7 +51,7 @@ class BoundsTest(unittest.TestCase):
     def test_the_main_call(self) -> None:
         for bound in BOUNDS:
             with self.subTest(bound):
-                self.expect_refusal("dt_agreement", "src/lib.rt", f"    {bound},\n", bound)
+                self.expect_refusal("dt_run", "src/twice.rt", f"    {bound},\n", bound)
 
     def test_the_run_of_a_container(self) -> None:
         for bound in BOUNDS:

@@ -2,7 +2,7 @@
 """Makes the words that the assembler's test walks: each instruction at the limits of its fields, as the GNU assembler has it.
 
     apt-get install binutils-riscv64-linux-gnu
-    python3 vectors/encodings.py > crates/dt_vectors/src/encodings.rt
+    python3 vectors/encodings.py > crates/dt_tests_machine/src/encodings.rt
 """
 import os
 import struct

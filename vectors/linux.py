@@ -4,16 +4,19 @@
     python3 vectors/linux.py [SEQUENCES [FIRST]]
 
 Each sequence has 120 calls and begins in an empty root; it is a function of its number, which counts from FIRST (0).
-Two calls agree where both are refused, or both are done with one answer and leave the same bytes (of what is told of a
-node, all but its device, its times, its blocks and a directory's size; inodes by which of them are equal). Which errno
-a refused call has isn't compared, since Linux looks for refusals in another order. What docs/GUESTS.md says of files
-is known, and ends a sequence where it makes the two trees differ: a file that would get too large, a place in a
-directory, `..` of a directory that was removed. Modes with the bit 02000 aren't tried, nor the right to execute.
-The last line is 'N sequences, M calls compared, L of them done, K sequences differ'; the status is 0 where K is 0.
+Two calls agree where both are refused with one errno, or both are done with one answer and leave the same bytes (of
+what is told of a node, all but its device, its times, its blocks and a directory's size; inodes by which of them are
+equal). Where a call has several reasons to be refused, Linux may tell another of them: ORDERS has a row for each case
+that is known, and how often it came stands before the last line. Any other pair of errnos is a difference.
+What else docs/GUESTS.md says of files is known too, and ends a sequence where it makes the two trees differ: a file
+that would get too large, a place in a directory, `..` of a directory that was removed, a name that comes while its
+directory is listed. Modes with the bit 02000 aren't tried, nor the right to execute. The last line is 'N sequences,
+M calls compared, L of them done, K sequences differ'; the status is 0 where K is 0.
 
 It needs a Linux system on x86-64, root or a user namespace (for chroot), and the program that is built.
 """
 import argparse
+import collections
 import contextlib
 import ctypes
 import errno
@@ -29,7 +32,7 @@ import struct
 import subprocess
 import sys
 import tempfile
-from dataclasses import dataclass
+from dataclasses import dataclass, field
 from typing import Callable, NamedTuple
 
 TOP = pathlib.Path(__file__).resolve().parent.parent
@@ -51,8 +54,8 @@ ODD_PATHS = [b"", b"/", b"//", b".", b"..", b"/.", b"/..", b"./", b"../", b"n" *
 BAD_ADDRESSES = [0, 8, 1 << 38]
 FILE_LIMIT = 16_777_216
 # What Linux knows before a call: its descriptor is a directory, or has a place behind which a write would be too large;
-# a directory at which a path may begin was removed.
-IS_DIRECTORY, IS_FAR, IS_REMOVED = 1, 2, 4
+# a directory at which a path may begin was removed; some of the directory has been listed; there is nothing to rename.
+IS_DIRECTORY, IS_FAR, IS_REMOVED, IS_LISTED, IS_NOTHING = 1, 2, 4, 8, 16
 MODES = [0o644, 0o755, 0o777, 0o700, 0o4755, 0o1777, 0, 0o175755]
 
 
@@ -86,6 +89,11 @@ class Sequence:
         yield "openat", AT_FDCWD, self.text(b"a"), os.O_DIRECTORY
         yield "chdir", self.text(b"a")
         yield "chdir", self.text(b"b")
+
+    def paths(self, arguments: tuple[int, ...]) -> list[bytes]:
+        """The texts among a call's arguments, in their order."""
+        where = {address: text for text, address in self.texts.items()}
+        return [where[value] for value in arguments if value in where]
 
     def one(self, *choices: int) -> int:
         return self.random.choice(choices)
@@ -292,18 +300,33 @@ def enter(root: str) -> None:
     os.closerange(3, 64)
 
 
+def is_nothing(start: int, address: int) -> bool:
+    """Whether a path leads to nothing that can be renamed, or has a slash behind what is no directory."""
+    path = ctypes.string_at(address)
+    names = path.rstrip(b"/")
+    try:
+        node = os.stat(names, dir_fd=None if start == AT_FDCWD else start, follow_symlinks=False)
+    except OSError:
+        return True
+    return names.split(b"/")[-1] in (b".", b"..") or path != names and not stat.S_ISDIR(node.st_mode)
+
+
 def notes(name: str, arguments: tuple[int, ...]) -> int:
     """What Linux knows before a call, as far as it matters to a known difference."""
     found = 0
     for start in [".", *(arguments[at] for at in STARTS.get(name, [0]) if 0 <= arguments[at] < 64)]:
         with contextlib.suppress(OSError):
             found |= IS_REMOVED * (os.stat(start).st_nlink == 0)
+    if name == "renameat2" and arguments[1] not in BAD_ADDRESSES:
+        found |= IS_NOTHING * is_nothing(*arguments[:2])
     with contextlib.suppress(OSError, OverflowError):
         node = os.fstat(arguments[0])
         found |= IS_DIRECTORY * stat.S_ISDIR(node.st_mode)
         if name in ("write", "pwrite64"):
             place = arguments[3] if name == "pwrite64" else os.lseek(arguments[0], 0, os.SEEK_CUR)
             found |= IS_FAR * (max(place, node.st_size) + arguments[2] > FILE_LIMIT)
+        if name == "getdents64":
+            found |= IS_LISTED * (os.lseek(arguments[0], 0, os.SEEK_CUR) > 0)
     return found
 
 
@@ -349,15 +372,15 @@ def on_linux(sequence: Sequence, folder: pathlib.Path) -> Outcome | None:
 # --- what is compared
 
 def told(buffer: bytes, native: bool, inodes: dict[int, int]) -> tuple:
-    """What is told of a node, as far as it is compared."""
+    """What is told of a node, as far as it is compared: of a device, which input and streams are, that it is one."""
     if native:
         _, inode, links, mode, user, group, _, device, size, block = struct.unpack_from("<QQQIIIIQQQ", buffer)
     else:
         _, inode, mode, links, user, group, device, _, size, block = struct.unpack_from("<QQIIIIQQqi", buffer)
-    is_dir = mode & 0o170000 == 0o040000
-    is_pipe = mode & 0o170000 == 0o010000
-    which = None if is_pipe else inodes.setdefault(inode, len(inodes))
-    return which, oct(mode), links, user, group, device, None if is_dir else size, block
+    if stat.S_ISCHR(mode):
+        return "device",
+    which = None if stat.S_ISFIFO(mode) else inodes.setdefault(inode, len(inodes))
+    return which, oct(mode), links, user, group, device, None if stat.S_ISDIR(mode) else size, block
 
 
 def entries(buffer: bytes) -> list[tuple]:
@@ -373,37 +396,120 @@ class Known(Exception):
     """A difference that docs/GUESTS.md tells, behind which the trees differ."""
 
 
-def goes_up(sequence: Sequence, arguments: tuple[int, ...]) -> bool:
-    """Whether one of a call's paths leads to `..` of the directory that it begins at."""
-    paths = (text for text, address in sequence.texts.items() if address in arguments)
-    names = ([name for name in path.split(b"/") if name != b"."] for path in paths)
-    return any(first == b".." for first, *_ in filter(None, names))
+class Made(NamedTuple):
+    """A call as it was made, its paths as texts, and what Linux knew before it."""
+    name: str
+    arguments: tuple[int, ...]
+    paths: list[bytes]
+    notes: int
+
+    def is_at_removed(self) -> bool:
+        """Whether a directory at which a path may begin was removed."""
+        return bool(self.notes & IS_REMOVED)
+
+    def finds_nothing(self) -> bool:
+        """Whether nothing can be renamed at the old path."""
+        return bool(self.notes & IS_NOTHING)
+
+    def goes_up(self) -> bool:
+        """Whether one of the paths leads to `..` of the directory that it begins at."""
+        names = ([name for name in path.split(b"/") if name != b"."] for path in self.paths)
+        return any(first == b".." for first, *_ in filter(None, names))
+
+    def has_slash(self) -> bool:
+        """Whether the last path ends in a slash."""
+        return any(path.endswith(b"/") for path in self.paths[-1:])
+
+    def opens_with(self, flag: int) -> bool:
+        """Whether openat has this flag."""
+        return bool(self.arguments[2] & flag)
 
 
-def agree(sequence: Sequence, index: int, ours: int, linux: int, notes: int) -> bool:
+class Order(NamedTuple):
+    """Two refusals of a call that both have a reason: what dettrace tells, what Linux does, in which case, and why."""
+    calls: str
+    ours: str
+    linux: str
+    case: Callable[[Made], bool]
+    reason: str
+
+    def explains(self, call: Made, ours: str, linux: str) -> bool:
+        """Whether these are the two errnos; a row without names has any."""
+        return (call.name in self.calls.split() and ours in (self.ours or ours).split()
+                and linux in (self.linux or linux).split() and self.case(call))
+
+
+ON_PATHS = "openat mkdirat symlinkat linkat unlinkat renameat2 newfstatat faccessat chdir readlinkat fchmodat"
+ORDERS = [
+    Order(ON_PATHS, "ENOENT", "", lambda call: call.is_at_removed() and call.goes_up(),
+          "a directory that was removed has no `..` here"),
+    Order(ON_PATHS, "ENAMETOOLONG", "ENOENT", Made.is_at_removed,
+          "Linux looks nothing up in a directory that was removed, so no name is too long"),
+    Order("openat", "ENOENT ENOTDIR EEXIST ENAMETOOLONG ELOOP", "EISDIR", lambda call: call.opens_with(os.O_CREAT),
+          "with O_CREAT, Linux refuses a slash at the end before it looks up the last name"),
+    Order("openat", "ELOOP", "ENOTDIR", lambda call: call.opens_with(os.O_DIRECTORY) and call.opens_with(os.O_NOFOLLOW),
+          "of a link that is not to be followed, Linux first tells that it is no directory"),
+    Order("mkdirat symlinkat linkat renameat2", "ENOTDIR", "EEXIST", Made.has_slash,
+          "Linux tells that the new name is taken before it looks at the slash behind it"),
+    Order("linkat renameat2", "EPERM ENOTDIR", "ENOENT", Made.is_at_removed,
+          "Linux looks at the new name's directory, which was removed, before it looks at what gets the name"),
+    Order("renameat2", "ENOENT ENOTDIR EBUSY ENAMETOOLONG",
+          "EFAULT ENOENT ENOTDIR EBUSY EEXIST ENAMETOOLONG ELOOP EBADF", Made.finds_nothing,
+          "Linux looks up the directories of both paths before the last name of the old one"),
+    Order("renameat2", "EISDIR", "ENOTDIR", Made.has_slash,
+          "Linux looks at the slash behind the new name before it looks at what has that name"),
+    Order("renameat2", "ENOTDIR", "EINVAL", Made.has_slash,
+          "Linux tells that a directory would go below itself before it looks at the slash behind the new name"),
+    Order("renameat2", "EISDIR", "ENOTEMPTY", lambda call: True,
+          "Linux tells that the old name is below the new one before it looks at what the two are"),
+    Order("readlinkat", "ENOENT", "EBADF", lambda call: b"" in call.paths,
+          "with an empty path, Linux looks at the directory first"),
+    Order("newfstatat", "EFAULT", "EBADF", lambda call: call.arguments[1] == 0,
+          "since Linux 6.11, AT_EMPTY_PATH makes an address of 0 an empty path"),
+    Order("pread64 pwrite64", "EBADF", "ESPIPE", lambda call: True,
+          "Linux tells that a pipe has no offsets before it looks at which end it is"),
+    Order("lseek", "ESPIPE", "EINVAL", lambda call: call.arguments[2] > 4,
+          "Linux looks at what the offset counts from before it looks at what is open"),
+]
+
+
+def order_of(call: Made, ours: int, linux: int) -> str | None:
+    """Why two refusals of a call have different errnos, where a row explains it."""
+    names = errno.errorcode[-ours], errno.errorcode[-linux]
+    return next((order.reason for order in ORDERS if order.explains(call, *names)), None)
+
+
+def agree(call: Made, ours: int, linux: int) -> bool:
     """Whether two answers of a call agree."""
-    name, arguments = sequence.calls[index]
     if ours < 0 and linux < 0:
-        return True
-    if ours == -errno.ENOENT and notes & IS_REMOVED and goes_up(sequence, arguments):
+        return ours == linux or order_of(call, ours, linux) is not None
+    if ours == -errno.ENOENT and call.is_at_removed() and call.goes_up():
         raise Known("`..` of a directory that was removed")
-    if name == "newfstatat" and arguments[1] == 0 and ours == -errno.EFAULT:
+    if call.name == "newfstatat" and call.arguments[1] == 0 and ours == -errno.EFAULT:
         return linux == 0  # since 6.11 an address of 0 is an empty path
-    if ours == -errno.EFBIG and notes & IS_FAR:
+    if ours == -errno.EFBIG and call.notes & IS_FAR:
         raise Known("a file that would get too large")
-    if ours == -errno.EINVAL and notes & IS_DIRECTORY and name == "lseek":
+    if ours == -errno.EINVAL and call.notes & IS_DIRECTORY and call.name == "lseek":
         raise Known("a place in a directory")
-    if name == "fcntl" and arguments[1] == 3:
+    if ours != linux and call.notes & IS_LISTED:
+        raise Known("a name that comes while its directory is listed")
+    if call.name == "fcntl" and call.arguments[1] == 3:
         return ours == linux & (os.O_ACCMODE | os.O_APPEND | os.O_NONBLOCK)
     return ours == linux
 
 
-def difference(sequence: Sequence, index: int, pair: tuple[Outcome, Outcome], inodes: tuple[dict, dict]):
+def made(sequence: Sequence, index: int, linux: Outcome) -> Made:
+    """A call of a sequence, as it was made on Linux."""
+    name, arguments = sequence.calls[index]
+    return Made(name, arguments, sequence.paths(arguments), linux.notes(index))
+
+
+def difference(call: Made, index: int, pair: tuple[Outcome, Outcome], inodes: tuple[dict, dict]):
     """What came of a call on both sides where that differs, or None."""
     ours, linux = pair
-    name = sequence.calls[index][0]
+    name = call.name
     answers = ours.answer(index), linux.answer(index)
-    if not agree(sequence, index, *answers, linux.notes(index)):
+    if not agree(call, *answers):
         return answers
     if answers[0] < 0:
         return None
@@ -423,26 +529,39 @@ def shown(sequence: Sequence, index: int) -> str:
     return f"call {index}, {name}({', '.join(texts)})"
 
 
+def named(came: object) -> str:
+    """What came of a call, a refusal by its name."""
+    return errno.errorcode.get(-came, str(came)) if isinstance(came, int) and came < 0 else str(came)
+
+
 @dataclass
 class Tally:
-    """How many calls were compared, how many of these were done, and how many sequences differ."""
+    """How many calls were compared, how many of these were done, why errnos differ, and how many sequences differ."""
     compared: int = 0
     done: int = 0
+    orders: collections.Counter = field(default_factory=collections.Counter)
     differ: int = 0
 
     def compare(self, sequence: Sequence, ours: Outcome, linux: Outcome) -> str | None:
         """The first call that differs, in words, if none comes before it behind which the trees differ."""
         inodes: tuple[dict, dict] = {}, {}
         for index in range(CALLS_OF_A_SEQUENCE):
+            call = made(sequence, index, linux)
             try:
-                found = difference(sequence, index, (ours, linux), inodes)
+                found = difference(call, index, (ours, linux), inodes)
             except Known:
                 return None
             if found is not None:
-                return f"{shown(sequence, index)}: {found[0]}, on Linux {found[1]}"
-            self.compared += 1
-            self.done += ours.answer(index) >= 0
+                return f"{shown(sequence, index)}: {named(found[0])}, on Linux {named(found[1])}"
+            self.count(call, ours.answer(index), linux.answer(index))
         return None
+
+    def count(self, call: Made, ours: int, linux: int) -> None:
+        """Counts a call that agrees."""
+        self.compared += 1
+        self.done += ours >= 0
+        if ours < 0 and linux < 0 and ours != linux:
+            self.orders[order_of(call, ours, linux)] += 1
 
     def run(self, number: int) -> None:
         """Makes the calls of a sequence, and tells what differs."""
@@ -468,6 +587,8 @@ def main() -> int:
     tally = Tally()
     for number in range(given.first, given.first + given.sequences):
         tally.run(number)
+    for order in ORDERS:
+        print(f"{tally.orders[order.reason]} times: {order.reason}")
     print(f"{given.sequences} sequences, {tally.compared} calls compared, {tally.done} of them done, "
           f"{tally.differ} sequences differ")
     return tally.differ > 0

@@ -5,7 +5,7 @@ Each row of the table is (word, a, b, expected). The words come from the GNU ass
 does from a guest of all of them that runs under qemu-riscv64. Neither knows anything of this repository.
 
     apt-get install qemu-user binutils-riscv64-linux-gnu
-    python3 vectors/make.py > crates/dt_vectors/src/vectors.rt
+    python3 vectors/make.py > crates/dt_tests_machine/src/vectors.rt
 
 What a and b are, and what is expected, by the instruction:
 

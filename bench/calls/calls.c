@@ -5,11 +5,10 @@ typedef unsigned long u64;
 typedef long i64;
 
 enum {
-    SYS_openat = 56, SYS_close = 57, SYS_getdents64 = 61, SYS_lseek = 62, SYS_pread64 = 67, SYS_pwrite64 = 68,
-    SYS_fstat = 80, SYS_exit = 93
+    SYS_openat = 56, SYS_close = 57, SYS_pread64 = 67, SYS_pwrite64 = 68, SYS_fstat = 80, SYS_exit = 93
 };
 
-enum { AT_FDCWD = -100, O_RDONLY = 0, O_RDWR = 2, LARGE = 65536 };
+enum { AT_FDCWD = -100, O_RDWR = 2, LARGE = 65536 };
 
 static char buffer[1 << 18];
 
@@ -44,16 +43,6 @@ static u64 number(const char *text)
     return value;
 }
 
-/* Lists a directory from its start to its end. */
-static i64 list(i64 fd)
-{
-    i64 bytes = 0, got;
-    call(SYS_lseek, fd, 0, 0, 0);
-    while ((got = call(SYS_getdents64, fd, (i64)buffer, sizeof buffer, 0)) > 0)
-        bytes += got;
-    return bytes;
-}
-
 /* Makes one call so many times, in a loop of four instructions. */
 static void repeat(i64 number, i64 a, i64 b, i64 c, i64 d, u64 count)
 {
@@ -84,11 +73,8 @@ static void make(char kind, i64 fd, u64 count)
         return repeat(SYS_pwrite64, fd, (i64)buffer, 1, 7, count);
     case 'R':
         return repeat(SYS_pread64, fd, (i64)buffer, LARGE, 0, count);
-    case 'W':
-        return repeat(SYS_pwrite64, fd, (i64)buffer, LARGE, 0, count);
     default:
-        for (u64 turn = 0; turn < count; turn++)
-            list(fd);
+        return repeat(SYS_pwrite64, fd, (i64)buffer, LARGE, 0, count);
     }
 }
 
@@ -97,7 +83,7 @@ int main(i64 *stack)
     char **argv = (char **)(stack + 1);
     char kind = argv[1][0];
     u64 count = number(argv[2]);
-    i64 fd = call(SYS_openat, AT_FDCWD, (i64)argv[3], kind == 'l' ? O_RDONLY : O_RDWR, 0);
+    i64 fd = call(SYS_openat, AT_FDCWD, (i64)argv[3], O_RDWR, 0);
     if (fd < 0)
         return 2;
     if (count > 0)

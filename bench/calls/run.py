@@ -2,9 +2,7 @@
 """Calls a second of one guest under a program and under qemu-riscv64: run.py PROGRAM.
 
 Each figure is the time of many calls less the time of none, the best of three runs. The guest is calls, beside this
-script. Where there is no qemu-riscv64 (Debian's package qemu-user), only the program is timed. The last two lines are
-of a whole listing, at two sizes."""
-import math
+script. Where there is no qemu-riscv64 (Debian's package qemu-user), only the program is timed."""
 import os
 import sys
 
@@ -15,8 +13,6 @@ import guests
 GUEST = os.path.join(HERE, "calls")
 RUNS = 3
 LARGE = 65536
-NAMES = (1000, 4000)
-LISTINGS = 200
 
 # What is called, the guest's letter for it, how many times, and the least ratio that is wanted.
 KINDS = [
@@ -51,19 +47,4 @@ def compare(program, top):
               % (what, speed, other, speed / other, wanted))
 
 
-def listings(program, top):
-    """Prints the time of a whole listing at each size."""
-    times = []
-    for names in NAMES:
-        folder = os.path.join(top, "names%d" % names)
-        entries = [{"path": "/d", "type": "dir", "mode": 0o755}]
-        entries += [{"path": "/d/%04d" % n, "type": "file", "mode": 0o644, "blob": "none"} for n in range(names)]
-        guests.write_image(folder, GUEST, entries, [("none", b"")])
-        ours = guests.command(program, folder, GUEST)
-        times.append(time_of_calls(ours, "l", LISTINGS, "/d") / LISTINGS)
-        print("listing of %d names by getdents64: %.0f microseconds" % (names, times[-1] * 1e6))
-    grows = NAMES[1] * math.log(NAMES[1]) / (NAMES[0] * math.log(NAMES[0]))
-    print("ratio %.2f, of n log n %.2f" % (times[1] / times[0], grows))
-
-
-sys.exit(guests.run(compare, listings))
+sys.exit(guests.run(compare))

@@ -1,13 +1,7 @@
 //! The program: it hands the folder, the host in memory and the standard streams to the call that is proved.
 #![tactic(auto)]
 
-mod folder_store;
-mod std_sink;
-#[cfg(test)]
-mod tests;
-
-use crate::folder_store::FolderStore;
-use crate::std_sink::StdSink;
+use dt_adapters::{FolderStore, StdSink};
 use dt_base::NoMemory;
 use dt_host::NoGate;
 use dt_memhost::{MemHost, Picker};

@@ -13,10 +13,10 @@ use Rattle.dt_asm.specs.declared.error.AsmErr.{AsmErr}
 use Rattle.dt_asm.specs.declared.error.AsmErr.TheVariants.{NoLabel, TwoLabels, Far, BadField, NoMemory, TooLong}
 use Rattle.dt_asm.specs.inner.Sized.{IsSized, IsGrown}
 use Rattle.dt_asm.specs.Refusal.{is_lost, is_set_twice, any_out_of_reach, is_bad}
-use Rattle.dt_asm.specs.File.{Refuses}
+use Rattle.dt_asm.specs.File.{IsRefusal}
 use Rattle.dt_asm.specs.Item.{total_size, Piece, pieces_from, pieces_of}
-use Rattle.dt_asm.specs.Code.{IsWordOf, IsSpelled, Spells}
-use Rattle.dt_asm.specs.inner.Adding.{IsAdded, RefusesField}
+use Rattle.dt_asm.specs.Code.{IsWordOf, IsSpelled, AreSpelled}
+use Rattle.dt_asm.specs.inner.Adding.{IsAdded, IsFieldRefusal}
 
 -- bytes behind others are added
 pub is_added : (piece : Piece) (before bytes after : List ℕ) → after ≡ before ++ bytes → IsSpelled piece bytes → IsAdded piece before after
@@ -29,11 +29,11 @@ is_added piece before bytes after e h =
 
 -- what spells what is left, spells all where nothing is left
 pub spells_all : (items : List Item) (at i : ℕ) (code : List ℕ) → length items ≤ i
-    → ((rest : List ℕ) → Spells (pieces_from items at (drop i items)) rest → Spells (pieces_of items) (code ++ rest))
-    → Spells (pieces_of items) code
+    → ((rest : List ℕ) → AreSpelled (pieces_from items at (drop i items)) rest → AreSpelled (pieces_of items) (code ++ rest))
+    → AreSpelled (pieces_of items) code
 spells_all items at i code h spelled =
-    subst (Spells (pieces_of items)) (append-nil code)
-    (spelled [] (subst (λ left. Spells (pieces_from items at left) []) (sym (drop_all i items h)) refl))
+    subst (AreSpelled (pieces_of items)) (append-nil code)
+    (spelled [] (subst (λ left. AreSpelled (pieces_from items at left) []) (sym (drop_all i items h)) refl))
 
 number_of : (w : ℕ) → w < 2 ^ 32 → w % 256 + 256 * (w / 256 % 256 + 256 * (w / 65536 % 256 + 256 * (w / 16777216 % 256 + 256 * 0))) ≡ w
 number_of w h = omega arith
@@ -62,7 +62,7 @@ sized_more items more all size grown e sized grew =
 
 -- the first refusal, where no label is refused
 pub refuses_field : (items : List Item) (error : AsmErr) → list_any (is_lost items) items ≡ false → is_set_twice items ≡ false → any_out_of_reach items 0 items ≡ false
-    → RefusesField (list_any is_bad (pieces_of items)) error → Refuses items error
+    → IsFieldRefusal (list_any is_bad (pieces_of items)) error → IsRefusal items error
 refuses_field items NoLabel lost twice far h = absurd h
 refuses_field items TwoLabels lost twice far h = absurd h
 refuses_field items Far lost twice far h = absurd h

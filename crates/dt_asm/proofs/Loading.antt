@@ -12,19 +12,19 @@ use Rattle.dt_rv64.specs.declared.instruction.Instr.TheVariants.{Lui, Addi, Slli
 use Rattle.dt_asm.specs.declared.item.Item.{Item}
 use Rattle.dt_asm.specs.declared.item.Item.TheVariants.{Code}
 use Rattle.dt_asm.specs.Fits.{is_signed}
-use Rattle.dt_asm.specs.Load.{signed_low, without_low, hi52, lui_addiw, slli_addi, loading_parts, loading}
+use Rattle.dt_asm.specs.Load.{signed_low, without_low, high_52, lui_addiw, slli_addi, load_sequence_within, load_sequence}
 
 -- the upper 52 bits are a number smaller by twelve bits
-pub abs_hi52 : (m : ℕ) (number : ℤ) → unsigned_abs number ≤ 4096 * m → unsigned_abs (hi52 number) ≤ m
+pub abs_hi52 : (m : ℕ) (number : ℤ) → unsigned_abs number ≤ 4096 * m → unsigned_abs (high_52 number) ≤ m
 abs_hi52 m (pos a) h = grind (arith, nat_tests)
 abs_hi52 m (negsuc a) h = grind (arith, nat_tests)
 
 -- the upper 52 bits, by the remainder
-hi52_below : (number : ℤ) → int_lt (int_rem_euclid number (pos 4096)) (pos 2048) ≡ true → hi52 number ≡ int_div_euclid number (pos 4096)
+hi52_below : (number : ℤ) → int_lt (int_rem_euclid number (pos 4096)) (pos 2048) ≡ true → high_52 number ≡ int_div_euclid number (pos 4096)
 hi52_below (pos a) h = grind (arith, nat_tests)
 hi52_below (negsuc a) h = grind (arith, nat_tests)
 
-hi52_above : (number : ℤ) → int_lt (int_rem_euclid number (pos 4096)) (pos 2048) ≡ false → hi52 number ≡ int_div_euclid number (pos 4096) +ℤ pos 1
+hi52_above : (number : ℤ) → int_lt (int_rem_euclid number (pos 4096)) (pos 2048) ≡ false → high_52 number ≡ int_div_euclid number (pos 4096) +ℤ pos 1
 hi52_above (pos a) h = grind (arith, nat_tests)
 hi52_above (negsuc a) h = grind (arith, nat_tests)
 
@@ -36,13 +36,13 @@ fits_of_abs : (number : ℤ) → unsigned_abs number ≤ 2 ^ 51 → SFits w64 nu
 fits_of_abs (pos a) h = record { sfits = omega arith }
 fits_of_abs (negsuc a) h = record { sfits = omega arith }
 
-fits_hi52 : (number : ℤ) → SFits w64 number → SFits w64 (hi52 number)
-fits_hi52 number h = fits_of_abs (hi52 number) (abs_hi52 (2 ^ 51) number (abs_of_fits number h))
+fits_hi52 : (number : ℤ) → SFits w64 number → SFits w64 (high_52 number)
+fits_hi52 number h = fits_of_abs (high_52 number) (abs_hi52 (2 ^ 51) number (abs_of_fits number h))
 
 -- the two ways to the upper 52 bits, as the machine's numbers
 pub hi52_then : (n u r : ℤ) → SFits w64 n → SFits w64 u → SFits w64 r
     → u ≡ int_div_euclid (to_z w64 (of_z w64 n)) (pos 4096) → r ≡ int_rem_euclid (to_z w64 (of_z w64 n)) (pos 4096)
-    → int_lt (to_z w64 (of_z w64 r)) (pos 2048) ≡ true → to_z w64 (of_z w64 u) ≡ hi52 n
+    → int_lt (to_z w64 (of_z w64 r)) (pos 2048) ≡ true → to_z w64 (of_z w64 u) ≡ high_52 n
 hi52_then n u r fn fu fr hu hr test =
     let same = to_z-of_z w64 n fn in
     let rem = to_z-of_z w64 r fr ∙ hr ∙ ap (λ z. int_rem_euclid z (pos 4096)) same in
@@ -50,18 +50,18 @@ hi52_then n u r fn fu fr hu hr test =
 
 pub hi52_else : (n u r : ℤ) → SFits w64 n → SFits w64 u → SFits w64 r
     → u ≡ int_div_euclid (to_z w64 (of_z w64 n)) (pos 4096) → r ≡ int_rem_euclid (to_z w64 (of_z w64 n)) (pos 4096)
-    → int_lt (to_z w64 (of_z w64 r)) (pos 2048) ≡ false → to_z w64 (of_z w64 (to_z w64 (of_z w64 u) +ℤ pos 1)) ≡ hi52 n
+    → int_lt (to_z w64 (of_z w64 r)) (pos 2048) ≡ false → to_z w64 (of_z w64 (to_z w64 (of_z w64 u) +ℤ pos 1)) ≡ high_52 n
 hi52_else n u r fn fu fr hu hr test =
     let same = to_z-of_z w64 n fn in
     let rem = to_z-of_z w64 r fr ∙ hr ∙ ap (λ z. int_rem_euclid z (pos 4096)) same in
     let high = hi52_above n (ap (λ z. int_lt z (pos 2048)) (sym rem) ∙ test) in
     let div = to_z-of_z w64 u fu ∙ hu ∙ ap (λ z. int_div_euclid z (pos 4096)) same in
-    ap (λ z. to_z w64 (of_z w64 z)) (ap (λ z. z +ℤ pos 1) div ∙ sym high) ∙ to_z-of_z w64 (hi52 n) (fits_hi52 n fn)
+    ap (λ z. to_z w64 (of_z w64 z)) (ap (λ z. z +ℤ pos 1) div ∙ sym high) ∙ to_z-of_z w64 (high_52 n) (fits_hi52 n fn)
 
 -- a part more changes nothing where a part more changes nothing of the upper 52 bits
-more : (parts register : ℕ) (number : ℤ) → loading_parts parts register (hi52 number) ≡ loading_parts (suc parts) register (hi52 number)
-    → loading_parts (suc parts) register number ≡ loading_parts (suc (suc parts)) register number
-unfolding loading_parts
+more : (parts register : ℕ) (number : ℤ) → load_sequence_within parts register (high_52 number) ≡ load_sequence_within (suc parts) register (high_52 number)
+    → load_sequence_within (suc parts) register number ≡ load_sequence_within (suc (suc parts)) register number
+unfolding load_sequence_within
 more parts register number h =
     ap (λ xs. cond (is_signed 12 number) (Addi register 0 number ∷ []) (cond (is_signed 32 number) (lui_addiw register number) (xs ++ slli_addi register (signed_low 12 number)))) h
 
@@ -69,47 +69,47 @@ is_word : (number : ℤ) → unsigned_abs number ≤ 2 ^ 27 → is_signed 32 num
 is_word (pos a) h = grind (arith, nat_tests)
 is_word (negsuc a) h = grind (arith, nat_tests)
 
-enough_1 : (register : ℕ) (number : ℤ) → unsigned_abs number ≤ 2 ^ 27 → loading_parts 1 register number ≡ loading_parts 2 register number
-unfolding loading_parts
+enough_1 : (register : ℕ) (number : ℤ) → unsigned_abs number ≤ 2 ^ 27 → load_sequence_within 1 register number ≡ load_sequence_within 2 register number
+unfolding load_sequence_within
 enough_1 register number h = rw (is_word number h)
 
-enough_2 : (register : ℕ) (number : ℤ) → unsigned_abs number ≤ 2 ^ 39 → loading_parts 2 register number ≡ loading_parts 3 register number
-enough_2 register number h = more 1 register number (enough_1 register (hi52 number) (abs_hi52 (2 ^ 27) number h))
+enough_2 : (register : ℕ) (number : ℤ) → unsigned_abs number ≤ 2 ^ 39 → load_sequence_within 2 register number ≡ load_sequence_within 3 register number
+enough_2 register number h = more 1 register number (enough_1 register (high_52 number) (abs_hi52 (2 ^ 27) number h))
 
-enough_3 : (register : ℕ) (number : ℤ) → unsigned_abs number ≤ 2 ^ 51 → loading_parts 3 register number ≡ loading_parts 4 register number
-enough_3 register number h = more 2 register number (enough_2 register (hi52 number) (abs_hi52 (2 ^ 39) number h))
+enough_3 : (register : ℕ) (number : ℤ) → unsigned_abs number ≤ 2 ^ 51 → load_sequence_within 3 register number ≡ load_sequence_within 4 register number
+enough_3 register number h = more 2 register number (enough_2 register (high_52 number) (abs_hi52 (2 ^ 39) number h))
 
-pub loading_short : (register : ℕ) (number : ℤ) → is_signed 12 number ≡ true → loading register number ≡ Addi register 0 number ∷ []
-unfolding loading_parts
+pub loading_short : (register : ℕ) (number : ℤ) → is_signed 12 number ≡ true → load_sequence register number ≡ Addi register 0 number ∷ []
+unfolding load_sequence_within
 loading_short register number h = rw h
 
 pub loading_as_word : (register : ℕ) (number : ℤ) → is_signed 12 number ≡ false → is_signed 32 number ≡ true
-    → loading register number ≡ lui_addiw register number
-unfolding loading_parts
+    → load_sequence register number ≡ lui_addiw register number
+unfolding load_sequence_within
 loading_as_word register number h k = rw (h, k)
 
 wide : (register : ℕ) (number : ℤ) → is_signed 12 number ≡ false → is_signed 32 number ≡ false
-    → loading register number ≡ loading_parts 3 register (hi52 number) ++ slli_addi register (signed_low 12 number)
-unfolding loading_parts
+    → load_sequence register number ≡ load_sequence_within 3 register (high_52 number) ++ slli_addi register (signed_low 12 number)
+unfolding load_sequence_within
 wide register number h k =
-    ap (λ b. cond b (Addi register 0 number ∷ []) (cond (is_signed 32 number) (lui_addiw register number) (loading_parts 3 register (hi52 number) ++ slli_addi register (signed_low 12 number)))) h
-    ∙ ap (λ b. cond b (lui_addiw register number) (loading_parts 3 register (hi52 number) ++ slli_addi register (signed_low 12 number))) k
+    ap (λ b. cond b (Addi register 0 number ∷ []) (cond (is_signed 32 number) (lui_addiw register number) (load_sequence_within 3 register (high_52 number) ++ slli_addi register (signed_low 12 number)))) h
+    ∙ ap (λ b. cond b (lui_addiw register number) (load_sequence_within 3 register (high_52 number) ++ slli_addi register (signed_low 12 number))) k
 
 pub loading_wide : (register : ℕ) (number : ℤ) → SFits w64 number → is_signed 12 number ≡ false → is_signed 32 number ≡ false
-    → loading register number ≡ loading register (hi52 number) ++ slli_addi register (signed_low 12 number)
+    → load_sequence register number ≡ load_sequence register (high_52 number) ++ slli_addi register (signed_low 12 number)
 loading_wide register number fits h k =
     wide register number h k
-    ∙ ap (λ xs. xs ++ slli_addi register (signed_low 12 number)) (enough_3 register (hi52 number) (abs_hi52 (2 ^ 51) number (abs_of_fits number fits)))
+    ∙ ap (λ xs. xs ++ slli_addi register (signed_low 12 number)) (enough_3 register (high_52 number) (abs_hi52 (2 ^ 51) number (abs_of_fits number fits)))
 
 -- the upper 52 bits of a number that isn't short are a smaller one
-pub smaller : (number : ℤ) → is_signed 12 number ≡ false → unsigned_abs (hi52 number) < unsigned_abs number
+pub smaller : (number : ℤ) → is_signed 12 number ≡ false → unsigned_abs (high_52 number) < unsigned_abs number
 smaller (pos a) h = grind (arith, nat_tests)
 smaller (negsuc a) h = grind (arith, nat_tests)
 
 module _ {E : Type 0} (r : Result (Unit {0}) E) (register : ℕ) (number passed : ℤ) (same : passed ≡ number) where
   -- one instruction added
   pub adds_short : (old new : List Item) (i : Instr) → is_signed 12 passed ≡ true → i ≡ Addi register 0 passed
-      → OnOk r (new ≡ old ++ Code i ∷ []) → OnOk r (new ≡ old ++ map (λ x. Code x) (loading register number))
+      → OnOk r (new ≡ old ++ Code i ∷ []) → OnOk r (new ≡ old ++ map (λ x. Code x) (load_sequence register number))
   adds_short old new i test i_is =
       let shape = ap (λ x. x ∷ []) (i_is ∙ ap (Addi register 0) same) ∙ sym (loading_short register number (ap (is_signed 12) (sym same) ∙ test)) in
       on_ok_weaker r (λ e. e ∙ ap (λ xs. old ++ map (λ x. Code x) xs) shape)
@@ -117,7 +117,7 @@ module _ {E : Type 0} (r : Result (Unit {0}) E) (register : ℕ) (number passed 
   -- two instructions added
   pub adds_word : (old mid new : List Item) (i j : Instr) → is_signed 12 passed ≡ false → is_signed 32 passed ≡ true
       → i ≡ Lui register (signed_low 32 (without_low passed)) → j ≡ Addiw register register (signed_low 12 passed)
-      → mid ≡ old ++ Code i ∷ [] → OnOk r (new ≡ mid ++ Code j ∷ []) → OnOk r (new ≡ old ++ map (λ x. Code x) (loading register number))
+      → mid ≡ old ++ Code i ∷ [] → OnOk r (new ≡ mid ++ Code j ∷ []) → OnOk r (new ≡ old ++ map (λ x. Code x) (load_sequence register number))
   adds_word old mid new i j short word i_is j_is first =
       let law = loading_as_word register number (ap (is_signed 12) (sym same) ∙ short) (ap (is_signed 32) (sym same) ∙ word) in
       let head = i_is ∙ ap (λ z. Lui register (signed_low 32 (without_low z))) same in
@@ -126,9 +126,9 @@ module _ {E : Type 0} (r : Result (Unit {0}) E) (register : ℕ) (number passed 
 
   -- two instructions added behind those of the upper 52 bits
   pub adds_wide : (old mid next new : List Item) (i j : Instr) (high : ℤ) → SFits w64 number → is_signed 12 passed ≡ false → is_signed 32 passed ≡ false
-      → high ≡ hi52 number → i ≡ Slli register register 12 → j ≡ Addi register register (signed_low 12 passed)
-      → mid ≡ old ++ map (λ x. Code x) (loading register high) → next ≡ mid ++ Code i ∷ [] → OnOk r (new ≡ next ++ Code j ∷ [])
-      → OnOk r (new ≡ old ++ map (λ x. Code x) (loading register number))
+      → high ≡ high_52 number → i ≡ Slli register register 12 → j ≡ Addi register register (signed_low 12 passed)
+      → mid ≡ old ++ map (λ x. Code x) (load_sequence register high) → next ≡ mid ++ Code i ∷ [] → OnOk r (new ≡ next ++ Code j ∷ [])
+      → OnOk r (new ≡ old ++ map (λ x. Code x) (load_sequence register number))
   adds_wide old mid next new i j high fits short word high_is i_is j_is first second =
       let law = loading_wide register number fits (ap (is_signed 12) (sym same) ∙ short) (ap (is_signed 32) (sym same) ∙ word) in
       let last = j_is ∙ ap (λ z. Addi register register (signed_low 12 z)) same in

@@ -24,6 +24,7 @@ width_of (word i) = 4
 width_of (plain written) = length written
 
 -- the bytes are the pieces in their order
-abbrev pub Spells : List Piece → List ℕ → Type 0
-Spells [] bytes = bytes ≡ []
-Spells (piece ∷ pieces) bytes = IsSpelled piece (take (width_of piece) bytes) × Spells pieces (drop (width_of piece) bytes)
+abbrev pub AreSpelled : List Piece → List ℕ → Type 0
+AreSpelled [] bytes = bytes ≡ []
+AreSpelled (piece ∷ pieces) bytes =
+    IsSpelled piece (take (width_of piece) bytes) × AreSpelled pieces (drop (width_of piece) bytes)

@@ -6,7 +6,7 @@ use Rattle.dt_asm.specs.declared.item.Item.{Item}
 use Rattle.dt_asm.specs.Item.{GuestView, total_size, pieces_of}
 use Rattle.dt_asm.specs.declared.headers.TheConstants.{HEADERS_SIZE}
 use Rattle.dt_asm.specs.Header.{file_header, program_header_bytes}
-use Rattle.dt_asm.specs.Code.{Spells}
+use Rattle.dt_asm.specs.Code.{AreSpelled}
 use Rattle.dt_asm.specs.Refusal.{refusal_of}
 
 -- how many bytes a guest's file has
@@ -22,9 +22,9 @@ segment_header (Some memory) size = program_header_bytes 7 size (max size memory
 pub record IsFileOf (guest : GuestView) (file : List ℕ) : Type 0 where
   pub size : length file ≡ file_size guest.items
   pub headers : take HEADERS_SIZE file ≡ file_header ++ segment_header guest.memory (file_size guest.items)
-  pub code : Spells (pieces_of guest.items) (drop HEADERS_SIZE file)
+  pub code : AreSpelled (pieces_of guest.items) (drop HEADERS_SIZE file)
 
 -- the error is the first refusal, or memory ran out
-abbrev pub Refuses : List Item → AsmErr → Type 0
-Refuses items NoMemory = Unit {0}
-Refuses items error = refusal_of items ≡ Some error
+abbrev pub IsRefusal : List Item → AsmErr → Type 0
+IsRefusal items NoMemory = Unit {0}
+IsRefusal items error = refusal_of items ≡ Some error

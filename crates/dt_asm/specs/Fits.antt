@@ -41,99 +41,99 @@ is_counter number = nat_le 0xC00 number && nat_le number 0xC02
 -- the fields of a format
 
 -- R, as of ADD
-abbrev pub fits_r : ℕ → ℕ → ℕ → Bool
-fits_r rd rs1 rs2 = is_register rd && is_register rs1 && is_register rs2
+abbrev pub are_r_fields : ℕ → ℕ → ℕ → Bool
+are_r_fields rd rs1 rs2 = is_register rd && is_register rs1 && is_register rs2
 
 -- I, as of ADDI and LW
-abbrev pub fits_i : ℕ → ℕ → ℤ → Bool
-fits_i rd rs1 immediate = is_register rd && is_register rs1 && is_i_immediate immediate
+abbrev pub are_i_fields : ℕ → ℕ → ℤ → Bool
+are_i_fields rd rs1 immediate = is_register rd && is_register rs1 && is_i_immediate immediate
 
 -- S, as of SW
-abbrev pub fits_s : ℕ → ℕ → ℤ → Bool
-fits_s rs1 rs2 immediate = is_register rs1 && is_register rs2 && is_i_immediate immediate
+abbrev pub are_s_fields : ℕ → ℕ → ℤ → Bool
+are_s_fields rs1 rs2 immediate = is_register rs1 && is_register rs2 && is_i_immediate immediate
 
 -- B, as of BEQ
-abbrev pub fits_b : ℕ → ℕ → ℤ → Bool
-fits_b rs1 rs2 immediate = is_register rs1 && is_register rs2 && is_b_immediate immediate
+abbrev pub are_b_fields : ℕ → ℕ → ℤ → Bool
+are_b_fields rs1 rs2 immediate = is_register rs1 && is_register rs2 && is_b_immediate immediate
 
 -- U, as of LUI
-abbrev pub fits_u : ℕ → ℤ → Bool
-fits_u rd immediate = is_register rd && is_u_immediate immediate
+abbrev pub are_u_fields : ℕ → ℤ → Bool
+are_u_fields rd immediate = is_register rd && is_u_immediate immediate
 
 -- J, as of JAL
-abbrev pub fits_j : ℕ → ℤ → Bool
-fits_j rd immediate = is_register rd && is_j_immediate immediate
+abbrev pub are_j_fields : ℕ → ℤ → Bool
+are_j_fields rd immediate = is_register rd && is_j_immediate immediate
 
 -- a shift of a word of so many bits by an immediate
-abbrev pub fits_shift : ℕ → ℕ → ℕ → ℕ → Bool
-fits_shift bits rd rs1 shift = is_register rd && is_register rs1 && nat_lt shift bits
+abbrev pub are_shift_fields : ℕ → ℕ → ℕ → ℕ → Bool
+are_shift_fields bits rd rs1 shift = is_register rd && is_register rs1 && nat_lt shift bits
 
 -- each field of the instruction is in its range, and it is no unknown one
-abbrev pub fits : Instr → Bool
-fits (Lui rd u) = fits_u rd u
-fits (Auipc rd u) = fits_u rd u
-fits (Jal rd j) = fits_j rd j
-fits (Jalr rd rs1 i) = fits_i rd rs1 i
-fits (Beq rs1 rs2 b) = fits_b rs1 rs2 b
-fits (Bne rs1 rs2 b) = fits_b rs1 rs2 b
-fits (Blt rs1 rs2 b) = fits_b rs1 rs2 b
-fits (Bge rs1 rs2 b) = fits_b rs1 rs2 b
-fits (Bltu rs1 rs2 b) = fits_b rs1 rs2 b
-fits (Bgeu rs1 rs2 b) = fits_b rs1 rs2 b
-fits (Lb rd rs1 i) = fits_i rd rs1 i
-fits (Lh rd rs1 i) = fits_i rd rs1 i
-fits (Lw rd rs1 i) = fits_i rd rs1 i
-fits (Ld rd rs1 i) = fits_i rd rs1 i
-fits (Lbu rd rs1 i) = fits_i rd rs1 i
-fits (Lhu rd rs1 i) = fits_i rd rs1 i
-fits (Lwu rd rs1 i) = fits_i rd rs1 i
-fits (Sb rs1 rs2 s) = fits_s rs1 rs2 s
-fits (Sh rs1 rs2 s) = fits_s rs1 rs2 s
-fits (Sw rs1 rs2 s) = fits_s rs1 rs2 s
-fits (Sd rs1 rs2 s) = fits_s rs1 rs2 s
-fits (Addi rd rs1 i) = fits_i rd rs1 i
-fits (Slti rd rs1 i) = fits_i rd rs1 i
-fits (Sltiu rd rs1 i) = fits_i rd rs1 i
-fits (Xori rd rs1 i) = fits_i rd rs1 i
-fits (Ori rd rs1 i) = fits_i rd rs1 i
-fits (Andi rd rs1 i) = fits_i rd rs1 i
-fits (Slli rd rs1 shift) = fits_shift 64 rd rs1 shift
-fits (Srli rd rs1 shift) = fits_shift 64 rd rs1 shift
-fits (Srai rd rs1 shift) = fits_shift 64 rd rs1 shift
-fits (Add rd rs1 rs2) = fits_r rd rs1 rs2
-fits (Sub rd rs1 rs2) = fits_r rd rs1 rs2
-fits (Sll rd rs1 rs2) = fits_r rd rs1 rs2
-fits (Slt rd rs1 rs2) = fits_r rd rs1 rs2
-fits (Sltu rd rs1 rs2) = fits_r rd rs1 rs2
-fits (Xor rd rs1 rs2) = fits_r rd rs1 rs2
-fits (Srl rd rs1 rs2) = fits_r rd rs1 rs2
-fits (Sra rd rs1 rs2) = fits_r rd rs1 rs2
-fits (Or rd rs1 rs2) = fits_r rd rs1 rs2
-fits (And rd rs1 rs2) = fits_r rd rs1 rs2
-fits (Mul rd rs1 rs2) = fits_r rd rs1 rs2
-fits (Mulh rd rs1 rs2) = fits_r rd rs1 rs2
-fits (Mulhsu rd rs1 rs2) = fits_r rd rs1 rs2
-fits (Mulhu rd rs1 rs2) = fits_r rd rs1 rs2
-fits (Div rd rs1 rs2) = fits_r rd rs1 rs2
-fits (Divu rd rs1 rs2) = fits_r rd rs1 rs2
-fits (Rem rd rs1 rs2) = fits_r rd rs1 rs2
-fits (Remu rd rs1 rs2) = fits_r rd rs1 rs2
-fits (Addiw rd rs1 i) = fits_i rd rs1 i
-fits (Slliw rd rs1 shift) = fits_shift 32 rd rs1 shift
-fits (Srliw rd rs1 shift) = fits_shift 32 rd rs1 shift
-fits (Sraiw rd rs1 shift) = fits_shift 32 rd rs1 shift
-fits (Addw rd rs1 rs2) = fits_r rd rs1 rs2
-fits (Subw rd rs1 rs2) = fits_r rd rs1 rs2
-fits (Sllw rd rs1 rs2) = fits_r rd rs1 rs2
-fits (Srlw rd rs1 rs2) = fits_r rd rs1 rs2
-fits (Sraw rd rs1 rs2) = fits_r rd rs1 rs2
-fits (Mulw rd rs1 rs2) = fits_r rd rs1 rs2
-fits (Divw rd rs1 rs2) = fits_r rd rs1 rs2
-fits (Divuw rd rs1 rs2) = fits_r rd rs1 rs2
-fits (Remw rd rs1 rs2) = fits_r rd rs1 rs2
-fits (Remuw rd rs1 rs2) = fits_r rd rs1 rs2
-fits Fence = true
-fits Ecall = true
-fits Ebreak = true
-fits (ReadCounter rd number) = is_register rd && is_counter number
-fits Unknown = false
+abbrev pub is_encodable : Instr → Bool
+is_encodable (Lui rd u) = are_u_fields rd u
+is_encodable (Auipc rd u) = are_u_fields rd u
+is_encodable (Jal rd j) = are_j_fields rd j
+is_encodable (Jalr rd rs1 i) = are_i_fields rd rs1 i
+is_encodable (Beq rs1 rs2 b) = are_b_fields rs1 rs2 b
+is_encodable (Bne rs1 rs2 b) = are_b_fields rs1 rs2 b
+is_encodable (Blt rs1 rs2 b) = are_b_fields rs1 rs2 b
+is_encodable (Bge rs1 rs2 b) = are_b_fields rs1 rs2 b
+is_encodable (Bltu rs1 rs2 b) = are_b_fields rs1 rs2 b
+is_encodable (Bgeu rs1 rs2 b) = are_b_fields rs1 rs2 b
+is_encodable (Lb rd rs1 i) = are_i_fields rd rs1 i
+is_encodable (Lh rd rs1 i) = are_i_fields rd rs1 i
+is_encodable (Lw rd rs1 i) = are_i_fields rd rs1 i
+is_encodable (Ld rd rs1 i) = are_i_fields rd rs1 i
+is_encodable (Lbu rd rs1 i) = are_i_fields rd rs1 i
+is_encodable (Lhu rd rs1 i) = are_i_fields rd rs1 i
+is_encodable (Lwu rd rs1 i) = are_i_fields rd rs1 i
+is_encodable (Sb rs1 rs2 s) = are_s_fields rs1 rs2 s
+is_encodable (Sh rs1 rs2 s) = are_s_fields rs1 rs2 s
+is_encodable (Sw rs1 rs2 s) = are_s_fields rs1 rs2 s
+is_encodable (Sd rs1 rs2 s) = are_s_fields rs1 rs2 s
+is_encodable (Addi rd rs1 i) = are_i_fields rd rs1 i
+is_encodable (Slti rd rs1 i) = are_i_fields rd rs1 i
+is_encodable (Sltiu rd rs1 i) = are_i_fields rd rs1 i
+is_encodable (Xori rd rs1 i) = are_i_fields rd rs1 i
+is_encodable (Ori rd rs1 i) = are_i_fields rd rs1 i
+is_encodable (Andi rd rs1 i) = are_i_fields rd rs1 i
+is_encodable (Slli rd rs1 shift) = are_shift_fields 64 rd rs1 shift
+is_encodable (Srli rd rs1 shift) = are_shift_fields 64 rd rs1 shift
+is_encodable (Srai rd rs1 shift) = are_shift_fields 64 rd rs1 shift
+is_encodable (Add rd rs1 rs2) = are_r_fields rd rs1 rs2
+is_encodable (Sub rd rs1 rs2) = are_r_fields rd rs1 rs2
+is_encodable (Sll rd rs1 rs2) = are_r_fields rd rs1 rs2
+is_encodable (Slt rd rs1 rs2) = are_r_fields rd rs1 rs2
+is_encodable (Sltu rd rs1 rs2) = are_r_fields rd rs1 rs2
+is_encodable (Xor rd rs1 rs2) = are_r_fields rd rs1 rs2
+is_encodable (Srl rd rs1 rs2) = are_r_fields rd rs1 rs2
+is_encodable (Sra rd rs1 rs2) = are_r_fields rd rs1 rs2
+is_encodable (Or rd rs1 rs2) = are_r_fields rd rs1 rs2
+is_encodable (And rd rs1 rs2) = are_r_fields rd rs1 rs2
+is_encodable (Mul rd rs1 rs2) = are_r_fields rd rs1 rs2
+is_encodable (Mulh rd rs1 rs2) = are_r_fields rd rs1 rs2
+is_encodable (Mulhsu rd rs1 rs2) = are_r_fields rd rs1 rs2
+is_encodable (Mulhu rd rs1 rs2) = are_r_fields rd rs1 rs2
+is_encodable (Div rd rs1 rs2) = are_r_fields rd rs1 rs2
+is_encodable (Divu rd rs1 rs2) = are_r_fields rd rs1 rs2
+is_encodable (Rem rd rs1 rs2) = are_r_fields rd rs1 rs2
+is_encodable (Remu rd rs1 rs2) = are_r_fields rd rs1 rs2
+is_encodable (Addiw rd rs1 i) = are_i_fields rd rs1 i
+is_encodable (Slliw rd rs1 shift) = are_shift_fields 32 rd rs1 shift
+is_encodable (Srliw rd rs1 shift) = are_shift_fields 32 rd rs1 shift
+is_encodable (Sraiw rd rs1 shift) = are_shift_fields 32 rd rs1 shift
+is_encodable (Addw rd rs1 rs2) = are_r_fields rd rs1 rs2
+is_encodable (Subw rd rs1 rs2) = are_r_fields rd rs1 rs2
+is_encodable (Sllw rd rs1 rs2) = are_r_fields rd rs1 rs2
+is_encodable (Srlw rd rs1 rs2) = are_r_fields rd rs1 rs2
+is_encodable (Sraw rd rs1 rs2) = are_r_fields rd rs1 rs2
+is_encodable (Mulw rd rs1 rs2) = are_r_fields rd rs1 rs2
+is_encodable (Divw rd rs1 rs2) = are_r_fields rd rs1 rs2
+is_encodable (Divuw rd rs1 rs2) = are_r_fields rd rs1 rs2
+is_encodable (Remw rd rs1 rs2) = are_r_fields rd rs1 rs2
+is_encodable (Remuw rd rs1 rs2) = are_r_fields rd rs1 rs2
+is_encodable Fence = true
+is_encodable Ecall = true
+is_encodable Ebreak = true
+is_encodable (ReadCounter rd number) = is_register rd && is_counter number
+is_encodable Unknown = false

@@ -22,14 +22,14 @@ hello_guest = record {
 }
 
 -- clone(SIGCHLD, 0), and the child goes to its label
-abbrev pub forking : List Item
-forking = instructions (0x01100513 ∷ 0x00000593 ∷ 0x0DC00893 ∷ 0x00000073 ∷ []) ++ (Branch 0 A0 0 CHILD ∷ [])
+abbrev pub fork_items : List Item
+fork_items = instructions (0x01100513 ∷ 0x00000593 ∷ 0x0DC00893 ∷ 0x00000073 ∷ []) ++ (Branch 0 A0 0 CHILD ∷ [])
 
 -- two forks, two waits for any child, and exit(0); each child has exit(7)
 abbrev pub trio_guest : GuestView
 trio_guest = record {
   items =
-      forking ++ forking
+      fork_items ++ fork_items
       ++ instructions (0xFFF00513 ∷ 0x00000593 ∷ 0x00000613 ∷ 0x00000693 ∷ 0x10400893 ∷ 0x00000073 ∷
       0xFFF00513 ∷ 0x00000073 ∷ 0x00000513 ∷ 0x05D00893 ∷ 0x00000073 ∷ [])
       ++ (Label CHILD ∷ [])
@@ -52,7 +52,7 @@ cat1_guest = record {
 abbrev pub late_guest : GuestView
 late_guest = record {
   items =
-      forking
+      fork_items
       ++ instructions (0x00200513 ∷ 0x00900593 ∷ 0x08100893 ∷ 0x00000073 ∷ 0x00200513 ∷ 0x00000593 ∷
       0x00000613 ∷ 0x00000693 ∷ 0x10400893 ∷ 0x00000073 ∷ 0x00000513 ∷ 0x05D00893 ∷ 0x00000073 ∷ [])
       ++ (Label CHILD ∷ [])
@@ -66,7 +66,7 @@ late_guest = record {
 abbrev pub first_guest : GuestView
 first_guest = record {
   items =
-      forking
+      fork_items
       ++ instructions (0x00300513 ∷ 0x05D00893 ∷ 0x00000073 ∷ [])
       ++ (Label CHILD ∷ [])
       ++ instructions (0x00150513 ∷ [])

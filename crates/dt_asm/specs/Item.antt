@@ -28,14 +28,15 @@ total_size [] = 0
 total_size (item ∷ items) = item_size item + total_size items
 
 -- the item sets a label
-abbrev pub sets : ℕ → Item → Bool
-sets name (Label label) = label == name
-sets name _ = false
+abbrev pub is_label : ℕ → Item → Bool
+is_label name (Label label) = label == name
+is_label name _ = false
 
 -- the offset of the first of some items that sets a label, the first item standing at an offset
 abbrev pub offset_from : ℕ → List Item → ℕ → Option ℕ
 offset_from at [] name = None
-offset_from at (item ∷ items) name = if sets name item then Some at else offset_from (at + item_size item) items name
+offset_from at (item ∷ items) name =
+    if is_label name item then Some at else offset_from (at + item_size item) items name
 
 -- a label's offset: the sum of the sizes before it
 abbrev pub label_offset : List Item → ℕ → Option ℕ

@@ -15,8 +15,8 @@ abbrev pub without_low : ℤ → ℤ
 without_low number = number -ℤ signed_low 12 number
 
 -- its 52 bits above those, moved down by twelve
-abbrev pub hi52 : ℤ → ℤ
-hi52 number = int_div_euclid (without_low number) (pos 4096)
+abbrev pub high_52 : ℤ → ℤ
+high_52 number = int_div_euclid (without_low number) (pos 4096)
 
 -- LUI and ADDIW, for a number of 32 bits
 abbrev pub lui_addiw : ℕ → ℤ → List Instr
@@ -28,13 +28,13 @@ slli_addi register low = Slli register register 12 ∷ Addi register register lo
 
 -- ADDI from x0; or LUI and ADDIW; or, for a number of so many parts at most, its upper 52 bits, shifted left, and its
 -- low bits added
-unfoldable pub loading_parts : ℕ → ℕ → ℤ → List Instr
-loading_parts zero register number = []
-loading_parts (suc parts) register number =
+unfoldable pub load_sequence_within : ℕ → ℕ → ℤ → List Instr
+load_sequence_within zero register number = []
+load_sequence_within (suc parts) register number =
     if is_signed 12 number then Addi register 0 number ∷ []
     else if is_signed 32 number then lui_addiw register number
-    else loading_parts parts register (hi52 number) ++ slli_addi register (signed_low 12 number)
+    else load_sequence_within parts register (high_52 number) ++ slli_addi register (signed_low 12 number)
 
 -- the instructions that load a number; one of 64 bits has at most four parts
-abbrev pub loading : ℕ → ℤ → List Instr
-loading register number = loading_parts 4 register number
+abbrev pub load_sequence : ℕ → ℤ → List Instr
+load_sequence register number = load_sequence_within 4 register number

@@ -7,7 +7,7 @@ use Rattle.dt_asm.specs.declared.error.AsmErr.{AsmErr}
 use Rattle.dt_asm.specs.declared.error.AsmErr.TheVariants.{NoLabel, TwoLabels, Far, BadField, NoMemory, TooLong}
 use Rattle.dt_asm.specs.declared.item.Item.{Item}
 use Rattle.dt_asm.specs.declared.item.Item.TheVariants.{Branch, Jump, Label}
-use Rattle.dt_asm.specs.Fits.{fits, is_b_immediate, is_j_immediate}
+use Rattle.dt_asm.specs.Fits.{is_encodable, is_b_immediate, is_j_immediate}
 use Rattle.dt_asm.specs.Item.{Piece, word, plain, item_size, total_size, label_offset, distance, pieces_of}
 
 -- its number, in the order in which they are looked for
@@ -48,7 +48,7 @@ any_out_of_reach items at (item ∷ rest) = is_out_of_reach items at item || any
 
 -- no word holds it
 abbrev pub is_bad : Piece → Bool
-is_bad (word i) = not (fits i)
+is_bad (word i) = not (is_encodable i)
 is_bad (plain bytes) = false
 
 -- the first refusal, each over all items

@@ -3,7 +3,7 @@
 ghost use Rattle.std.specs.Prelude.{◌≡◌, ◌&&◌, is_some, IfSome, Some};
 ghost use Rattle.dt_rv64.specs.declared.instruction.Instr.TheVariants.{Fence};
 ghost use Rattle.dt_rv64.specs.Instruction.{instr};
-ghost use Rattle.dt_asm.specs.Fits.{fits};
+ghost use Rattle.dt_asm.specs.Fits.{is_encodable};
 ghost use Rattle.dt_asm.specs.inner.Classes.{is_lui_auipc_or_jump, is_branch, is_load, is_store, is_op_imm, is_op};
 ghost use Rattle.dt_asm.specs.inner.Classes.{is_op_multiply, is_op_imm_32, is_op_32, is_op_32_multiply};
 ghost use Rattle.dt_asm.specs.inner.Classes.{is_fence_or_system};
@@ -47,7 +47,7 @@ const EBREAK: u32 = 0x0010_0073;
 #[tactic(auto, unfolding(dt_rv64::specs::Instruction::instr))]
 pub fn lui_auipc_or_jump(i: &Instr) -> Option<u32>
     ensures round { IfSome result (λ word. instr word ≡ i.now) }
-    ensures some { is_some result ≡ (is_lui_auipc_or_jump i.now && fits i.now) }
+    ensures some { is_some result ≡ (is_lui_auipc_or_jump i.now && is_encodable i.now) }
 {
     match *i {
         Instr::Lui { rd, imm } => u_type(LUI, rd, imm),
@@ -62,7 +62,7 @@ pub fn lui_auipc_or_jump(i: &Instr) -> Option<u32>
 #[tactic(auto, unfolding(dt_rv64::specs::Instruction::instr))]
 pub fn branch(i: &Instr) -> Option<u32>
     ensures round { IfSome result (λ word. instr word ≡ i.now) }
-    ensures some { is_some result ≡ (is_branch i.now && fits i.now) }
+    ensures some { is_some result ≡ (is_branch i.now && is_encodable i.now) }
 {
     match *i {
         Instr::Beq { rs1, rs2, imm } => b_type(BRANCH, 0, rs1, rs2, imm),
@@ -79,7 +79,7 @@ pub fn branch(i: &Instr) -> Option<u32>
 #[tactic(auto, unfolding(dt_rv64::specs::Instruction::instr))]
 pub fn load(i: &Instr) -> Option<u32>
     ensures round { IfSome result (λ word. instr word ≡ i.now) }
-    ensures some { is_some result ≡ (is_load i.now && fits i.now) }
+    ensures some { is_some result ≡ (is_load i.now && is_encodable i.now) }
 {
     match *i {
         Instr::Lb { rd, rs1, imm } => i_type(LOAD, 0, rd, rs1, imm),
@@ -97,7 +97,7 @@ pub fn load(i: &Instr) -> Option<u32>
 #[tactic(auto, unfolding(dt_rv64::specs::Instruction::instr))]
 pub fn store(i: &Instr) -> Option<u32>
     ensures round { IfSome result (λ word. instr word ≡ i.now) }
-    ensures some { is_some result ≡ (is_store i.now && fits i.now) }
+    ensures some { is_some result ≡ (is_store i.now && is_encodable i.now) }
 {
     match *i {
         Instr::Sb { rs1, rs2, imm } => s_type(STORE, 0, rs1, rs2, imm),
@@ -112,7 +112,7 @@ pub fn store(i: &Instr) -> Option<u32>
 #[tactic(auto, unfolding(dt_rv64::specs::Instruction::instr))]
 pub fn op_immediate(i: &Instr) -> Option<u32>
     ensures round { IfSome result (λ word. instr word ≡ i.now) }
-    ensures some { is_some result ≡ (is_op_imm i.now && fits i.now) }
+    ensures some { is_some result ≡ (is_op_imm i.now && is_encodable i.now) }
 {
     match *i {
         Instr::Addi { rd, rs1, imm } => i_type(OP_IMM, 0, rd, rs1, imm),
@@ -132,7 +132,7 @@ pub fn op_immediate(i: &Instr) -> Option<u32>
 #[tactic(auto, unfolding(dt_rv64::specs::Instruction::instr))]
 pub fn op(i: &Instr) -> Option<u32>
     ensures round { IfSome result (λ word. instr word ≡ i.now) }
-    ensures some { is_some result ≡ (is_op i.now && fits i.now) }
+    ensures some { is_some result ≡ (is_op i.now && is_encodable i.now) }
 {
     match *i {
         Instr::Add { rd, rs1, rs2 } => r_type(OP, 0, 0, rd, rs1, rs2),
@@ -153,7 +153,7 @@ pub fn op(i: &Instr) -> Option<u32>
 #[tactic(auto, unfolding(dt_rv64::specs::Instruction::instr))]
 pub fn op_multiply(i: &Instr) -> Option<u32>
     ensures round { IfSome result (λ word. instr word ≡ i.now) }
-    ensures some { is_some result ≡ (is_op_multiply i.now && fits i.now) }
+    ensures some { is_some result ≡ (is_op_multiply i.now && is_encodable i.now) }
 {
     match *i {
         Instr::Mul { rd, rs1, rs2 } => r_type(OP, 0, 1, rd, rs1, rs2),
@@ -172,7 +172,7 @@ pub fn op_multiply(i: &Instr) -> Option<u32>
 #[tactic(auto, unfolding(dt_rv64::specs::Instruction::instr))]
 pub fn op_immediate_32(i: &Instr) -> Option<u32>
     ensures round { IfSome result (λ word. instr word ≡ i.now) }
-    ensures some { is_some result ≡ (is_op_imm_32 i.now && fits i.now) }
+    ensures some { is_some result ≡ (is_op_imm_32 i.now && is_encodable i.now) }
 {
     match *i {
         Instr::Addiw { rd, rs1, imm } => i_type(OP_IMM_32, 0, rd, rs1, imm),
@@ -187,7 +187,7 @@ pub fn op_immediate_32(i: &Instr) -> Option<u32>
 #[tactic(auto, unfolding(dt_rv64::specs::Instruction::instr))]
 pub fn op_32(i: &Instr) -> Option<u32>
     ensures round { IfSome result (λ word. instr word ≡ i.now) }
-    ensures some { is_some result ≡ (is_op_32 i.now && fits i.now) }
+    ensures some { is_some result ≡ (is_op_32 i.now && is_encodable i.now) }
 {
     match *i {
         Instr::Addw { rd, rs1, rs2 } => r_type(OP_32, 0, 0, rd, rs1, rs2),
@@ -203,7 +203,7 @@ pub fn op_32(i: &Instr) -> Option<u32>
 #[tactic(auto, unfolding(dt_rv64::specs::Instruction::instr))]
 pub fn op_32_multiply(i: &Instr) -> Option<u32>
     ensures round { IfSome result (λ word. instr word ≡ i.now) }
-    ensures some { is_some result ≡ (is_op_32_multiply i.now && fits i.now) }
+    ensures some { is_some result ≡ (is_op_32_multiply i.now && is_encodable i.now) }
 {
     match *i {
         Instr::Mulw { rd, rs1, rs2 } => r_type(OP_32, 0, 1, rd, rs1, rs2),
@@ -219,7 +219,7 @@ pub fn op_32_multiply(i: &Instr) -> Option<u32>
 #[tactic(auto, unfolding(dt_rv64::specs::Instruction::instr))]
 pub fn fence_or_system(i: &Instr) -> Option<u32>
     ensures round { IfSome result (λ word. instr word ≡ i.now) }
-    ensures some { is_some result ≡ (is_fence_or_system i.now && fits i.now) }
+    ensures some { is_some result ≡ (is_fence_or_system i.now && is_encodable i.now) }
     ensures bare { i.now ≡ Fence → result ≡ Some 0x0000000F }
 {
     match *i {

@@ -3,8 +3,8 @@ ghost use Rattle.std.specs.Prelude.{◌≡◌, ◌<◌, ◌^◌, ℕ, false, tru
 ghost use Rattle.std.specs.List.{list_any};
 ghost use Rattle.dt_asm.specs.Item.{total_size, pieces_of, piece_of, branch_by, word, item_size};
 ghost use Rattle.dt_asm.specs.Refusal.{is_bad};
-ghost use Rattle.dt_asm.specs.Code.{Spells};
-ghost use Rattle.dt_asm.specs.inner.Adding.{IsAdded, RefusesField};
+ghost use Rattle.dt_asm.specs.Code.{AreSpelled};
+ghost use Rattle.dt_asm.specs.inner.Adding.{IsAdded, IsFieldRefusal};
 
 use crate::encoder::encode;
 use crate::error::AsmErr;
@@ -16,10 +16,10 @@ use std::alloc::Global;
 /// The bytes of the items in order, with their labels resolved; `BadField` where no word holds one of the instructions.
 pub fn code_of(alloc: Global, items: &[Item]) -> Result<Vec<u8>, AsmErr>
     requires { total_size items.now < 2 ^ 63 }
-    ensures spelled { IfOk result (λ code. Spells (pieces_of items.now) code.items) }
+    ensures spelled { IfOk result (λ code. AreSpelled (pieces_of items.now) code.items) }
     ensures size { IfOk result (λ code. length code.items ≡ total_size items.now) }
     ensures good { OnOk result (list_any is_bad (pieces_of items.now) ≡ false) }
-    ensures refused { IfErr result (RefusesField (list_any is_bad (pieces_of items.now))) }
+    ensures refused { IfErr result (IsFieldRefusal (list_any is_bad (pieces_of items.now))) }
 {
     let mut code = Vec::new(alloc);
     let mut at = 0;
@@ -36,7 +36,7 @@ fn add_item(code: &mut Vec<u8>, items: &[Item], at: u64, item: &Item) -> Result<
     requires inside { at < 2 ^ 63 }
     ensures added { OnOk result (IsAdded (piece_of items.now at item.now) code.old.items code.new.items) }
     ensures good { OnOk result (is_bad (piece_of items.now at item.now) ≡ false) }
-    ensures refused { IfErr result (RefusesField (is_bad (piece_of items.now at item.now))) }
+    ensures refused { IfErr result (IsFieldRefusal (is_bad (piece_of items.now at item.now))) }
 {
     match item {
         Item::Code(i) => add_word(code, i),
@@ -62,7 +62,7 @@ fn add_item(code: &mut Vec<u8>, items: &[Item], at: u64, item: &Item) -> Result<
 fn add_word(code: &mut Vec<u8>, i: &Instr) -> Result<(), AsmErr>
     ensures added { OnOk result (IsAdded (word i.now) code.old.items code.new.items) }
     ensures good { OnOk result (is_bad (word i.now) ≡ false) }
-    ensures refused { IfErr result (RefusesField (is_bad (word i.now))) }
+    ensures refused { IfErr result (IsFieldRefusal (is_bad (word i.now))) }
 {
     let Some(word) = encode(i) else {
         return Err(AsmErr::BadField);

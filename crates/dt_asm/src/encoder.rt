@@ -2,7 +2,7 @@
 ghost use Rattle.std.specs.Prelude.{◌≡◌, ◌&&◌, is_some, IfSome, Some};
 ghost use Rattle.dt_rv64.specs.declared.instruction.Instr.TheVariants.{Fence};
 ghost use Rattle.dt_rv64.specs.Instruction.{instr};
-ghost use Rattle.dt_asm.specs.Fits.{fits};
+ghost use Rattle.dt_asm.specs.Fits.{is_encodable};
 ghost use Rattle.dt_asm.specs.inner.Classes.{is_computational, is_computational_32};
 
 use crate::classes::{
@@ -15,7 +15,7 @@ use dt_rv64::Instr;
 /// or the instruction is `Unknown`.
 pub fn encode(i: &Instr) -> Option<u32>
     ensures round { IfSome result (λ word. instr word ≡ i.now) }
-    ensures some { is_some result ≡ fits i.now }
+    ensures some { is_some result ≡ is_encodable i.now }
     ensures bare { i.now ≡ Fence → result ≡ Some 0x0000000F }
 {
     match i {
@@ -47,7 +47,7 @@ pub fn encode(i: &Instr) -> Option<u32>
 // specification, "Integer Computational Instructions", and M).
 fn computational(i: &Instr) -> Option<u32>
     ensures round { IfSome result (λ word. instr word ≡ i.now) }
-    ensures some { is_some result ≡ (is_computational i.now && fits i.now) }
+    ensures some { is_some result ≡ (is_computational i.now && is_encodable i.now) }
 {
     match i {
         Instr::Addi { .. }
@@ -84,7 +84,7 @@ fn computational(i: &Instr) -> Option<u32>
 // Of those, one that computes 32 bits and sign-extends them.
 fn computational_32(i: &Instr) -> Option<u32>
     ensures round { IfSome result (λ word. instr word ≡ i.now) }
-    ensures some { is_some result ≡ (is_computational_32 i.now && fits i.now) }
+    ensures some { is_some result ≡ (is_computational_32 i.now && is_encodable i.now) }
 {
     match i {
         Instr::Addiw { .. } | Instr::Slliw { .. } | Instr::Srliw { .. } | Instr::Sraiw { .. } =>

@@ -4,9 +4,9 @@ ghost use Rattle.std.specs.Prelude.{pos};
 ghost use Rattle.dt_asm.specs.declared.item.Item.TheVariants.{Code, Branch, Jump, Bytes, Label};
 ghost use Rattle.dt_asm.specs.Item.{total_size, with_items};
 ghost use Rattle.dt_asm.specs.Refusal.{refusal_of};
-ghost use Rattle.dt_asm.specs.File.{IsFileOf, Refuses};
+ghost use Rattle.dt_asm.specs.File.{IsFileOf, IsRefusal};
 ghost use Rattle.dt_asm.specs.Accepted.{IsAccepted};
-ghost use Rattle.dt_asm.specs.Load.{loading};
+ghost use Rattle.dt_asm.specs.Load.{load_sequence};
 ghost use Rattle.dt_rv64.specs.declared.instruction.Instr.TheVariants.{Ecall};
 ghost use Rattle.dt_asm.specs.inner.Sized.{IsGrown};
 
@@ -15,7 +15,7 @@ use crate::error::AsmErr;
 use crate::headers::{HEADERS_SIZE, headers};
 use crate::item::Item;
 use crate::labels::{any_lost, any_out_of_reach, is_set_twice};
-use crate::loads::add_loading;
+use crate::loads::add_load_sequence;
 use dt_base::abi::A7;
 use dt_base::{Blob, FILE_LIMIT, NoMemory};
 use dt_rv64::Instr;
@@ -117,22 +117,22 @@ impl Guest {
     /// Adds what loads a number into a register: ADDI from x0 where it fits twelve signed bits; LUI and ADDIW where it
     /// fits 32; else what loads its upper 52 bits, SLLI by 12, and ADDI of its sign-extended low twelve bits.
     pub fn li(&mut self, reg: u8, v: i64) -> Result<(), NoMemory>
-        ensures ok { OnOk result (self.new ≡ with_items self.old (map Code (loading reg v))) }
+        ensures ok { OnOk result (self.new ≡ with_items self.old (map Code (load_sequence reg v))) }
         ensures err { OnErr result (self.new ≡ self.old) }
     {
         let mut items = Vec::new(self.alloc);
-        add_loading(&mut items, reg, v)?;
+        add_load_sequence(&mut items, reg, v)?;
         self.append(items)
     }
 
     /// Adds a call: its number is loaded into a7, and ECALL follows.
     pub fn call(&mut self, number: u32) -> Result<(), NoMemory>
         ensures ok { OnOk result
-            (self.new ≡ with_items self.old (map Code (loading A7 (pos number)) ++ (Code Ecall ∷ []))) }
+            (self.new ≡ with_items self.old (map Code (load_sequence A7 (pos number)) ++ (Code Ecall ∷ []))) }
         ensures err { OnErr result (self.new ≡ self.old) }
     {
         let mut items = Vec::new(self.alloc);
-        add_loading(&mut items, A7, i64::from(number))?;
+        add_load_sequence(&mut items, A7, i64::from(number))?;
         items.push(Item::Code(Instr::Ecall))?;
         self.append(items)
     }
@@ -142,7 +142,7 @@ impl Guest {
         ensures file { IfOk result (λ file. IsFileOf self.now file.items) }
         ensures accepted { IfOk result (λ file. IsAccepted file.items) }
         ensures sound { OnOk result (refusal_of self.now.items ≡ None) }
-        ensures refused { IfErr result (Refuses self.now.items) }
+        ensures refused { IfErr result (IsRefusal self.now.items) }
     {
         if any_lost(&self.items) {
             return Err(AsmErr::NoLabel);
@@ -167,7 +167,7 @@ impl Guest {
         ensures ok { OnOk result (self.new ≡ with_items self.old (item ∷ [])) }
         ensures err { OnErr result (self.new ≡ self.old) }
     {
-        let size = grown(self.size, &item)?;
+        let size = size_with(self.size, &item)?;
         self.items.push(item)?;
         self.size = size;
         Ok(())
@@ -178,7 +178,7 @@ impl Guest {
         ensures ok { OnOk result (self.new ≡ with_items self.old items.items) }
         ensures err { OnErr result (self.new ≡ self.old) }
     {
-        let size = grown_by_all(self.size, &items)?;
+        let size = size_with_all(self.size, &items)?;
         self.items.append(&mut items)?;
         self.size = size;
         Ok(())
@@ -186,7 +186,7 @@ impl Guest {
 }
 
 // A size with an item's. No memory holds a guest of 2^63 bytes, so past that memory is wanting.
-fn grown(size: u64, item: &Item) -> Result<u64, NoMemory>
+fn size_with(size: u64, item: &Item) -> Result<u64, NoMemory>
     requires { size < 2 ^ 63 }
     ensures { IfOk result (IsGrown size (item.now ∷ [])) }
 {
@@ -198,13 +198,13 @@ fn grown(size: u64, item: &Item) -> Result<u64, NoMemory>
 }
 
 // A size with those of items.
-fn grown_by_all(size: u64, items: &[Item]) -> Result<u64, NoMemory>
+fn size_with_all(size: u64, items: &[Item]) -> Result<u64, NoMemory>
     requires { size < 2 ^ 63 }
     ensures { IfOk result (IsGrown size items.now) }
 {
     let mut size = size;
     for item in items {
-        size = grown(size, item)?;
+        size = size_with(size, item)?;
     }
     Ok(size)
 }

@@ -2,7 +2,7 @@
 ghost use Rattle.std.specs.Prelude.{◌≡◌, ◌∷◌, [], IfOk, OnOk};
 ghost use Rattle.dt_rv64.specs.declared.instruction.Instr.TheVariants.{Lui, Addi};
 ghost use Rattle.dt_asm.specs.Item.{with_items};
-ghost use Rattle.dt_asm.specs.Guests.{instructions, hello_guest, forking, trio_guest};
+ghost use Rattle.dt_asm.specs.Guests.{instructions, hello_guest, fork_items, trio_guest};
 ghost use Rattle.dt_asm.specs.Guests.{cat1_guest, late_guest, first_guest};
 
 use crate::guest::Guest;
@@ -146,7 +146,7 @@ pub fn first(alloc: Global) -> Result<Guest, NoMemory>
 
 // Clones, and sends the child to its label.
 fn fork(guest: &mut Guest) -> Result<(), NoMemory>
-    ensures { OnOk result (guest.new ≡ with_items guest.old forking) }
+    ensures { OnOk result (guest.new ≡ with_items guest.old fork_items) }
 {
     guest.li(A0, SIGCHLD)?;
     guest.li(A1, 0)?;

@@ -1,7 +1,7 @@
 // Labels: where they stand, and whether each can be used.
 ghost use Rattle.std.specs.Prelude.{◌≡◌, ◌<◌, ◌≤◌, ◌+◌, ◌^◌, ℕ, IfSome};
 ghost use Rattle.std.specs.List.{list_any};
-ghost use Rattle.dt_asm.specs.Item.{total_size, label_offset, sets, distance, item_size};
+ghost use Rattle.dt_asm.specs.Item.{total_size, label_offset, is_label, distance, item_size};
 ghost use Rattle.dt_asm.specs.Refusal.{is_lost, is_set_in, is_set_twice, is_out_of_reach, any_out_of_reach};
 
 use crate::item::Item;
@@ -109,7 +109,7 @@ fn label_offset(items: &[Item], name: u32) -> Option<u64>
 
 // Whether the item sets this label.
 fn is_label(item: &Item, name: u32) -> bool
-    ensures { result ≡ sets name item.now }
+    ensures { result ≡ is_label name item.now }
 {
     match item {
         Item::Label(label) => *label == name,

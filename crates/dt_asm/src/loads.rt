@@ -3,7 +3,7 @@ ghost use Rattle.std.specs.Prelude.{◌≡◌, ◌++◌, ◌∷◌, [], map, OnO
 ghost use Rattle.dt_rv64.specs.declared.instruction.Instr.TheVariants.{Lui, Addi, Slli, Addiw};
 ghost use Rattle.dt_asm.specs.declared.item.Item.TheVariants.{Code};
 ghost use Rattle.dt_asm.specs.Fits.{is_signed};
-ghost use Rattle.dt_asm.specs.Load.{signed_low, without_low, hi52, loading};
+ghost use Rattle.dt_asm.specs.Load.{signed_low, without_low, high_52, load_sequence};
 
 use crate::item::Item;
 use dt_base::NoMemory;
@@ -11,8 +11,8 @@ use dt_rv64::Instr;
 
 /// Adds the instructions that load a number into a register, one to eight of them. Where memory runs out, some may have
 /// been added.
-pub fn add_loading(items: &mut Vec<Item>, register: u8, number: i64) -> Result<(), NoMemory>
-    ensures { OnOk result (items.new.items ≡ items.old.items ++ map Code (loading register number)) }
+pub fn add_load_sequence(items: &mut Vec<Item>, register: u8, number: i64) -> Result<(), NoMemory>
+    ensures { OnOk result (items.new.items ≡ items.old.items ++ map Code (load_sequence register number)) }
 {
     if fits_12(number) {
         add(items, addi_from_zero(register, number))
@@ -20,7 +20,7 @@ pub fn add_loading(items: &mut Vec<Item>, register: u8, number: i64) -> Result<(
         add(items, lui(register, number))?;
         add(items, addiw(register, number))
     } else {
-        add_loading(items, register, hi52(number))?;
+        add_load_sequence(items, register, high_52(number))?;
         add(items, slli_12(register))?;
         add(items, addi_low(register, number))
     }
@@ -61,8 +61,8 @@ fn signed_low_32(number: i64) -> i64
 }
 
 // The 52 bits above the sign-extended low twelve, moved down by twelve.
-fn hi52(number: i64) -> i64
-    ensures { result ≡ hi52 number }
+fn high_52(number: i64) -> i64
+    ensures { result ≡ high_52 number }
 {
     let high = number.div_euclid(4096);
     if number.rem_euclid(4096) < 2048 {

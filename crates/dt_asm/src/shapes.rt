@@ -2,7 +2,8 @@
 // "Immediate Encoding Variants").
 ghost use Rattle.std.specs.Prelude.{◌≡◌, ◌<◌, ◌^◌, ◌/◌, ◌%◌, ◌*◌, ◌&&◌, is_some, IfSome};
 ghost use Rattle.dt_asm.specs.Fits.{is_b_immediate, is_u_immediate, is_j_immediate, is_i_immediate, is_counter};
-ghost use Rattle.dt_asm.specs.Fits.{is_register, fits_r, fits_i, fits_s, fits_b, fits_u, fits_j, fits_shift};
+ghost use Rattle.dt_asm.specs.Fits.{is_register, are_r_fields, are_i_fields, are_s_fields, are_b_fields, are_u_fields};
+ghost use Rattle.dt_asm.specs.Fits.{are_j_fields, are_shift_fields};
 ghost use Rattle.dt_asm.specs.inner.Shapes.{IsBits, IsR, IsI, IsShift, IsCsr, IsS, IsB, IsU, IsJ};
 
 const REGISTERS: u8 = 32;
@@ -12,11 +13,11 @@ pub fn r_type(opcode: u32, funct3: u32, funct7: u32, rd: u8, rs1: u8, rs2: u8) -
     requires opcode { opcode < 2 ^ 7 }
     requires funct3 { funct3 < 2 ^ 3 }
     requires funct7 { funct7 < 2 ^ 7 }
-    ensures some { is_some result ≡ fits_r rd rs1 rs2 }
+    ensures some { is_some result ≡ are_r_fields rd rs1 rs2 }
     ensures word { IfSome result (IsR opcode funct3 funct7 rd rs1 rs2) }
 {
     if rd < REGISTERS && rs1 < REGISTERS && rs2 < REGISTERS {
-        Some(assembled(opcode, u32::from(rd), funct3, rs1, rs2, funct7))
+        Some(assemble(opcode, u32::from(rd), funct3, rs1, rs2, funct7))
     } else {
         None
     }
@@ -27,7 +28,7 @@ pub fn r_type(opcode: u32, funct3: u32, funct7: u32, rd: u8, rs1: u8, rs2: u8) -
 pub fn i_type(opcode: u32, funct3: u32, rd: u8, rs1: u8, imm: i64) -> Option<u32>
     requires opcode { opcode < 2 ^ 7 }
     requires funct3 { funct3 < 2 ^ 3 }
-    ensures some { is_some result ≡ fits_i rd rs1 imm }
+    ensures some { is_some result ≡ are_i_fields rd rs1 imm }
     ensures word { IfSome result (IsI opcode funct3 rd rs1 imm) }
 {
     if rd < REGISTERS && rs1 < REGISTERS {
@@ -44,7 +45,7 @@ pub fn shift_type(opcode: u32, funct3: u32, funct6: u32, rd: u8, rs1: u8, shift:
     requires opcode { opcode < 2 ^ 7 }
     requires funct3 { funct3 < 2 ^ 3 }
     requires funct6 { funct6 < 2 ^ 6 }
-    ensures some { is_some result ≡ fits_shift 64 rd rs1 shift }
+    ensures some { is_some result ≡ are_shift_fields 64 rd rs1 shift }
     ensures word { IfSome result (IsShift opcode funct3 funct6 rd rs1 shift) }
 {
     if rd < REGISTERS && rs1 < REGISTERS && shift < 64 {
@@ -81,12 +82,12 @@ pub fn csr_type(opcode: u32, funct3: u32, rd: u8, counter: u16) -> Option<u32>
 pub fn s_type(opcode: u32, funct3: u32, rs1: u8, rs2: u8, imm: i64) -> Option<u32>
     requires opcode { opcode < 2 ^ 7 }
     requires funct3 { funct3 < 2 ^ 3 }
-    ensures some { is_some result ≡ fits_s rs1 rs2 imm }
+    ensures some { is_some result ≡ are_s_fields rs1 rs2 imm }
     ensures word { IfSome result (IsS opcode funct3 rs1 rs2 imm) }
 {
     if rs1 < REGISTERS && rs2 < REGISTERS {
         let bits = i_immediate_bits(imm)?;
-        Some(assembled(opcode, bits & 0x1f, funct3, rs1, rs2, bits >> 5))
+        Some(assemble(opcode, bits & 0x1f, funct3, rs1, rs2, bits >> 5))
     } else {
         None
     }
@@ -100,14 +101,14 @@ pub fn s_type(opcode: u32, funct3: u32, rs1: u8, rs2: u8, imm: i64) -> Option<u3
 pub fn b_type(opcode: u32, funct3: u32, rs1: u8, rs2: u8, imm: i64) -> Option<u32>
     requires opcode { opcode < 2 ^ 7 }
     requires funct3 { funct3 < 2 ^ 3 }
-    ensures some { is_some result ≡ fits_b rs1 rs2 imm }
+    ensures some { is_some result ≡ are_b_fields rs1 rs2 imm }
     ensures word { IfSome result (IsB opcode funct3 rs1 rs2 imm) }
 {
     if rs1 < REGISTERS && rs2 < REGISTERS {
         let bits = b_immediate_bits(imm)?;
         let low = b_immediate_low(bits);
         let high = b_immediate_high(bits);
-        Some(assembled(opcode, low, funct3, rs1, rs2, high))
+        Some(assemble(opcode, low, funct3, rs1, rs2, high))
     } else {
         None
     }
@@ -137,7 +138,7 @@ fn b_immediate_high(bits: u32) -> u32
 /// immediate is no signed number of 32 bits whose low 12 are 0.
 pub fn u_type(opcode: u32, rd: u8, imm: i64) -> Option<u32>
     requires opcode { opcode < 2 ^ 7 }
-    ensures some { is_some result ≡ fits_u rd imm }
+    ensures some { is_some result ≡ are_u_fields rd imm }
     ensures word { IfSome result (IsU opcode rd imm) }
 {
     if rd < REGISTERS {
@@ -152,7 +153,7 @@ pub fn u_type(opcode: u32, rd: u8, imm: i64) -> Option<u32>
 /// offset is no even signed number of 21 bits.
 pub fn j_type(opcode: u32, rd: u8, imm: i64) -> Option<u32>
     requires opcode { opcode < 2 ^ 7 }
-    ensures some { is_some result ≡ fits_j rd imm }
+    ensures some { is_some result ≡ are_j_fields rd imm }
     ensures word { IfSome result (IsJ opcode rd imm) }
 {
     if rd < REGISTERS {
@@ -180,7 +181,7 @@ pub fn is_j_immediate(imm: i64) -> bool
 }
 
 // The word of these fields.
-fn assembled(opcode: u32, rd: u32, funct3: u32, rs1: u8, rs2: u8, funct7: u32) -> u32
+fn assemble(opcode: u32, rd: u32, funct3: u32, rs1: u8, rs2: u8, funct7: u32) -> u32
     requires opcode { opcode < 2 ^ 7 }
     requires funct3 { funct3 < 2 ^ 3 }
     requires funct7 { funct7 < 2 ^ 7 }

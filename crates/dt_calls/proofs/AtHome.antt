@@ -4,23 +4,23 @@ use Rattle.std.specs.Prelude.{IsSome, IfSome, Result, Ok, Err, IfOk}
 use Rattle.std.specs.FinMap.{get, insert}
 use Rattle.dt_base.specs.declared.memory.NoMemory.{NoMemory}
 use Rattle.dt_host.specs.declared.error.HostErr.{HostErr}
-use Rattle.dt_host.proofs.Found.{none_there}
+use Rattle.dt_tables.proofs.Found.{none_there}
 use Rattle.dt_rv64.specs.declared.machine.Machine.{Machine}
 use Rattle.dt_rv64.specs.declared.segments.Seg.{Seg}
 use Rattle.dt_rv64.specs.Segment.{segment_of}
 use Rattle.dt_calls.specs.declared.call.effect.Effect.{Effect as EffectInCode}
 use Rattle.dt_calls.specs.Effect.{Effect}
-use Rattle.dt_calls.specs.InCode.{home_of}
-use Rattle.dt_calls.specs.Sound.{Hand, Serves}
-use Rattle.dt_calls.specs.AtHome.{Places, RunsAt, ServesAt}
+use Rattle.dt_calls.specs.InCode.{machines_at_home}
+use Rattle.dt_calls.specs.Sound.{Hand, HasEffect}
+use Rattle.dt_calls.specs.AtHome.{Places, RunsAt, HasEffectAt}
 use Rattle.dt_calls.proofs.Homes.{home-there, home-place}
 
 -- a place of a machine at home has one
-pub some-there : (places : Places) (p : ℕ) (place : Option Machine) → get places p ≡ Some place → IsSome (get (home_of places) p) → IsSome place
+pub some-there : (places : Places) (p : ℕ) (place : Option Machine) → get places p ≡ Some place → IsSome (get (machines_at_home places) p) → IsSome place
 some-there places p place is home = subst (λ found. IsSome found) (home-there places p place is) home
 
 -- and a machine at home has a place
-pub not-missing : (places : Places) (p : ℕ) → get places p ≡ None → IsSome (get (home_of places) p) → ⊥
+pub not-missing : (places : Places) (p : ℕ) → get places p ≡ None → IsSome (get (machines_at_home places) p) → ⊥
 not-missing places p none home = none_there (get places p) none (home-place places p home)
 
 -- the machine that stands in a place becomes the one that stands there after it
@@ -44,8 +44,8 @@ all-runs before after p place now (Err e) home rest some stays run = run
 
 pub serves-at : (defined : Machine → Effect) (old new : Hand) (before after : Places) (p : ℕ) (place now : Option Machine) (result : Result EffectInCode HostErr) (count later : ℕ)
     → get before p ≡ Some place → after ≡ insert before p now → IsSome place → IsSome now
-    → IfSome place (λ was. IfSome now (λ m. Serves (defined was) old new m result count later))
-    → ServesAt defined old new before after p result count later
+    → IfSome place (λ was. IfSome now (λ m. HasEffect (defined was) old new m result count later))
+    → HasEffectAt defined old new before after p result count later
 serves-at defined old new before after p (Some was) (Some now) result count later home rest some stays serves = record {
   was = was;
   now = now;

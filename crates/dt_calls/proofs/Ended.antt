@@ -9,26 +9,26 @@ use Rattle.dt_base.specs.declared.event.End.{End}
 use Rattle.dt_base.specs.declared.event.End.TheVariants.{Signal}
 use Rattle.dt_fds.specs.declared.files.Files.{Files}
 use Rattle.dt_fds.specs.Backs.{AllIn, IsBacked, IsPiped, KeepsOthers as KeepsHolds, at, holding_at, descriptions_of}
-use Rattle.dt_host.specs.inner.Weight.{weight}
+use Rattle.dt_tables.specs.inner.Weight.{weight}
 use Rattle.dt_host.specs.World.{World, IsDir}
-use Rattle.dt_host.proofs.Maps.{get-remove_same, get-remove_other}
-use Rattle.dt_host.proofs.Totals.{total-remove}
+use Rattle.dt_tables.proofs.Maps.{get-remove_same, get-remove_other}
+use Rattle.dt_tables.proofs.Totals.{total-remove}
 use Rattle.dt_procs.specs.declared.member.Member.{Member}
-use Rattle.dt_procs.specs.Members.{ended, ended_member, lives}
+use Rattle.dt_procs.specs.Members.{members_after_end, member_after_end, has_live}
 use Rattle.dt_procs.specs.Table as procs
 use Rattle.dt_procs.specs.Table.{members_of}
-use Rattle.dt_scene.proofs.Kept.{all_in-through}
+use Rattle.dt_callbase.proofs.Kept.{all_in-through}
 use Rattle.dt_tree.proofs.Namings.{one_for-same, one_for-swap}
 use Rattle.dt_tree.specs.FileTree.{FileTree, holds_of}
 use Rattle.dt_tree.specs.Shape.{one_for}
-use Rattle.dt_tree.specs.Changes.{released}
+use Rattle.dt_tree.specs.Changes.{tree_after_release}
 use Rattle.dt_tree.specs.Table.{Stands, shape_of, tree_of}
 use Rattle.dt_tree.proofs.Holding.{holds-released, IsFile-released, IsDir-released}
 use Rattle.dt_calls.specs.declared.shared.Process.{Process}
 use Rattle.dt_calls.specs.declared.shared.Shared.{Shared as SharedInCode}
 use Rattle.dt_base.specs.declared.abi.TheConstants.{SIGKILL}
 use Rattle.dt_calls.specs.Container.{Shared, Processes}
-use Rattle.dt_calls.specs.Settle.{ends_one, kills_each}
+use Rattle.dt_calls.specs.Settle.{shared_after_one_end, shared_after_kills}
 use Rattle.dt_calls.specs.Sound.{directories_of, IsSound}
 
 -- how often a process holds a node as its working directory
@@ -52,7 +52,7 @@ directories-least processes p own is =
 abbrev is_live : ℕ → Member → Bool
 is_live q m = (m.vpid == q) && is_none m.end
 
-live-ended : (p : ℕ) (end : End) (q : ℕ) (m : Member) → q ≢ p → is_live q (ended_member p end m) ≡ is_live q m
+live-ended : (p : ℕ) (end : End) (q : ℕ) (m : Member) → q ≢ p → is_live q (member_after_end p end m) ≡ is_live q m
 live-ended p end q m apart = by_pid (m.vpid == p) refl
   where
     by_pid : (b : Bool) → (m.vpid == p) ≡ b → ((m.vpid == q) && is_none (cond b (Some end) m.end)) ≡ ((m.vpid == q) && is_none m.end)
@@ -62,8 +62,8 @@ live-ended p end q m apart = by_pid (m.vpid == p) refl
         ap (λ b. b && false) not ∙ sym (ap (λ b. b && is_none m.end) not)
 
 -- the end of a process ends no other
-pub lives-ended : (p : ℕ) (end : End) (q : ℕ) (members : List Member) → q ≢ p → lives (ended p end members) q ≡ lives members q
-unfolding ended
+pub lives-ended : (p : ℕ) (end : End) (q : ℕ) (members : List Member) → q ≢ p → has_live (members_after_end p end members) q ≡ has_live members q
+unfolding members_after_end
 lives-ended p end q [] apart = refl
 lives-ended p end q (m ∷ ms) apart = (λ i. live-ended p end q m apart i || lives-ended p end q ms apart i)
 
@@ -81,7 +81,7 @@ module _ (c left new : SharedInCode) (w u v : World) (p : ℕ) (own : Process) (
   cwd-left = omega (arith, holds-left own.caller.cwd, directories-least c.processes p own here)
 
   abbrev after : FileTree
-  after = released between own.caller.cwd
+  after = tree_after_release between own.caller.cwd
 
   holds-after : (n : ℕ) → holds_of after n ≡ descriptions_of left.fs.files.descriptors n + directories_of (remove c.processes p) n
   holds-after n =
@@ -97,7 +97,7 @@ module _ (c left new : SharedInCode) (w u v : World) (p : ℕ) (own : Process) (
       IsDir-released between own.caller.cwd backed.stands.tree n (λ _. omega (arith, holds-after n, most))
       (others.dirs n (omega (arith, sound.holds n, all)) dir)
 
-  module _ (fs : new.fs.files ≡ left.fs.files) (processes : new.processes ≡ remove c.processes p) (members : members_of new.pids ≡ ended p end (members_of c.pids)) (next : new.pids.next ≡ c.pids.next)
+  module _ (fs : new.fs.files ≡ left.fs.files) (processes : new.processes ≡ remove c.processes p) (members : members_of new.pids ≡ members_after_end p end (members_of c.pids)) (next : new.pids.next ≡ c.pids.next)
       (stands : Stands new.fs.tree v.forest) (tree : tree_of new.fs.tree v.forest ≡ after) (pids : procs.Stands new.pids v.pids) (pipes : v.pipes ≡ u.pipes) (states : (q : ℕ) → q ≢ p → IsSome (get c.signals q) → IsSome (get new.signals q)) where
     by_other : (q : ℕ) (P : Option Process → Type 0) → P None → ((other : Process) → q ≢ p → get (remove c.processes p) q ≡ Some other → get c.processes q ≡ Some other → P (Some other)) → P (get new.processes q)
     by_other q P none some = subst P (sym (ap (λ m. get m q) processes)) (by_found (get (remove c.processes p) q) refl)
@@ -130,8 +130,8 @@ module _ (c left new : SharedInCode) (w u v : World) (p : ℕ) (own : Process) (
           (λ other apart is was. subst (λ found. IfSome found (λ x. x.caller.vpid ≡ q)) was (sound.named q));
       given = λ q. by_other q (λ found. IsSome found → q < new.pids.next) (λ no. cc)
           (λ other apart is was _. subst (λ n. q < n) (sym next) (sound.given q (ap is_some was)));
-      lives = λ q. by_other q (λ found. IsSome found → lives (members_of new.pids) q ≡ true) (λ no. cc)
-          (λ other apart is was _. ap (λ ms. lives ms q) members ∙ lives-ended p end q (members_of c.pids) apart ∙ sound.lives q (ap is_some was));
+      lives = λ q. by_other q (λ found. IsSome found → has_live (members_of new.pids) q ≡ true) (λ no. cc)
+          (λ other apart is was _. ap (λ ms. has_live ms q) members ∙ lives-ended p end q (members_of c.pids) apart ∙ sound.lives q (ap is_some was));
       signalled = λ q. by_other q (λ found. IsSome found → IsSome (get new.signals q)) (λ no. cc)
           (λ other apart is was _. states q apart (sound.signalled q (ap is_some was)));
       fresh = λ q late.
@@ -140,15 +140,15 @@ module _ (c left new : SharedInCode) (w u v : World) (p : ℕ) (own : Process) (
     }
 
 -- one of the processes that are to be killed is killed
-pub kills-next : (vpids : List ℕ) (k p : ℕ) (c d whole : Shared) → k < length vpids → get_or vpids k 0 ≡ p → whole ≡ kills_each (drop k vpids) c → d ≡ ends_one p (Signal SIGKILL) c → whole ≡ kills_each (drop (k + 1) vpids) d
-unfolding kills_each
+pub kills-next : (vpids : List ℕ) (k p : ℕ) (c d whole : Shared) → k < length vpids → get_or vpids k 0 ≡ p → whole ≡ shared_after_kills (drop k vpids) c → d ≡ shared_after_one_end p (Signal SIGKILL) c → whole ≡ shared_after_kills (drop (k + 1) vpids) d
+unfolding shared_after_kills
 kills-next vpids k p c d whole within is so ends =
-    so ∙ ap (λ ps. kills_each ps c) (drop-cons vpids k 0 within)
-    ∙ ap (λ n. kills_each (drop n vpids) (ends_one (get_or vpids k 0) (Signal SIGKILL) c)) (sym (add-one k))
-    ∙ ap (kills_each (drop (k + 1) vpids)) (ap (λ q. ends_one q (Signal SIGKILL) c) is ∙ sym ends)
+    so ∙ ap (λ ps. shared_after_kills ps c) (drop-cons vpids k 0 within)
+    ∙ ap (λ n. shared_after_kills (drop n vpids) (shared_after_one_end (get_or vpids k 0) (Signal SIGKILL) c)) (sym (add-one k))
+    ∙ ap (shared_after_kills (drop (k + 1) vpids)) (ap (λ q. shared_after_one_end q (Signal SIGKILL) c) is ∙ sym ends)
 
 -- and the others live on
-pub part-kept : (p q : ℕ) (end : End) (c d : Shared) → d ≡ ends_one p end c → q ≢ p → IsSome (get c.processes q) → IsSome (get d.processes q)
-unfolding ends_one
+pub part-kept : (p q : ℕ) (end : End) (c d : Shared) → d ≡ shared_after_one_end p end c → q ≢ p → IsSome (get c.processes q) → IsSome (get d.processes q)
+unfolding shared_after_one_end
 part-kept p q end c d is apart lives =
     subst (λ found. IsSome found) (sym (ap (λ s. get s.processes q) is ∙ get-remove_other nat_cmp_total nat_cmp-IsAntisymmetric c.processes p q apart)) lives

@@ -10,10 +10,10 @@ use Rattle.std.proofs.lemmas.Cmp.{tied_itself}
 use Rattle.std.specs.FinMap.{FinMap, find, get, entries, entries_sorted, get-entries, keys}
 use Rattle.std.specs.FinMap.Entries.{below_all, is_sorted}
 use Rattle.std.proofs.lemmas.List.Elements.{All-tail}
-use Rattle.dt_host.proofs.Conjuncts.{first, second}
+use Rattle.dt_tables.proofs.Conjuncts.{first, second}
 use Rattle.dt_procs.specs.declared.member.Member.{Member}
 use Rattle.dt_procs.specs.declared.member.TheConstants.{PROCESS_LIMIT}
-use Rattle.dt_procs.specs.Members.{is_live, lives}
+use Rattle.dt_procs.specs.Members.{is_live, has_live}
 use Rattle.dt_procs.specs.Table.{Table, members_of, member_of, IsRising, IsTable}
 use Rattle.dt_procs.proofs.Standing.{Rises}
 use Rattle.dt_procs.proofs.Pairs.{AllPairs-head, AllPairs-tail}
@@ -21,11 +21,11 @@ use Rattle.dt_rv64.specs.declared.machine.Machine.{Machine}
 use Rattle.dt_calls.specs.Container.{Processes}
 
 -- all members that follow have pids above a bound, and so has one that lives
-above_all : (bound q : ℕ) (ms : List Member) → All (λ m. bound < m.vpid) ms → lives ms q ≡ true → bound < q
+above_all : (bound q : ℕ) (ms : List Member) → All (λ m. bound < m.vpid) ms → has_live ms q ≡ true → bound < q
 above_all bound q [] all live = cc
 above_all bound q (m ∷ ms) all live = by_head (is_live q m) refl (λ found. above_all bound q ms (All-tail (λ (m : Member). bound < m.vpid) m ms all) found)
   where
-    by_head : (b : Bool) → is_live q m ≡ b → (lives ms q ≡ true → bound < q) → bound < q
+    by_head : (b : Bool) → is_live q m ≡ b → (has_live ms q ≡ true → bound < q) → bound < q
     by_head true e further =
         let above : bound < m.vpid = all 0 m (omega arith) in
         let same : m.vpid ≡ q = pid (m.vpid == q) refl e in
@@ -34,11 +34,11 @@ above_all bound q (m ∷ ms) all live = by_head (is_live q m) refl (λ found. ab
         pid : (b : Bool) → (m.vpid == q) ≡ b → (b && is_none m.end) ≡ true → m.vpid ≡ q
         pid true is e = grind (arith, nat_tests, is)
         pid false is e = cc
-    by_head false e further = further (sym (ap (λ b. b || lives ms q) e) ∙ live)
+    by_head false e further = further (sym (ap (λ b. b || has_live ms q) e) ∙ live)
 
 -- a process that lives and isn't the first member is one of the others
-later : (q : ℕ) (m : Member) (ms : List Member) → m.vpid ≢ q → lives (m ∷ ms) q ≡ true → lives ms q ≡ true
-later q m ms apart live = sym (ap (λ b. (b && is_none m.end) || lives ms q) (not_it (m.vpid == q) refl)) ∙ live
+later : (q : ℕ) (m : Member) (ms : List Member) → m.vpid ≢ q → has_live (m ∷ ms) q ≡ true → has_live ms q ≡ true
+later q m ms apart live = sym (ap (λ b. (b && is_none m.end) || has_live ms q) (not_it (m.vpid == q) refl)) ∙ live
   where
     not_it : (b : Bool) → (m.vpid == q) ≡ b → (m.vpid == q) ≡ false
     not_it true is = absurd (apart (grind (arith, nat_tests, is)))
@@ -66,7 +66,7 @@ module _ {X : Type 0} where
 
 module _ {X : Type 0} where
   -- sorted keys that are pids of live processes are no more than the members
-  few-in : (es : List (ℕ × X)) (ms : List Member) → T (is_sorted nat_cmp es) → IsRising ms → ((q : ℕ) → IsSome (find nat_cmp q es) → lives ms q ≡ true) → length es ≤ length ms
+  few-in : (es : List (ℕ × X)) (ms : List Member) → T (is_sorted nat_cmp es) → IsRising ms → ((q : ℕ) → IsSome (find nat_cmp q es) → has_live ms q ≡ true) → length es ≤ length ms
   few-in [] ms h rising live = omega arith
   few-in (e ∷ es) [] h rising live = let no : false ≡ true = live e.0 (there e.0 e.1) in cc
     where
@@ -94,8 +94,8 @@ module _ {X : Type 0} where
           either false some = some
 
       by_head : (b : Bool) → (m.vpid == e.0) ≡ b
-          → (T (is_sorted nat_cmp es) → IsRising ms → ((q : ℕ) → IsSome (find nat_cmp q es) → lives ms q ≡ true) → length es ≤ length ms)
-          → (T (is_sorted nat_cmp (e ∷ es)) → IsRising ms → ((q : ℕ) → IsSome (find nat_cmp q (e ∷ es)) → lives ms q ≡ true) → length (e ∷ es) ≤ length ms)
+          → (T (is_sorted nat_cmp es) → IsRising ms → ((q : ℕ) → IsSome (find nat_cmp q es) → has_live ms q ≡ true) → length es ≤ length ms)
+          → (T (is_sorted nat_cmp (e ∷ es)) → IsRising ms → ((q : ℕ) → IsSome (find nat_cmp q (e ∷ es)) → has_live ms q ≡ true) → length (e ∷ es) ≤ length ms)
           → suc (length es) ≤ suc (length ms)
       by_head true is both one =
           let same : m.vpid ≡ e.0 = grind (arith, nat_tests, is) in
@@ -115,7 +115,7 @@ module _ {X : Type 0} where
               by_key false apart = let over = above q (subst (λ c. IsSome (cond c (Some e.1) (find nat_cmp q es))) apart some) in omega arith
 
 -- places for machines are places of live processes, so they are at most 64
-pub few-places : (places : FinMap nat_cmp (Option Machine)) (processes : Processes) (t : Table) → IsTable t → ((p : ℕ) → IsSome (get places p) → IsSome (get processes p)) → ((p : ℕ) → IsSome (get processes p) → lives (members_of t) p ≡ true) → length (keys places) ≤ PROCESS_LIMIT
+pub few-places : (places : FinMap nat_cmp (Option Machine)) (processes : Processes) (t : Table) → IsTable t → ((p : ℕ) → IsSome (get places p) → IsSome (get processes p)) → ((p : ℕ) → IsSome (get processes p) → has_live (members_of t) p ≡ true) → length (keys places) ≤ PROCESS_LIMIT
 few-places places processes t table paired live =
     let less = few-in (entries places) (members_of t) (entries_sorted places) table.rising (λ q some.
     live q (paired q (subst (λ found. IsSome found) (sym (get-entries places q)) some))) in

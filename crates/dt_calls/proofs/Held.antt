@@ -11,26 +11,26 @@ use Rattle.dt_base.specs.declared.caller.Caller.{Caller}
 use Rattle.dt_base.specs.declared.event.End.{End}
 use Rattle.dt_fds.specs.Backs.{AllIn, KeepsNodes, KeepsOthers as KeepsHolds, OnlyFiles, at, holding_at, IsBacked, IsPiped, descriptions_of}
 use Rattle.dt_fds.specs.declared.files.Files.{Files}
-use Rattle.dt_host.specs.inner.Weight.{weight}
+use Rattle.dt_tables.specs.inner.Weight.{weight}
 use Rattle.dt_host.specs.World.{World, Forest, IsDir, OnlyPids}
-use Rattle.dt_host.proofs.Maps.{at_insert, get-insert_same, get-insert_other, get-remove_other}
+use Rattle.dt_tables.proofs.Maps.{at_insert, get-insert_same, get-insert_other, get-remove_other}
 use Rattle.dt_host.proofs.Spots.{IsLive-IsDir}
-use Rattle.dt_host.proofs.Totals.{total-insert, total-remove}
+use Rattle.dt_tables.proofs.Totals.{total-insert, total-remove}
 use Rattle.dt_procs.specs.declared.member.Member.{Member}
 use Rattle.dt_procs.specs.declared.member.Reaped.TheVariants.{Got}
-use Rattle.dt_procs.specs.Members.{lives, is_live, has_pid, newborn, with_child, without_member, look_for}
+use Rattle.dt_procs.specs.Members.{has_live, is_live, has_pid, newborn, with_child, without_member, look_for}
 use Rattle.dt_procs.proofs.Lowest.{lowest}
 use Rattle.dt_procs.proofs.Pairs.{AllPairs-head, AllPairs-tail}
 use Rattle.dt_procs.proofs.Standing.{Rises}
 use Rattle.dt_procs.specs.Table as procs
 use Rattle.dt_procs.specs.Table.{members_of}
-use Rattle.dt_scene.proofs.Kept.{sound_held, others_held, others_kept, piped_nodes}
-use Rattle.dt_scene.specs.declared.fs.Fs.{Fs}
-use Rattle.dt_scene.specs.Sound.{Sound, KeepsOthers, stage, scene}
+use Rattle.dt_callbase.proofs.Kept.{sound_held, others_held, others_kept, piped_nodes}
+use Rattle.dt_callbase.specs.declared.fs.Fs.{Fs}
+use Rattle.dt_callbase.specs.Sound.{Sound, KeepsOthers, stage, scene}
 use Rattle.dt_space.specs.Space.{PageView}
 use Rattle.dt_tree.proofs.Holding.{KeepsHeld-same, holds-held, shape-held}
 use Rattle.dt_tree.proofs.Namings.{one_for-same, one_for-swap}
-use Rattle.dt_tree.specs.Changes.{held}
+use Rattle.dt_tree.specs.Changes.{tree_after_hold}
 use Rattle.dt_tree.specs.FileTree.{FileTree, holds_of}
 use Rattle.dt_tree.specs.Shape.{one_for}
 use Rattle.dt_tree.specs.Table.{Table, Stands, shape_of, tree_of}
@@ -42,7 +42,7 @@ use Rattle.dt_calls.specs.declared.call.effect.Effect.{Effect as EffectInCode}
 use Rattle.dt_calls.specs.Effect.{Effect}
 use Rattle.dt_calls.specs.InCode.{shared_of, effect_as}
 use Rattle.dt_signals.specs.declared.signals.Sig.{Sig}
-use Rattle.dt_calls.specs.Sound.{Hand, hand, directories_of, with_part, IsSoundHand, LeavesSound, Serves, StillSignalled}
+use Rattle.dt_calls.specs.Sound.{Hand, hand, directories_of, with_part, IsSoundHand, LeavesSound, HasEffect, KeepsSignals}
 use Rattle.dt_calls.proofs.Ended.{by_own}
 use Rattle.dt_calls.proofs.Signalled.{signal-here, sound-signals, still-insert}
 
@@ -88,7 +88,7 @@ module _ (c : Shared) (own : Process) (w : World) (sound : IsSoundHand (hand c o
   pub own-given : own.caller.vpid < c.pids.next
   own-given = sound.given own.caller.vpid (subst IsSome (sym here-own) refl)
 
-  pub own-lives : lives (members_of c.pids) own.caller.vpid ≡ true
+  pub own-lives : has_live (members_of c.pids) own.caller.vpid ≡ true
   own-lives = sound.lives own.caller.vpid (subst IsSome (sym here-own) refl)
 
   pub own-signalled : IsSome (get c.signals own.caller.vpid)
@@ -142,7 +142,7 @@ module _ (c : Shared) (own : Process) (w : World) (sound : IsSoundHand (hand c o
       piped = left.piped;
       named = parts-moved (λ q found. IfSome found (λ other. other.caller.vpid ≡ q)) refl (λ q apart. sound.named q);
       given = parts-moved (λ q found. IsSome found → q < c.pids.next) (λ some. let mine = own-given in omega (arith, others.vpid)) (λ q apart. sound.given q);
-      lives = parts-moved (λ q found. IsSome found → lives (members_of c.pids) q ≡ true) (λ some. subst (λ q. lives (members_of c.pids) q ≡ true) (sym others.vpid) own-lives) (λ q apart. sound.lives q);
+      lives = parts-moved (λ q found. IsSome found → has_live (members_of c.pids) q ≡ true) (λ some. subst (λ q. has_live (members_of c.pids) q ≡ true) (sym others.vpid) own-lives) (λ q apart. sound.lives q);
       signalled = parts-moved (λ q found. IsSome found → IsSome (get c.signals q)) (λ some. subst (λ q. IsSome (get c.signals q)) (sym others.vpid) own-signalled) (λ q apart. sound.signalled q);
       fresh = λ q past.
           let mine = own-given in
@@ -172,16 +172,16 @@ module _ (c : Shared) (own : Process) (w : World) (sound : IsSoundHand (hand c o
       refl
 
   -- the signal states alone change
-  pub keeps-signals : (signals : Signals) → StillSignalled c.signals signals → LeavesSound (hand c own w) (hand (record c { signals = signals }) own w) None
+  pub keeps-signals : (signals : Signals) → KeepsSignals c.signals signals → LeavesSound (hand c own w) (hand (record c { signals = signals }) own w) None
   keeps-signals signals still = record { sound = sound-signals (with_part c own) signals w sound still; vpid = refl; parts = λ q there. there; next = refl; child = tt }
 
-  pub keeps-raised : (signals : Signals) (new : Shared) → new ≡ record c { signals = signals } → StillSignalled c.signals new.signals → LeavesSound (hand c own w) (hand new own w) None
+  pub keeps-raised : (signals : Signals) (new : Shared) → new ≡ record c { signals = signals } → KeepsSignals c.signals new.signals → LeavesSound (hand c own w) (hand new own w) None
   keeps-raised signals new is still =
       subst (λ (s : Shared). LeavesSound (hand c own w) (hand s own w) None) (sym is)
-      (keeps-signals signals (subst (StillSignalled c.signals) (ap (λ (s : Shared). s.signals) is) still))
+      (keeps-signals signals (subst (KeepsSignals c.signals) (ap (λ (s : Shared). s.signals) is) still))
 
   -- the signal states change, and how many bytes the process's call has moved
-  pub keeps-done : (done : ℕ) (signals : Signals) → StillSignalled c.signals signals → LeavesSound (hand c own w) (hand (record c { signals = signals }) (record own { caller = record own.caller { done = done } }) w) None
+  pub keeps-done : (done : ℕ) (signals : Signals) → KeepsSignals c.signals signals → LeavesSound (hand c own w) (hand (record c { signals = signals }) (record own { caller = record own.caller { done = done } }) w) None
   keeps-done done signals still =
       let now : Process = record own { caller = record own.caller { done = done } } in
       let before = sound-scene c own w sound [] in
@@ -215,11 +215,11 @@ keeps-then old mid new made first then = record {
     by_made None there = tt
     by_made (Some m) there = then.parts old.shared.pids.next there
 
-lives-born : (members : List Member) (q parent : ℕ) → lives (with_child members q parent) q ≡ true
+lives-born : (members : List Member) (q parent : ℕ) → has_live (with_child members q parent) q ≡ true
 lives-born [] q parent = grind (arith, nat_tests)
 lives-born (m ∷ members) q parent = ap (λ b. is_live q m || b) (lives-born members q parent) ∙ or-true (is_live q m)
 
-lives-still : (members : List Member) (q parent p : ℕ) → lives members p ≡ true → lives (with_child members q parent) p ≡ true
+lives-still : (members : List Member) (q parent p : ℕ) → has_live members p ≡ true → has_live (with_child members q parent) p ≡ true
 lives-still members q parent p is =
     list_any-append (is_live p) members (newborn q parent ∷ []) ∙ ap (λ b. b || list_any (is_live p) (newborn q parent ∷ [])) is
 
@@ -243,15 +243,15 @@ module _ (c : Shared) (own : Process) (w : World) (sound : IsSoundHand (hand c o
       by_found None is = refl
       by_found (Some other) is = absurd (let below : c.pids.next < c.pids.next = sound.given c.pids.next (subst IsSome (sym is) refl) in omega arith)
 
-  module _ (new : Shared) (child : Process) (v : World) (parent : ℕ) (only : OnlyPids w v) (stands : Stands new.fs.tree v.forest) (tree : tree_of new.fs.tree v.forest ≡ held (tree_of c.fs.tree v.forest) own.caller.cwd) (nodes : KeepsNodes c.pids.next c.fs.files.descriptors new.fs.files.descriptors) (pipes : new.fs.files.pipes ≡ c.fs.files.pipes) (ends : new.fs.files.ends ≡ c.fs.files.ends) (pids : procs.Stands new.pids v.pids) (members : members_of new.pids ≡ with_child (members_of c.pids) c.pids.next parent) (next : new.pids.next ≡ c.pids.next + 1) (processes : new.processes ≡ insert c.processes c.pids.next child) (vpid : child.caller.vpid ≡ c.pids.next) (cwd : child.caller.cwd ≡ own.caller.cwd) (state : Sig) (states : new.signals ≡ insert c.signals c.pids.next state) where
+  module _ (new : Shared) (child : Process) (v : World) (parent : ℕ) (only : OnlyPids w v) (stands : Stands new.fs.tree v.forest) (tree : tree_of new.fs.tree v.forest ≡ tree_after_hold (tree_of c.fs.tree v.forest) own.caller.cwd) (nodes : KeepsNodes c.pids.next c.fs.files.descriptors new.fs.files.descriptors) (pipes : new.fs.files.pipes ≡ c.fs.files.pipes) (ends : new.fs.files.ends ≡ c.fs.files.ends) (pids : procs.Stands new.pids v.pids) (members : members_of new.pids ≡ with_child (members_of c.pids) c.pids.next parent) (next : new.pids.next ≡ c.pids.next + 1) (processes : new.processes ≡ insert c.processes c.pids.next child) (vpid : child.caller.vpid ≡ c.pids.next) (cwd : child.caller.cwd ≡ own.caller.cwd) (state : Sig) (states : new.signals ≡ insert c.signals c.pids.next state) where
     apart-next : c.pids.next ≢ own.caller.vpid
     apart-next is = let below = own-given c own w sound in omega arith
 
     all-parts : insert new.processes own.caller.vpid own ≡ insert present c.pids.next child
     all-parts = ap (λ (m : Processes). insert m own.caller.vpid own) processes ∙ insert_apart c.processes own.caller.vpid c.pids.next own child apart-next
 
-    tree-now : tree_of new.fs.tree v.forest ≡ held (tree_of c.fs.tree w.forest) own.caller.cwd
-    tree-now = tree ∙ ap (λ (f : Forest). held (tree_of c.fs.tree f) own.caller.cwd) only.forest
+    tree-now : tree_of new.fs.tree v.forest ≡ tree_after_hold (tree_of c.fs.tree w.forest) own.caller.cwd
+    tree-now = tree ∙ ap (λ (f : Forest). tree_after_hold (tree_of c.fs.tree f) own.caller.cwd) only.forest
 
     shape-now : shape_of new.fs.tree v.forest ≡ shape_of c.fs.tree w.forest
     shape-now = ap (λ (t : FileTree). t.shape) tree-now ∙ shape-held (tree_of c.fs.tree w.forest) own.caller.cwd
@@ -286,9 +286,9 @@ module _ (c : Shared) (own : Process) (w : World) (sound : IsSoundHand (hand c o
       piped = subst (IsPiped new.fs.files) (sym only.pipes) (piped_nodes c.pids.next c.fs.files new.fs.files w.pipes nodes pipes ends sound.piped);
       named = parts-child (λ r found. IfSome found (λ other. other.caller.vpid ≡ r)) vpid (λ r. sound.named r);
       given = parts-child (λ r found. IsSome found → r < new.pids.next) (λ some. omega arith) (λ r some. let below = sound.given r some in omega arith);
-      lives = parts-child (λ r found. IsSome found → lives (members_of new.pids) r ≡ true)
-          (λ some. subst (λ ms. lives ms c.pids.next ≡ true) (sym members) (lives-born (members_of c.pids) c.pids.next parent))
-          (λ r some. subst (λ ms. lives ms r ≡ true) (sym members) (lives-still (members_of c.pids) c.pids.next parent r (sound.lives r some)));
+      lives = parts-child (λ r found. IsSome found → has_live (members_of new.pids) r ≡ true)
+          (λ some. subst (λ ms. has_live ms c.pids.next ≡ true) (sym members) (lives-born (members_of c.pids) c.pids.next parent))
+          (λ r some. subst (λ ms. has_live ms r ≡ true) (sym members) (lives-still (members_of c.pids) c.pids.next parent r (sound.lives r some)));
       signalled = parts-child (λ r found. IsSome found → IsSome (get new.signals r))
           (λ some. subst (λ ss. IsSome (get ss c.pids.next)) (sym states) (signal-here c.signals c.pids.next state))
           (λ r some. subst (λ ss. IsSome (get ss r)) (sym states) (still-insert c.signals c.pids.next state r (sound.signalled r some)));
@@ -311,7 +311,7 @@ none-above : (x : Member) (members : List Member) → All (λ y. x.vpid < y.vpid
 none-above x members above = list_any_none (is_live x.vpid) members (λ k d below. let more = above k d below in grind (arith, nat_tests))
 
 -- a zombie does not live
-dead : (members : List Member) (z : Member) (end : End) → procs.IsRising members → z.end ≡ Some end → (k : ℕ) → k < length members → get_or members k z ≡ z → lives members z.vpid ≡ false
+dead : (members : List Member) (z : Member) (end : End) → procs.IsRising members → z.end ≡ Some end → (k : ℕ) → k < length members → get_or members k z ≡ z → has_live members z.vpid ≡ false
 dead [] z end rising is k below at = refl
 dead (x ∷ members) z end rising is zero below at =
     let same : x ≡ z = at in
@@ -328,13 +328,13 @@ or-then : (b x y : Bool) → (x ≡ true → y ≡ true) → (b || x) ≡ true �
 or-then true x y then is = refl
 or-then false x y then is = then is
 
-lives-without : (members : List Member) (vpid p : ℕ) → p ≢ vpid → lives members p ≡ true → lives (without_member members vpid) p ≡ true
+lives-without : (members : List Member) (vpid p : ℕ) → p ≢ vpid → has_live members p ≡ true → has_live (without_member members vpid) p ≡ true
 lives-without [] vpid p apart is = is
 lives-without (x ∷ members) vpid p apart is =
-    let rest : lives members p ≡ true → lives (without_member members vpid) p ≡ true = lives-without members vpid p apart in
-    elim (has_pid vpid x) as (λ b. has_pid vpid x ≡ b → lives (cond (not b) (x ∷ without_member members vpid) (without_member members vpid)) p ≡ true) [
+    let rest : has_live members p ≡ true → has_live (without_member members vpid) p ≡ true = lives-without members vpid p apart in
+    elim (has_pid vpid x) as (λ b. has_pid vpid x ≡ b → has_live (cond (not b) (x ∷ without_member members vpid) (without_member members vpid)) p ≡ true) [
       | true ↦ λ here. rest (grind (arith, nat_tests))
-      | false ↦ λ here. or-then (is_live p x) (lives members p) (lives (without_member members vpid) p) rest is
+      | false ↦ λ here. or-then (is_live p x) (has_live members p) (has_live (without_member members vpid) p) rest is
     ] refl
 
 module _ (c : Shared) (own : Process) (w : World) (sound : IsSoundHand (hand c own w)) where
@@ -342,14 +342,14 @@ module _ (c : Shared) (own : Process) (w : World) (sound : IsSoundHand (hand c o
   living = insert c.processes own.caller.vpid own
 
   module _ (pids : procs.Table) (v : World) (parent : ℕ) (which : Option ℕ) (vpid : ℕ) (end : End) (rising : procs.IsRising (members_of c.pids)) (found : look_for (members_of c.pids) parent which ≡ Got vpid end) (only : OnlyPids w v) (stands : procs.Stands pids v.pids) (members : members_of pids ≡ without_member (members_of c.pids) vpid) (next : pids.next ≡ c.pids.next) where
-    zombie-dead : lives (members_of c.pids) vpid ≡ false
+    zombie-dead : has_live (members_of c.pids) vpid ≡ false
     zombie-dead =
         let z = lowest (members_of c.pids) parent which vpid end rising found in
-        subst (λ p. lives (members_of c.pids) p ≡ false) z.pid (dead (members_of c.pids) z.zombie end rising z.ended z.there.0 z.there.1 z.there.2)
+        subst (λ p. has_live (members_of c.pids) p ≡ false) z.pid (dead (members_of c.pids) z.zombie end rising z.ended z.there.0 z.there.1 z.there.2)
 
-    lives-reaped : (p : ℕ) → lives (members_of c.pids) p ≡ true → lives (members_of pids) p ≡ true
-    lives-reaped p is = subst (λ ms. lives ms p ≡ true) (sym members)
-        (lives-without (members_of c.pids) vpid p (λ same. let both : true ≡ false = sym is ∙ subst (λ p. lives (members_of c.pids) p ≡ false) (sym same) zombie-dead in cc) is)
+    lives-reaped : (p : ℕ) → has_live (members_of c.pids) p ≡ true → has_live (members_of pids) p ≡ true
+    lives-reaped p is = subst (λ ms. has_live ms p ≡ true) (sym members)
+        (lives-without (members_of c.pids) vpid p (λ same. let both : true ≡ false = sym is ∙ subst (λ p. has_live (members_of c.pids) p ≡ false) (sym same) zombie-dead in cc) is)
 
     -- a zombie is reaped
     pub sound-reaped : IsSoundHand (hand (record c { pids = pids }) own v)
@@ -372,7 +372,7 @@ module _ (c : Shared) (own : Process) (w : World) (sound : IsSoundHand (hand c o
 
 module _ (defined : Effect) (c : Shared) (own : Process) (w : World) (machine : Machine) (e : EffectInCode) (count : ℕ) (sound : IsSoundHand (hand c own w)) (none : e.child ≡ None) where
   -- one that changes the break
-  pub serves-break : (new : Process) → new.caller ≡ own.caller → defined ≡ effect_as (shared_of c w) new machine e → Serves defined (hand c own w) (hand c new w) machine (Ok e) count count
+  pub serves-break : (new : Process) → new.caller ≡ own.caller → defined ≡ effect_as (shared_of c w) new machine e → HasEffect defined (hand c own w) (hand c new w) machine (Ok e) count count
   serves-break new same served = record {
     served = served;
     kept = subst (LeavesSound (hand c own w) (hand c new w)) (sym none) (keeps-break c own w sound new same);
@@ -380,15 +380,15 @@ module _ (defined : Effect) (c : Shared) (own : Process) (w : World) (machine : 
   }
 
   -- one that takes time
-  serves-clock : (clock : ℕ) → defined ≡ effect_as (shared_of (record c { fs = record c.fs { clock = clock } }) w) own machine e → Serves defined (hand c own w) (hand (record c { fs = record c.fs { clock = clock } }) own w) machine (Ok e) count count
+  serves-clock : (clock : ℕ) → defined ≡ effect_as (shared_of (record c { fs = record c.fs { clock = clock } }) w) own machine e → HasEffect defined (hand c own w) (hand (record c { fs = record c.fs { clock = clock } }) own w) machine (Ok e) count count
   serves-clock clock served = record {
     served = served;
     kept = subst (LeavesSound (hand c own w) (hand (record c { fs = record c.fs { clock = clock } }) own w)) (sym none) (keeps-clock c own w sound clock);
     cause = record { later = omega arith; rose = λ failed. cc };
   }
 
-  pub serves-time : (new : Shared) → new ≡ record c { fs = new.fs } → new.fs ≡ record c.fs { clock = new.fs.clock } → defined ≡ effect_as (shared_of new w) own machine e → Serves defined (hand c own w) (hand new own w) machine (Ok e) count count
+  pub serves-time : (new : Shared) → new ≡ record c { fs = new.fs } → new.fs ≡ record c.fs { clock = new.fs.clock } → defined ≡ effect_as (shared_of new w) own machine e → HasEffect defined (hand c own w) (hand new own w) machine (Ok e) count count
   serves-time new rest files served =
       let is : new ≡ record c { fs = record c.fs { clock = new.fs.clock } } = rest ∙ ap (λ (fs : Fs). record c { fs = fs }) files in
-      subst (λ (s : Shared). Serves defined (hand c own w) (hand s own w) machine (Ok e) count count) (sym is)
+      subst (λ (s : Shared). HasEffect defined (hand c own w) (hand s own w) machine (Ok e) count count) (sym is)
       (serves-clock new.fs.clock (subst (λ (s : Shared). defined ≡ effect_as (shared_of s w) own machine e) is served))

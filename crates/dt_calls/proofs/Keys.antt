@@ -10,7 +10,7 @@ use Rattle.std.specs.Ordering.{is_eq, is_lt, nat_cmp}
 use Rattle.std.specs.Cmp.{nat_cmp_total}
 use Rattle.std.specs.FinMap.{FinMap, find, get, entries, entries_sorted, get-entries, keys}
 use Rattle.std.specs.FinMap.Entries.{below_all, is_sorted}
-use Rattle.dt_host.proofs.Conjuncts.{first, second}
+use Rattle.dt_tables.proofs.Conjuncts.{first, second}
 
 not_itself : (r : Ordering) → T (is_lt r) → r ≡ Equal → ⊥
 not_itself Less p e = cc

@@ -4,18 +4,18 @@ use Rattle.std.specs.Prelude.{IsSome, IfSome, option_map, unwrap_or, is_some}
 use Rattle.std.specs.Cmp.{nat_cmp_total}
 use Rattle.std.specs.FinMap.{get, insert, empty, nat_cmp-IsAntisymmetric}
 use Rattle.dt_host.specs.World.{World}
-use Rattle.dt_host.proofs.Maps.{at_insert, get-insert_same, put_back}
+use Rattle.dt_tables.proofs.Maps.{at_insert, get-insert_same, put_back}
 use Rattle.dt_procs.specs.declared.member.TheConstants.{FIRST_PID}
 use Rattle.dt_rv64.specs.declared.machine.Machine.{Machine}
 use Rattle.dt_rv64.specs.declared.segments.Stop.{Stop}
 use Rattle.dt_calls.specs.declared.shared.Process.{Process}
 use Rattle.dt_calls.specs.declared.shared.Shared.{Shared as SharedInCode}
-use Rattle.dt_calls.specs.Call.{serve_stop}
-use Rattle.dt_calls.specs.Delivery.{after_delivery, forced_by}
+use Rattle.dt_calls.specs.Call.{effect_of_stop}
+use Rattle.dt_calls.specs.Delivery.{effect_after_delivery, forced_signal}
 use Rattle.dt_calls.specs.Container.{Container, blank_process}
 use Rattle.dt_calls.specs.Effect.{Effect}
-use Rattle.dt_calls.specs.InCode.{ContainerView, home_of, shared_of, container_of}
-use Rattle.dt_calls.specs.Settle.{Settled, Turned, turned, settle, serve, serve_machine, all_ended, with_own, with_child_machine, next_after}
+use Rattle.dt_calls.specs.InCode.{ContainerView, machines_at_home, shared_of, container_of}
+use Rattle.dt_calls.specs.Settle.{ProcessTurn, ContainerTurn, with_process_turn, turn_of_effect, turn_of_container, turn_of_machine, is_end_of_all, with_own, with_child_machine, next_after}
 use Rattle.dt_calls.specs.Sound.{IsSound, IsPaired, IsSoundContainer, with_part}
 use Rattle.dt_calls.proofs.Held.{keeps-break}
 use Rattle.dt_calls.specs.AtHome.{Places, Becomes}
@@ -23,13 +23,13 @@ use Rattle.dt_calls.proofs.Homes.{home-given, home-there, own-over}
 use Rattle.dt_calls.proofs.Settled.{paired-insert, parts-kept, part-here}
 
 -- what the machine became has no part in the turn
-turned-over : (c d : Container) (p : ℕ) (m : Machine) (s : Settled) → d.machines ≡ insert c.machines p m → d.next ≡ c.next → turned d p s ≡ turned c p s
+turned-over : (c d : Container) (p : ℕ) (m : Machine) (s : ProcessTurn) → d.machines ≡ insert c.machines p m → d.next ≡ c.next → with_process_turn d p s ≡ with_process_turn c p s
 turned-over c d p m s over same =
     let own : with_own d.machines p s.own ≡ with_own c.machines p s.own = ap (λ ms. with_own ms p s.own) over ∙ own-over c.machines p m s.own in
     (λ i. record {
       container = record {
         shared = s.shared;
-        machines = cond (all_ended p s.served) empty (with_child_machine (own i) (same i) s.child);
+        machines = cond (is_end_of_all p s.served) empty (with_child_machine (own i) (same i) s.child);
         next = next_after (same i) s.child;
         events = s.events;
       };
@@ -57,8 +57,8 @@ module _ (v s : ContainerView) (w : World) (p : ℕ) (own : Process) (sound : Is
   hand-sound = subst (λ (x : SharedInCode). IsSound (with_part x own) w) (sym same_shared) (subst (λ (x : SharedInCode). IsSound x w) (sym put-same) sound.shared)
 
   -- its machine is at home in the code's hands too
-  pub home-served : IsSome (get (home_of v.places) p) → IsSome (get (home_of s.places) p)
-  home-served = subst (λ places. IsSome (get (home_of places) p)) (sym same_places)
+  pub home-served : IsSome (get (machines_at_home v.places) p) → IsSome (get (machines_at_home s.places) p)
+  home-served = subst (λ places. IsSome (get (machines_at_home places) p)) (sym same_places)
 
   -- its pid was given before
   pub apart-served : (q next : ℕ) → q ≡ own.caller.vpid → next ≡ s.shared.pids.next → q ≢ next
@@ -69,7 +69,7 @@ module _ (v s : ContainerView) (w : World) (p : ℕ) (own : Process) (sound : Is
       absurd (omega arith)
 
   module _ (places : Places) (was now : Machine) (becomes : Becomes s.places places p was now) where
-    was-home : get (home_of v.places) p ≡ Some was
+    was-home : get (machines_at_home v.places) p ≡ Some was
     was-home = home-there v.places p (Some was) (subst (λ x. get x p ≡ Some (Some was)) same_places becomes.home)
 
     -- each place is still one of a live process after it
@@ -87,22 +87,22 @@ module _ (v s : ContainerView) (w : World) (p : ℕ) (own : Process) (sound : Is
         ap (get places) (is ∙ own-pid) ∙ ap (λ x. get x p) becomes.rest ∙ get-insert_same nat_cmp_total nat_cmp-IsAntisymmetric s.places p (Some now)
 
     -- what serving and settling came to is what the definition says
-    pub serve-done : (stop : Stop) (next q : ℕ) (did : Effect) (d : Container) (t : Turned) → next ≡ s.shared.pids.next → q ≡ own.caller.vpid
-        → after_delivery (forced_by stop) (serve_stop (shared_of s.shared w) s.shared.pids.next own was stop) ≡ did
-        → d.machines ≡ home_of places → d.next ≡ next
-        → turned d q (settle next q did) ≡ t → serve (container_of v w) p stop ≡ Some t
-    unfolding serve serve_machine
+    pub serve-done : (stop : Stop) (next q : ℕ) (did : Effect) (d : Container) (t : ContainerTurn) → next ≡ s.shared.pids.next → q ≡ own.caller.vpid
+        → effect_after_delivery (forced_signal stop) (effect_of_stop (shared_of s.shared w) s.shared.pids.next own was stop) ≡ did
+        → d.machines ≡ machines_at_home places → d.next ≡ next
+        → with_process_turn d q (turn_of_effect next q did) ≡ t → turn_of_container (container_of v w) p stop ≡ Some t
+    unfolding turn_of_container turn_of_machine
     serve-done stop next q did d t number is did_as machines numbered done =
         let c = container_of v w in
         let pid = is ∙ own-pid in
         let given = number ∙ ap (λ (x : SharedInCode). x.pids.next) same_shared in
-        let over : d.machines ≡ insert c.machines p now = machines ∙ ap home_of (becomes.rest ∙ ap (λ x. insert x p (Some now)) same_places) ∙ home-given v.places p now in
-        ap (option_map (λ k. turned c p (serve_machine c.shared c.next p stop k))) was-home
-        ∙ ap Some (ap (λ found. turned c p (settle c.next p (after_delivery (forced_by stop) (serve_stop c.shared c.next (unwrap_or found (blank_process p)) was stop)))) here
-        ∙ ap (λ (x : SharedInCode). turned c p (settle c.next p (after_delivery (forced_by stop) (serve_stop (shared_of x w) x.pids.next own was stop)))) (sym same_shared)
-        ∙ ap (λ e. turned c p (settle c.next p e)) did_as
-        ∙ sym (turned-over c d p now (settle c.next p did) over (numbered ∙ given))
-        ∙ (λ i. turned d (sym pid i) (settle (sym given i) (sym pid i) did))
+        let over : d.machines ≡ insert c.machines p now = machines ∙ ap machines_at_home (becomes.rest ∙ ap (λ x. insert x p (Some now)) same_places) ∙ home-given v.places p now in
+        ap (option_map (λ k. with_process_turn c p (turn_of_machine c.shared c.next p stop k))) was-home
+        ∙ ap Some (ap (λ found. with_process_turn c p (turn_of_effect c.next p (effect_after_delivery (forced_signal stop) (effect_of_stop c.shared c.next (unwrap_or found (blank_process p)) was stop)))) here
+        ∙ ap (λ (x : SharedInCode). with_process_turn c p (turn_of_effect c.next p (effect_after_delivery (forced_signal stop) (effect_of_stop (shared_of x w) x.pids.next own was stop)))) (sym same_shared)
+        ∙ ap (λ e. with_process_turn c p (turn_of_effect c.next p e)) did_as
+        ∙ sym (turned-over c d p now (turn_of_effect c.next p did) over (numbered ∙ given))
+        ∙ (λ i. with_process_turn d (sym pid i) (turn_of_effect (sym given i) (sym pid i) did))
         ∙ done)
 
 -- a process whose break is another one, as it starts a program

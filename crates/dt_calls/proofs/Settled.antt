@@ -7,8 +7,8 @@ use Rattle.std.specs.FinMap.{FinMap, get, insert, remove, empty, keys, get-empty
 use Rattle.dt_base.specs.declared.event.Event.{Event}
 use Rattle.dt_base.specs.declared.event.End.{End}
 use Rattle.dt_host.specs.World.{World}
-use Rattle.dt_host.proofs.Found.{none_there}
-use Rattle.dt_host.proofs.Maps.{at_insert, at_remove, get-insert_same, put_back}
+use Rattle.dt_tables.proofs.Found.{none_there}
+use Rattle.dt_tables.proofs.Maps.{at_insert, at_remove, get-insert_same, put_back}
 use Rattle.dt_procs.specs.declared.member.TheConstants.{FIRST_PID, PROCESS_LIMIT}
 use Rattle.dt_rv64.specs.declared.machine.Machine.{Machine}
 use Rattle.dt_calls.specs.declared.container.Served.{Served}
@@ -17,10 +17,10 @@ use Rattle.dt_calls.specs.declared.shared.Shared.{Shared as SharedInCode}
 use Rattle.dt_calls.specs.Container.{Shared, Processes, with_process}
 use Rattle.dt_calls.specs.declared.call.effect.Effect.{Effect as EffectInCode}
 use Rattle.dt_calls.specs.declared.call.effect.Outcome.TheVariants.{Ends}
-use Rattle.dt_calls.specs.InCode.{ContainerView, home_of, with_child_place, shared_of, container_of, effect_as, turned_as}
+use Rattle.dt_calls.specs.InCode.{ContainerView, machines_at_home, with_child_place, shared_of, container_of, effect_as, container_turn_as}
 use Rattle.dt_calls.specs.Effect.{Effect}
 use Rattle.dt_calls.specs.Sound.{IsSound, IsPaired, IsSoundContainer, with_part}
-use Rattle.dt_calls.specs.Settle.{turned, settle, settled_by, ends, ends_shown, all_ended, goes_on, is_gone, with_child_machine, next_after}
+use Rattle.dt_calls.specs.Settle.{with_process_turn, turn_of_effect, turn_by_outcome, shared_after_end, end_events, is_end_of_all, served_of_living, served_of_ended, with_child_machine, next_after}
 use Rattle.dt_calls.proofs.Homes.{home-entered, home-given, home-gone, home-empty}
 
 abbrev Places : Type 0
@@ -38,32 +38,32 @@ kept-view inside now next own e put new is put_is new_is = new_is ∙ (λ i. rec
 })
 
 -- a process that goes on leaves others alive
-pub goes_on-lives : (p next : ℕ) (child : Option Machine) → all_ended p (goes_on next child) ≡ false
-goes_on-lives p next None = refl
-goes_on-lives p next (Some m) = refl
+pub served_of_living-lives : (p next : ℕ) (child : Option Machine) → is_end_of_all p (served_of_living next child) ≡ false
+served_of_living-lives p next None = refl
+served_of_living-lives p next (Some m) = refl
 
-is_gone-first : (p next : ℕ) (child : Option Machine) → all_ended p (is_gone next child) ≡ (p == FIRST_PID)
+is_gone-first : (p next : ℕ) (child : Option Machine) → is_end_of_all p (served_of_ended next child) ≡ (p == FIRST_PID)
 is_gone-first p next None = refl
 is_gone-first p next (Some m) = refl
 
 -- the turn of a process that keeps its machine
-pub turned-kept : (old c : Shared) (places : Places) (p next later : ℕ) (m : Machine) (child : Option Machine) (before events : List Event) (served : Served) → all_ended p served ≡ false → later ≡ next_after next child
-    → turned (record { shared = old; machines = home_of places; next = next; events = before }) p (record { shared = c; own = Some m; child = child; events = events; served = served })
-    ≡ record { container = record { shared = c; machines = home_of (with_child_place (insert places p (Some m)) next child); next = later; events = events }; served = served }
+pub turned-kept : (old c : Shared) (places : Places) (p next later : ℕ) (m : Machine) (child : Option Machine) (before events : List Event) (served : Served) → is_end_of_all p served ≡ false → later ≡ next_after next child
+    → with_process_turn (record { shared = old; machines = machines_at_home places; next = next; events = before }) p (record { shared = c; own = Some m; child = child; events = events; served = served })
+    ≡ record { container = record { shared = c; machines = machines_at_home (with_child_place (insert places p (Some m)) next child); next = later; events = events }; served = served }
 turned-kept old c places p next later m child before events served lives number =
-    let machines = ap (λ b. cond b empty (with_child_machine (insert (home_of places) p m) next child)) lives
+    let machines = ap (λ b. cond b empty (with_child_machine (insert (machines_at_home places) p m) next child)) lives
     ∙ sym (home-entered (insert places p (Some m)) next child ∙ ap (λ ms. with_child_machine ms next child) (home-given places p m)) in
     (λ i. record { container = record { shared = c; machines = machines i; next = sym number i; events = events }; served = served })
 
 -- the turn of a process that ends
 pub turned-ended : (old c : Shared) (places left : Places) (p next later : ℕ) (child : Option Machine) (before events : List Event) → left ≡ cond (p == FIRST_PID) empty (with_child_place (remove places p) next child) → later ≡ next_after next child
-    → turned (record { shared = old; machines = home_of places; next = next; events = before }) p (record { shared = c; own = None; child = child; events = events; served = is_gone next child })
-    ≡ record { container = record { shared = c; machines = home_of left; next = later; events = events }; served = is_gone next child }
+    → with_process_turn (record { shared = old; machines = machines_at_home places; next = next; events = before }) p (record { shared = c; own = None; child = child; events = events; served = served_of_ended next child })
+    ≡ record { container = record { shared = c; machines = machines_at_home left; next = later; events = events }; served = served_of_ended next child }
 turned-ended old c places left p next later child before events is number =
-    let machines = ap (λ b. cond b empty (with_child_machine (remove (home_of places) p) next child)) (is_gone-first p next child) ∙ by_first (p == FIRST_PID) ∙ ap home_of (sym is) in
-    (λ i. record { container = record { shared = c; machines = machines i; next = sym number i; events = events }; served = is_gone next child })
+    let machines = ap (λ b. cond b empty (with_child_machine (remove (machines_at_home places) p) next child)) (is_gone-first p next child) ∙ by_first (p == FIRST_PID) ∙ ap machines_at_home (sym is) in
+    (λ i. record { container = record { shared = c; machines = machines i; next = sym number i; events = events }; served = served_of_ended next child })
   where
-    by_first : (b : Bool) → cond b empty (with_child_machine (remove (home_of places) p) next child) ≡ home_of (cond b empty (with_child_place (remove places p) next child))
+    by_first : (b : Bool) → cond b empty (with_child_machine (remove (machines_at_home places) p) next child) ≡ machines_at_home (cond b empty (with_child_place (remove places p) next child))
     by_first true = sym home-empty
     by_first false = sym (home-entered (remove places p) next child ∙ ap (λ ms. with_child_machine ms next child) (home-gone places p))
 
@@ -133,22 +133,22 @@ module _ (v : ContainerView) (w : World) (next : ℕ) (own : Process) (m : Machi
   did = effect_as (shared_of v.shared w) own m e
 
   -- what the turn comes to is what the definition says
-  pub settle-kept : (new : ContainerView) (served : Served) → get v.places p ≡ Some (Some m) → new ≡ kept v next own e → settled_by next p did e.outcome ≡ record { shared = with_process (shared_of v.shared w) own; own = Some m; child = e.child; events = e.events.items; served = served } → all_ended p served ≡ false
-      → turned (record (container_of v w) { next = next }) p (settle next p did) ≡ turned_as (container_of new w) served
-  unfolding settle
+  pub settle-kept : (new : ContainerView) (served : Served) → get v.places p ≡ Some (Some m) → new ≡ kept v next own e → turn_by_outcome next p did e.outcome ≡ record { shared = with_process (shared_of v.shared w) own; own = Some m; child = e.child; events = e.events.items; served = served } → is_end_of_all p served ≡ false
+      → with_process_turn (record (container_of v w) { next = next }) p (turn_of_effect next p did) ≡ container_turn_as (container_of new w) served
+  unfolding turn_of_effect
   settle-kept new served home is by lives =
-      ap (turned (record (container_of v w) { next = next }) p) by
+      ap (with_process_turn (record (container_of v w) { next = next }) p) by
       ∙ turned-kept (shared_of v.shared w) (with_process (shared_of v.shared w) own) v.places p next v.shared.pids.next m e.child v.events e.events.items served lives number
-      ∙ ap (λ places. turned_as (container_of (record { shared = with_part v.shared own; places = with_child_place places next e.child; events = e.events.items }) w) served) (put_back nat_cmp_total nat_cmp-IsAntisymmetric v.places p (Some m) home)
-      ∙ ap (λ n. turned_as (container_of n w) served) (sym is)
+      ∙ ap (λ places. container_turn_as (container_of (record { shared = with_part v.shared own; places = with_child_place places next e.child; events = e.events.items }) w) served) (put_back nat_cmp_total nat_cmp-IsAntisymmetric v.places p (Some m) home)
+      ∙ ap (λ n. container_turn_as (container_of n w) served) (sym is)
 
   -- likewise where the process ended
-  pub settle-ended : (new : ContainerView) (u : World) (end : End) → e.outcome ≡ Ends end → shared_of new.shared u ≡ ends p end (with_process (shared_of v.shared w) own) → new.events ≡ e.events.items ++ ends_shown p end (with_process (shared_of v.shared w) own)
+  pub settle-ended : (new : ContainerView) (u : World) (end : End) → e.outcome ≡ Ends end → shared_of new.shared u ≡ shared_after_end p end (with_process (shared_of v.shared w) own) → new.events ≡ e.events.items ++ end_events p end (with_process (shared_of v.shared w) own)
       → new.places ≡ cond (p == FIRST_PID) empty (with_child_place (remove v.places p) next e.child) → new.shared.pids.next ≡ v.shared.pids.next
-      → turned (record (container_of v w) { next = next }) p (settle next p did) ≡ turned_as (container_of new u) (is_gone next e.child)
-  unfolding settle
+      → with_process_turn (record (container_of v w) { next = next }) p (turn_of_effect next p did) ≡ container_turn_as (container_of new u) (served_of_ended next e.child)
+  unfolding turn_of_effect
   settle-ended new u end is shared events places same =
       let c = with_process (shared_of v.shared w) own in
-      ap (λ o. turned (record (container_of v w) { next = next }) p (settled_by next p did o)) is
-      ∙ turned-ended (shared_of v.shared w) (ends p end c) v.places new.places p next v.shared.pids.next e.child v.events (e.events.items ++ ends_shown p end c) places number
-      ∙ (λ i. record { container = record { shared = sym shared i; machines = home_of new.places; next = sym same i; events = sym events i }; served = is_gone next e.child })
+      ap (λ o. with_process_turn (record (container_of v w) { next = next }) p (turn_by_outcome next p did o)) is
+      ∙ turned-ended (shared_of v.shared w) (shared_after_end p end c) v.places new.places p next v.shared.pids.next e.child v.events (e.events.items ++ end_events p end c) places number
+      ∙ (λ i. record { container = record { shared = sym shared i; machines = machines_at_home new.places; next = sym same i; events = sym events i }; served = served_of_ended next e.child })

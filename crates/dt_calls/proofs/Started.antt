@@ -1,5 +1,5 @@
 -- What holds when a container begins.
-use Rattle.std.proofs.Common.{arith, ◌≡◌, ◌≢◌, ℕ, ◌<◌, Option, None, Some, true, false, refl, sym, ap, subst, ◌∙◌}
+use Rattle.std.proofs.Common.{arith, ◌≡◌, ◌≢◌, ℕ, ◌+◌, ◌<◌, Option, None, Some, true, false, refl, sym, ap, subst, ◌∙◌}
 use Rattle.std.specs.Prelude.{List, IsSome, IfSome, is_some}
 use Rattle.std.specs.Ordering.{nat_cmp}
 use Rattle.std.specs.Cmp.{nat_cmp_total}
@@ -7,25 +7,25 @@ use Rattle.std.specs.FinMap.{get, insert, empty, get-empty, same_map, nat_cmp-Is
 use Rattle.dt_base.specs.declared.image.Entry.{Entry}
 use Rattle.dt_fds.specs.declared.desc.Desc.{Desc}
 use Rattle.dt_fds.specs.declared.desc.DescKind.TheVariants.{Input, Stream}
-use Rattle.dt_fds.specs.Descriptions.{Descriptions, none_open, opened_at, opened_lowest, first_desc, first_files, with_slot, with_new_description, lowest_free, table_at}
+use Rattle.dt_fds.specs.Descriptions.{Descriptions, empty_descriptions, with_opened_at, with_opened_lowest, first_desc, first_files, with_slot, with_new_description, lowest_free, table_at}
 use Rattle.dt_fds.specs.Backs.{AllIn, IsPiped, descriptions_of}
-use Rattle.dt_host.specs.inner.Weight.{weight}
-use Rattle.dt_host.specs.World.{World, Forest, Pipes, IsDir}
-use Rattle.dt_host.proofs.Maps.{at_insert, get-insert_same, get-insert_other}
+use Rattle.dt_tables.specs.inner.Weight.{weight}
+use Rattle.dt_host.specs.World.{World, Forest, PipeContents, IsDir}
+use Rattle.dt_tables.proofs.Maps.{at_insert, get-insert_same, get-insert_other}
 use Rattle.dt_host.proofs.Spots.{IsLive-IsDir}
-use Rattle.dt_host.proofs.Totals.{total-insert, total-empty}
+use Rattle.dt_tables.proofs.Totals.{total-insert, total-empty}
 use Rattle.dt_pipes.specs.Table as pipes
 use Rattle.dt_pipes.specs.Table.{pipes_of}
 use Rattle.dt_pipes.proofs.Held.{has-pipes_of}
 use Rattle.dt_procs.specs.declared.member.TheConstants.{FIRST_PID}
-use Rattle.dt_procs.specs.Members.{first_members, lives}
+use Rattle.dt_procs.specs.Members.{first_members, has_live}
 use Rattle.dt_procs.specs.Table as procs
 use Rattle.dt_procs.specs.Table.{members_of}
 use Rattle.dt_tree.specs.declared.limits.TheConstants.{ROOT}
 use Rattle.dt_tree.specs.FileTree.{holds_of}
 use Rattle.dt_tree.specs.ImageTree.{image_tree}
 use Rattle.dt_tree.specs.Shape.{one_for}
-use Rattle.dt_tree.specs.Changes.{held}
+use Rattle.dt_tree.specs.Changes.{tree_after_hold}
 use Rattle.dt_tree.specs.Table.{Table as TreeTable, Stands, shape_of, tree_of}
 use Rattle.dt_tree.proofs.Namings.{one_for-swap}
 use Rattle.dt_tree.proofs.Holding.{holds-held, shape-held}
@@ -37,11 +37,11 @@ use Rattle.dt_signals.specs.Signals.{no_signals}
 use Rattle.dt_calls.specs.Sound.{IsSound, directories_of}
 
 -- what one process opens is in no table of another
-tables-opened : (p q : ℕ) (desc : Desc) (f : Descriptions) → q ≢ p → (let new = opened_lowest p desc f in get new.tables q ≡ get f.tables q)
-unfolding opened_lowest with_slot with_new_description
+tables-opened : (p q : ℕ) (desc : Desc) (f : Descriptions) → q ≢ p → (let new = with_opened_lowest p desc f in get new.tables q ≡ get f.tables q)
+unfolding with_opened_lowest with_slot with_new_description
 tables-opened p q desc f apart = by_free (lowest_free (table_at f p) 0)
   where
-    by_free : (free : Option ℕ) → (let new = opened_at f p desc free in get new.tables q ≡ get f.tables q)
+    by_free : (free : Option ℕ) → (let new = with_opened_at f p desc free in get new.tables q ≡ get f.tables q)
     by_free None = refl
     by_free (Some fd) = get-insert_other nat_cmp_total nat_cmp-IsAntisymmetric f.tables p _ q apart
 
@@ -51,7 +51,7 @@ unfolding first_files
 tables-first p q apart =
     tables-opened p q (first_desc (Stream 2) 1) _ apart
     ∙ tables-opened p q (first_desc (Stream 1) 1) _ apart
-    ∙ tables-opened p q (first_desc Input 0) (none_open p) apart
+    ∙ tables-opened p q (first_desc Input 0) (empty_descriptions p) apart
     ∙ get-insert_other nat_cmp_total nat_cmp-IsAntisymmetric empty p _ q apart
     ∙ get-empty nat_cmp q
 
@@ -77,8 +77,8 @@ directories-first n =
     omega arith
 
 -- a container begins: its process holds the root, and nothing is open that names a node
-pub sound-first : (c : SharedInCode) (old : TreeTable) (u w : World) (entries : List Entry) → Stands old u.forest → tree_of old u.forest ≡ image_tree entries → Stands c.fs.tree w.forest → tree_of c.fs.tree w.forest ≡ held (tree_of old u.forest) ROOT → procs.Stands c.pids w.pids
-    → ((n : ℕ) → descriptions_of c.fs.files.descriptors n ≡ 0) → ((v : Forest) → AllIn v c.fs.files.descriptors) → c.fs.files.descriptors ≡ first_files FIRST_PID → IsPiped c.fs.files w.pipes → c.processes ≡ first_parts → c.signals ≡ insert empty FIRST_PID no_signals → members_of c.pids ≡ first_members → c.pids.next ≡ 2 → IsSound c w
+pub sound-first : (c : SharedInCode) (old : TreeTable) (u w : World) (entries : List Entry) → Stands old u.forest → tree_of old u.forest ≡ image_tree entries → Stands c.fs.tree w.forest → tree_of c.fs.tree w.forest ≡ tree_after_hold (tree_of old u.forest) ROOT → procs.Stands c.pids w.pids
+    → ((n : ℕ) → descriptions_of c.fs.files.descriptors n ≡ 0) → ((v : Forest) → AllIn v c.fs.files.descriptors) → c.fs.files.descriptors ≡ first_files FIRST_PID → IsPiped c.fs.files w.pipes → c.processes ≡ first_parts → c.signals ≡ insert empty FIRST_PID no_signals → members_of c.pids ≡ first_members → c.pids.next ≡ FIRST_PID + 1 → IsSound c w
 sound-first c old u w entries was image stands tree pids nodes all files piped parts states members next =
     let t = tree_of old u.forest in
     let top : IsDir t.shape ROOT = subst (IsDir t.shape) was.tree.root was.tree.shaped.root in
@@ -98,7 +98,7 @@ sound-first c old u w entries was image stands tree pids nodes all files piped p
       piped = piped;
       named = by (λ q found. IfSome found (λ own. own.caller.vpid ≡ q)) (λ q. tt) refl;
       given = by (λ q found. IsSome found → q < c.pids.next) (λ q some. cc) (λ some. omega (arith, next));
-      lives = by (λ q found. IsSome found → lives (members_of c.pids) q ≡ true) (λ q some. cc) (λ some. ap (λ ms. lives ms FIRST_PID) members);
+      lives = by (λ q found. IsSome found → has_live (members_of c.pids) q ≡ true) (λ q some. cc) (λ some. ap (λ ms. has_live ms FIRST_PID) members);
       signalled = by (λ q found. IsSome found → IsSome (get c.signals q)) (λ q some. cc)
           (λ some. ap is_some (ap (λ m. get m FIRST_PID) states ∙ get-insert_same nat_cmp_total nat_cmp-IsAntisymmetric empty FIRST_PID no_signals));
       fresh = λ q late. ap (λ f. get f.tables q) files ∙ tables-first FIRST_PID q (λ is. absurd (omega (arith, next)));
@@ -109,6 +109,6 @@ no-some None is = refl
 no-some (Some value) is = cc
 
 -- a table of no pipes stands for none
-pub none-held : (t : pipes.Table) (host : Pipes) → t.pipes ≡ empty → pipes_of t host ≡ empty
+pub none-held : (t : pipes.Table) (host : PipeContents) → t.pipes ≡ empty → pipes_of t host ≡ empty
 none-held t host none = same_map nat_cmp_total nat_cmp-IsAntisymmetric (pipes_of t host) empty
     (λ q. no-some (get (pipes_of t host) q) (has-pipes_of t host q ∙ ap (λ m. is_some (get m q)) none ∙ ap is_some (get-empty nat_cmp q)) ∙ sym (get-empty nat_cmp q))

@@ -8,7 +8,7 @@ use Rattle.dt_rv64.specs.declared.segments.Seg.{Seg}
 use Rattle.dt_rv64.specs.Segment.{segment_of}
 use Rattle.dt_calls.specs.declared.call.effect.Effect.{Effect as EffectInCode}
 use Rattle.dt_calls.specs.Effect.{Effect}
-use Rattle.dt_calls.specs.Sound.{Hand, Serves}
+use Rattle.dt_calls.specs.Sound.{Hand, HasEffect}
 
 -- the places for machines
 abbrev pub Places : Type 0
@@ -27,8 +27,8 @@ pub record RunsAt (before after : Places) (p : ℕ) (seg : Seg) : Type 0 where
   pub run : segment_of was ≡ record { count = seg.count; stop = seg.stop; machine = now }
 
 -- a stop of the process was served as it is defined for the machine, unless the host failed or memory was wanting
-pub record ServesAt (defined : Machine → Effect) (old new : Hand) (before after : Places) (p : ℕ) (result : Result EffectInCode HostErr) (count later : ℕ) : Type 0 where
+pub record HasEffectAt (defined : Machine → Effect) (old new : Hand) (before after : Places) (p : ℕ) (result : Result EffectInCode HostErr) (count later : ℕ) : Type 0 where
   pub was : Machine
   pub now : Machine
   pub becomes : Becomes before after p was now
-  pub serves : Serves (defined was) old new now result count later
+  pub serves : HasEffect (defined was) old new now result count later

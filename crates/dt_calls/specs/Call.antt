@@ -11,7 +11,7 @@ use Rattle.dt_rv64.specs.Effects.{register}
 use Rattle.dt_calls.specs.declared.call.effect.Outcome.TheVariants.{Done, Ends}
 use Rattle.dt_calls.specs.declared.shared.Process.{Process}
 use Rattle.dt_calls.specs.Container.{Shared}
-use Rattle.dt_calls.specs.Effect.{Effect, quiet, done, refused, reads_counter}
+use Rattle.dt_calls.specs.Effect.{Effect, quiet_effect, done_effect, refused_effect, counter_effect}
 use Rattle.dt_calls.specs.FileCalls.{file_call}
 use Rattle.dt_calls.specs.MemoryCalls.{brk_call, munmap_call, mmap_call, mprotect_call}
 use Rattle.dt_calls.specs.Identity.{getpid_call, getppid_call, set_robust_list_call, uname_call}
@@ -23,11 +23,11 @@ use Rattle.dt_calls.specs.SignalCalls.{sigaction_call, sigprocmask_call, sigretu
 
 -- exit(2) and exit_group(2): the process ends with a code
 unfoldable pub exit_call : Shared → Process → Machine → Effect
-exit_call c own m = quiet c own m (Ends (Code (exit_code (register m A0))))
+exit_call c own m = quiet_effect c own m (Ends (Code (exit_code (register m A0))))
 
 -- a call of one of these numbers is done and answers 0: sched_yield(2), and getuid(2) and its kin, since all is root's
-abbrev pub answers_zero : ℕ → Bool
-answers_zero number =
+abbrev pub is_zero_call : ℕ → Bool
+is_zero_call number =
     (number == SCHED_YIELD) || (number == GETUID) || (number == GETEUID) || (number == GETGID) || (number == GETEGID)
 
 -- a call of one of these numbers is refused with ENOSYS, so that a C library goes another way
@@ -53,8 +53,8 @@ identity_call number c own m =
     else if number == GETPPID then getppid_call c own m
     else if number == SET_ROBUST_LIST then set_robust_list_call c own m
     else if number == UNAME then uname_call c own m
-    else if answers_zero number then done c own m 0
-    else if is_missing_call number then refused c own m NoSys
+    else if is_zero_call number then done_effect c own m 0
+    else if is_missing_call number then refused_effect c own m NoSys
     else signal_call number c own m
 
 -- the calls on memory; any other is one of those above
@@ -77,8 +77,8 @@ call_of number c next own m =
 
 -- a call is served by its number, and a counter is read; at the end of a slice the process goes on, and at a fault it stays
 -- for the delivery of the fault's signal
-unfoldable pub serve_stop : Shared → ℕ → Process → Machine → Stop → Effect
-serve_stop c next own m Call = call_of (register m A7) c next own m
-serve_stop c next own m (Counter rd) = reads_counter c own m rd
-serve_stop c next own m (Fault signal) = quiet c own m Done
-serve_stop c next own m Slice = quiet c own m Done
+unfoldable pub effect_of_stop : Shared → ℕ → Process → Machine → Stop → Effect
+effect_of_stop c next own m Call = call_of (register m A7) c next own m
+effect_of_stop c next own m (Counter rd) = counter_effect c own m rd
+effect_of_stop c next own m (Fault signal) = quiet_effect c own m Done
+effect_of_stop c next own m Slice = quiet_effect c own m Done

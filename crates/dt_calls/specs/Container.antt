@@ -11,11 +11,11 @@ use Rattle.dt_procs.specs.declared.member.Member.{Member}
 use Rattle.dt_procs.specs.declared.member.TheConstants.{FIRST_PID}
 use Rattle.dt_procs.specs.Members.{first_members}
 use Rattle.dt_signals.specs.declared.signals.Sig.{Sig}
-use Rattle.dt_signals.specs.Signals.{no_signals, raised}
+use Rattle.dt_signals.specs.Signals.{no_signals, with_pending}
 use Rattle.dt_tree.specs.declared.limits.TheConstants.{ROOT}
 use Rattle.dt_tree.specs.FileTree.{FileTree}
-use Rattle.dt_tree.specs.Changes.{held}
-use Rattle.dt_virt.specs.Words.{Seeded, seeded_by}
+use Rattle.dt_tree.specs.Changes.{tree_after_hold}
+use Rattle.dt_virt.specs.Words.{SeededWords, words_of_seed}
 use Rattle.dt_calls.specs.declared.numbers.TheConstants.{FIRST_UMASK}
 use Rattle.dt_calls.specs.declared.shared.Process.{Process}
 
@@ -34,7 +34,7 @@ pub record Shared : Type 0 where
   pub files : Descriptions
   pub pipes : PipesView
   pub clock : ℕ
-  pub rand : Seeded
+  pub rand : SeededWords
   pub members : List Member
   pub processes : Processes
   pub signals : Signals
@@ -77,13 +77,13 @@ abbrev pub with_signals : Shared → ℕ → Sig → Shared
 with_signals c p g = record c { signals = insert c.signals p g }
 
 -- the signal states, where the process has one: with the signal pending in it
-abbrev pub raised_in : ℕ → ℕ → Signals → Option Sig → Signals
-raised_in p signal signals None = signals
-raised_in p signal signals (Some g) = insert signals p (raised signal g)
+abbrev pub signals_after_raise_in : ℕ → ℕ → Signals → Option Sig → Signals
+signals_after_raise_in p signal signals None = signals
+signals_after_raise_in p signal signals (Some g) = insert signals p (with_pending signal g)
 
 -- a signal is pending at a process, if that lives
-abbrev pub raised_at : ℕ → ℕ → Signals → Signals
-raised_at p signal signals = raised_in p signal signals (get signals p)
+abbrev pub signals_after_raise : ℕ → ℕ → Signals → Signals
+signals_after_raise p signal signals = signals_after_raise_in p signal signals (get signals p)
 
 -- no pipes, none of which has been made
 abbrev pub no_pipes : PipesView
@@ -92,11 +92,11 @@ no_pipes = record { contents = empty; next = FIRST_PIPE }
 -- what a process finds that starts on a tree: it holds its working directory, there is no pipe, and no time has passed
 abbrev pub first_shared : FileTree → ℕ → Shared
 first_shared t seed = record {
-  tree = held t ROOT;
+  tree = tree_after_hold t ROOT;
   files = first_files FIRST_PID;
   pipes = no_pipes;
   clock = 0;
-  rand = seeded_by seed;
+  rand = words_of_seed seed;
   members = first_members;
   processes = insert empty FIRST_PID (blank_process FIRST_PID);
   signals = insert empty FIRST_PID no_signals;

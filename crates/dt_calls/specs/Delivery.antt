@@ -8,7 +8,7 @@ use Rattle.dt_signals.specs.declared.delivery.CallState.TheVariants.{Plain, Wait
 use Rattle.dt_signals.specs.declared.delivery.Delivery.{Delivery}
 use Rattle.dt_signals.specs.declared.delivery.Delivery.TheVariants as delivery
 use Rattle.dt_signals.specs.declared.signals.Sig.{Sig}
-use Rattle.dt_signals.specs.Delivery.{Delivered, delivered}
+use Rattle.dt_signals.specs.Delivery.{DeliveryResult, delivery_of}
 use Rattle.dt_calls.specs.declared.call.effect.Outcome.{Outcome}
 use Rattle.dt_calls.specs.declared.call.effect.Outcome.TheVariants.{Done, Blocked, Progress, Ends, Unsupported}
 use Rattle.dt_calls.specs.declared.shared.Process.{Process}
@@ -16,11 +16,11 @@ use Rattle.dt_calls.specs.Container.{signals_at, with_signals}
 use Rattle.dt_calls.specs.Effect.{Effect}
 
 -- the signal that a stop forces: a fault's
-abbrev pub forced_by : Stop → Option ℕ
-forced_by Call = None
-forced_by (Counter rd) = None
-forced_by Slice = None
-forced_by (Fault signal) = Some signal
+abbrev pub forced_signal : Stop → Option ℕ
+forced_signal Call = None
+forced_signal (Counter rd) = None
+forced_signal Slice = None
+forced_signal (Fault signal) = Some signal
 
 -- a process whose stop was served, as delivery sees and leaves it
 pub record Standing : Type 0 where
@@ -43,20 +43,20 @@ with_delivery s g m delivery.Handler = record { signals = g; own = with_none_don
 with_delivery s g m (delivery.Ends signal) = record s { signals = g; machine = m; outcome = Ends (Signal signal) }
 
 -- the same, with the signal state and the machine that delivery leaves
-abbrev pub with_delivered : Standing → Delivered → Standing
+abbrev pub with_delivered : Standing → DeliveryResult → Standing
 with_delivered s d = with_delivery s d.signals d.machine d.delivery
 
 -- delivery by what became of the process: nothing is delivered where it has ended or stays at a call that isn't supported
-abbrev pub delivered_by : Option ℕ → Standing → Outcome → Standing
-delivered_by forced s Done = with_delivered s (delivered forced Plain s.signals s.machine)
-delivered_by forced s Blocked = with_delivered s (delivered forced (Waits s.own.caller.done) s.signals s.machine)
-delivered_by forced s Progress = with_delivered s (delivered forced (Waits s.own.caller.done) s.signals s.machine)
-delivered_by forced s (Ends end) = s
-delivered_by forced s (Unsupported number) = s
+abbrev pub standing_by_outcome : Option ℕ → Standing → Outcome → Standing
+standing_by_outcome forced s Done = with_delivered s (delivery_of forced Plain s.signals s.machine)
+standing_by_outcome forced s Blocked = with_delivered s (delivery_of forced (Waits s.own.caller.done) s.signals s.machine)
+standing_by_outcome forced s Progress = with_delivered s (delivery_of forced (Waits s.own.caller.done) s.signals s.machine)
+standing_by_outcome forced s (Ends end) = s
+standing_by_outcome forced s (Unsupported number) = s
 
 -- the process after delivery
-unfoldable pub delivery_to : Option ℕ → Standing → Standing
-delivery_to forced s = delivered_by forced s s.outcome
+unfoldable pub standing_after_delivery : Option ℕ → Standing → Standing
+standing_after_delivery forced s = standing_by_outcome forced s s.outcome
 
 -- what serving a stop did, with a process that stands so
 abbrev pub with_standing : Effect → Standing → Effect
@@ -72,5 +72,5 @@ abbrev pub standing_of : Effect → Standing
 standing_of r = standing (signals_at r.shared r.own.caller.vpid) r.own r.machine r.outcome
 
 -- a signal is delivered after a stop was served: that of a fault, or a pending one
-unfoldable pub after_delivery : Option ℕ → Effect → Effect
-after_delivery forced r = with_standing r (delivery_to forced (standing_of r))
+unfoldable pub effect_after_delivery : Option ℕ → Effect → Effect
+effect_after_delivery forced r = with_standing r (standing_after_delivery forced (standing_of r))

@@ -7,9 +7,9 @@ use Rattle.dt_base.specs.declared.event.Event.{Event}
 use Rattle.dt_base.specs.declared.event.Event.TheVariants.{Out}
 use Rattle.dt_base.specs.Errno.{errno_number}
 use Rattle.dt_rv64.specs.declared.machine.Machine.{Machine}
-use Rattle.dt_rv64.specs.Effects.{answered, counter_read}
+use Rattle.dt_rv64.specs.Effects.{machine_after_answer, machine_after_counter}
 use Rattle.dt_virt.specs.declared.clock.TheConstants.{READING_TICKS}
-use Rattle.dt_virt.specs.Clock.{later}
+use Rattle.dt_virt.specs.Clock.{ticks_after}
 use Rattle.dt_calls.specs.declared.call.effect.Outcome.{Outcome}
 use Rattle.dt_calls.specs.declared.call.effect.Outcome.TheVariants.{Done, Blocked, Progress, Unsupported}
 use Rattle.dt_calls.specs.declared.shared.Process.{Process}
@@ -26,38 +26,38 @@ pub record Effect : Type 0 where
   pub outcome : Outcome
 
 -- nothing shows, and all stays but the machine
-abbrev pub quiet : Shared → Process → Machine → Outcome → Effect
-quiet c own m outcome = record { shared = c; own = own; machine = m; child = None; events = []; outcome = outcome }
+abbrev pub quiet_effect : Shared → Process → Machine → Outcome → Effect
+quiet_effect c own m outcome = record { shared = c; own = own; machine = m; child = None; events = []; outcome = outcome }
 
 -- the call is done, and answers this number
-abbrev pub done : Shared → Process → Machine → ℕ → Effect
-done c own m value = quiet c own (answered m value) Done
+abbrev pub done_effect : Shared → Process → Machine → ℕ → Effect
+done_effect c own m value = quiet_effect c own (machine_after_answer m value) Done
 
 -- the call is refused: its answer is minus the errno
-abbrev pub refused : Shared → Process → Machine → Errno → Effect
-refused c own m errno = done c own m (2 ^ 64 - errno_number errno)
+abbrev pub refused_effect : Shared → Process → Machine → Errno → Effect
+refused_effect c own m errno = done_effect c own m (2 ^ 64 - errno_number errno)
 
 -- the call is done, and bytes go out on a stream: their number is its answer, and they are one event
-abbrev pub puts_out : Shared → Process → Machine → ℕ → List ℕ → Effect
-puts_out c own m stream bytes =
-    record (done c own m (length bytes)) { events = Out stream bytes ∷ [] }
+abbrev pub output_effect : Shared → Process → Machine → ℕ → List ℕ → Effect
+output_effect c own m stream bytes =
+    record (done_effect c own m (length bytes)) { events = Out stream bytes ∷ [] }
 
 -- a write to a pipe that nobody reads is done: it answers how many bytes it moved before, or is refused
-abbrev pub effect_of_broken : Shared → Process → Machine → Result ℕ Errno → Effect
-effect_of_broken c own m (Ok moved) = done c own m moved
-effect_of_broken c own m (Err errno) = refused c own m errno
+abbrev pub effect_of_broken_pipe : Shared → Process → Machine → Result ℕ Errno → Effect
+effect_of_broken_pipe c own m (Ok moved) = done_effect c own m moved
+effect_of_broken_pipe c own m (Err errno) = refused_effect c own m errno
 
 -- a call of this number gives its answer: one that waits or goes on is tried again in the process's next turn
 abbrev pub effect_of_answer : Shared → Process → Machine → ℕ → Answer → Effect
-effect_of_answer c own m number (answer.Value value) = done c own m value
-effect_of_answer c own m number (answer.Refused errno) = refused c own m errno
-effect_of_answer c own m number (answer.Output stream bytes) = puts_out c own m stream bytes
-effect_of_answer c own m number answer.Waits = quiet c own m Blocked
-effect_of_answer c own m number (answer.Part moved) = quiet c own m Progress
-effect_of_answer c own m number (answer.Pipe value) = effect_of_broken c own m value
-effect_of_answer c own m number answer.Unsupported = quiet c own m (Unsupported number)
+effect_of_answer c own m number (answer.Value value) = done_effect c own m value
+effect_of_answer c own m number (answer.Refused errno) = refused_effect c own m errno
+effect_of_answer c own m number (answer.Output stream bytes) = output_effect c own m stream bytes
+effect_of_answer c own m number answer.Waits = quiet_effect c own m Blocked
+effect_of_answer c own m number (answer.Part moved) = quiet_effect c own m Progress
+effect_of_answer c own m number (answer.Pipe value) = effect_of_broken_pipe c own m value
+effect_of_answer c own m number answer.Unsupported = quiet_effect c own m (Unsupported number)
 
 -- a counter is read into a register: the reading takes its time, and gives the time after it
-abbrev pub reads_counter : Shared → Process → Machine → ℕ → Effect
-reads_counter c own m rd =
-    let ticks = later c.clock READING_TICKS in quiet (record c { clock = ticks }) own (counter_read m rd ticks) Done
+abbrev pub counter_effect : Shared → Process → Machine → ℕ → Effect
+counter_effect c own m rd =
+    let ticks = ticks_after c.clock READING_TICKS in quiet_effect (record c { clock = ticks }) own (machine_after_counter m rd ticks) Done

@@ -7,24 +7,24 @@ use Rattle.dt_rv64.specs.declared.machine.Machine.{Machine}
 use Rattle.dt_rv64.specs.Effects.{register}
 use Rattle.dt_space.specs.declared.access.Miss.{Miss}
 use Rattle.dt_space.specs.Space.{PageView}
-use Rattle.dt_space.specs.Write.{stored}
+use Rattle.dt_space.specs.Write.{pages_after_store}
 use Rattle.dt_procs.specs.Members.{parent_pid}
 use Rattle.dt_calls.specs.declared.numbers.TheConstants.{UTSNAME_FIELD}
 use Rattle.dt_calls.specs.declared.shared.Process.{Process}
 use Rattle.dt_calls.specs.Container.{Shared}
-use Rattle.dt_calls.specs.Effect.{Effect, done, refused}
+use Rattle.dt_calls.specs.Effect.{Effect, done_effect, refused_effect}
 
 -- getpid(2), gettid(2), set_tid_address(2): the pid; a process has one thread, whose number is the process's
 unfoldable pub getpid_call : Shared → Process → Machine → Effect
-getpid_call c own m = done c own m own.caller.vpid
+getpid_call c own m = done_effect c own m own.caller.vpid
 
 -- getppid(2): the parent's pid; 0 for the first process
 unfoldable pub getppid_call : Shared → Process → Machine → Effect
-getppid_call c own m = done c own m (unwrap_or (parent_pid c.members own.caller.vpid) 0)
+getppid_call c own m = done_effect c own m (unwrap_or (parent_pid c.members own.caller.vpid) 0)
 
 -- set_robust_list(2): the list is not looked at, since a process has one thread; EINVAL where its size is another
 unfoldable pub set_robust_list_call : Shared → Process → Machine → Effect
-set_robust_list_call c own m = if register m A1 == ROBUST_LIST_SIZE then done c own m 0 else refused c own m Inval
+set_robust_list_call c own m = if register m A1 == ROBUST_LIST_SIZE then done_effect c own m 0 else refused_effect c own m Inval
 
 -- a field of a `struct utsname`: a text, padded with zeros to the field's width
 abbrev pub padded_field : List ℕ → List ℕ
@@ -38,9 +38,9 @@ utsname =
 
 -- 0 with these pages, in which a buffer has been filled; EFAULT where it could not be
 abbrev pub done_with_pages : Shared → Process → Machine → Result (List PageView) Miss → Effect
-done_with_pages c own m (Err miss) = refused c own m BadAddress
-done_with_pages c own m (Ok pages) = done c own (record m { space = pages }) 0
+done_with_pages c own m (Err miss) = refused_effect c own m BadAddress
+done_with_pages c own m (Ok pages) = done_effect c own (record m { space = pages }) 0
 
 -- uname(2): EFAULT where a byte of the buffer can't be written
 unfoldable pub uname_call : Shared → Process → Machine → Effect
-uname_call c own m = done_with_pages c own m (stored m.space (register m A0) utsname)
+uname_call c own m = done_with_pages c own m (pages_after_store m.space (register m A0) utsname)

@@ -8,7 +8,7 @@ use Rattle.dt_rv64.specs.declared.machine.Machine.{Machine}
 use Rattle.dt_fds.specs.OpenFiles.{pipes_at}
 use Rattle.dt_host.specs.World.{World}
 use Rattle.dt_procs.specs.Table.{members_of}
-use Rattle.dt_sigcalls.specs.Called.{Called}
+use Rattle.dt_sigcalls.specs.Called.{SignalCallResult}
 use Rattle.dt_tree.specs.Table.{tree_of}
 use Rattle.dt_calls.specs.declared.call.effect.Effect.{Effect as EffectInCode}
 use Rattle.dt_calls.specs.declared.call.effect.Outcome.{Outcome}
@@ -20,8 +20,8 @@ use Rattle.dt_calls.specs.Container.{Shared, Container, Machines, Signals}
 use Rattle.dt_calls.specs.Effect.{Effect}
 use Rattle.dt_calls.specs.Delivery.{Standing}
 use Rattle.dt_calls.specs.SignalCalls.{AfterSigreturn}
-use Rattle.dt_calls.specs.Launch.{Launched}
-use Rattle.dt_calls.specs.Settle.{Turned, with_own}
+use Rattle.dt_calls.specs.Launch.{ContainerLaunch}
+use Rattle.dt_calls.specs.Settle.{ContainerTurn, with_own}
 
 -- a container in code: its tables of inodes, pipes and pids stand for a tree, for pipes and for processes where what the host keeps is known;
 -- each live process has a place for its machine, which is empty where the machine is away
@@ -44,13 +44,13 @@ shared_of c w = record {
 }
 
 -- the machines in these places
-abbrev pub home_in : List (ℕ × Option Machine) → Machines
-home_in [] = empty
-home_in (e ∷ es) = with_own (home_in es) e.0 e.1
+abbrev pub machines_in : List (ℕ × Option Machine) → Machines
+machines_in [] = empty
+machines_in (e ∷ es) = with_own (machines_in es) e.0 e.1
 
 -- the machines at home
-unfoldable pub home_of : FinMap nat_cmp (Option Machine) → Machines
-home_of places = home_in (entries places)
+unfoldable pub machines_at_home : FinMap nat_cmp (Option Machine) → Machines
+machines_at_home places = machines_in (entries places)
 
 -- the places with that of a child, if there is one
 abbrev pub with_child_place : FinMap nat_cmp (Option Machine) → ℕ → Option Machine → FinMap nat_cmp (Option Machine)
@@ -61,7 +61,7 @@ with_child_place places next (Some m) = insert places next (Some m)
 abbrev pub container_of : ContainerView → World → Container
 container_of c w = record {
   shared = shared_of c.shared w;
-  machines = home_of c.places;
+  machines = machines_at_home c.places;
   next = c.shared.pids.next;
   events = c.events;
 }
@@ -76,7 +76,7 @@ abbrev pub effect_as : Shared → Process → Machine → EffectInCode → Effec
 effect_as c own m r = record { shared = c; own = own; machine = m; child = r.child; events = r.events.items; outcome = r.outcome }
 
 -- a call left the signal state of a process and its machine so, and gave its answer
-pub record CalledAt (r : Called) (p : ℕ) (before after : Signals) (old new : Machine) (given : Answer) : Type 0 where
+pub record CalledAt (r : SignalCallResult) (p : ℕ) (before after : Signals) (old new : Machine) (given : Answer) : Type 0 where
   pub signals : after ≡ insert before p r.signals
   pub machine : new ≡ record old { space = r.pages }
   pub answer : given ≡ r.answer
@@ -88,16 +88,16 @@ pub record SigreturnAt (b : AfterSigreturn) (p : ℕ) (before after : Signals) (
   pub outcome : became ≡ b.outcome
 
 -- a process after a delivery
-pub record DeliversAt (after : Standing) (p : ℕ) (before now : Signals) (part : Process) (new : Machine) (became : Outcome) : Type 0 where
+pub record DeliveredAt (after : Standing) (p : ℕ) (before now : Signals) (part : Process) (new : Machine) (became : Outcome) : Type 0 where
   pub signals : now ≡ insert before p after.signals
   pub own : part ≡ after.own
   pub machine : new ≡ after.machine
   pub outcome : became ≡ after.outcome
 
 -- what launching came to
-abbrev pub launched_as : Container → Launch → Launched
-launched_as c l = record { container = c; launch = l }
+abbrev pub container_launch_as : Container → Launch → ContainerLaunch
+container_launch_as c l = record { container = c; launch = l }
 
 -- what a turn came to
-abbrev pub turned_as : Container → Served → Turned
-turned_as c s = record { container = c; served = s }
+abbrev pub container_turn_as : Container → Served → ContainerTurn
+container_turn_as c s = record { container = c; served = s }

@@ -8,8 +8,8 @@ use Rattle.dt_rv64.specs.declared.machine.Machine.{Machine}
 use Rattle.dt_rv64.specs.Effects.{register}
 use Rattle.dt_calls.specs.declared.call.effect.Outcome.TheVariants.{Unsupported}
 use Rattle.dt_calls.specs.declared.shared.Process.{Process}
-use Rattle.dt_calls.specs.Container.{Shared, raised_at}
-use Rattle.dt_calls.specs.Effect.{Effect, quiet, done, refused}
+use Rattle.dt_calls.specs.Container.{Shared, signals_after_raise}
+use Rattle.dt_calls.specs.Effect.{Effect, quiet_effect, done_effect, refused_effect}
 
 -- the low 32 bits as a signed number are below 1: no process has this pid
 abbrev pub is_below_one : ℕ → Bool
@@ -20,37 +20,37 @@ abbrev pub is_unsupported_signal : ℕ → Bool
 is_unsupported_signal signal = nat_lt SIGCHLD signal && nat_le signal SIGNAL_LIMIT
 
 -- a process of this pid is there, a zombie included
-abbrev pub is_there : Shared → ℕ → Bool
-is_there c pid = is_some (parent_pid c.members pid)
+abbrev pub has_member : Shared → ℕ → Bool
+has_member c pid = is_some (parent_pid c.members pid)
 
 -- a signal is pending at a process that lives; signal 0 asks whether it is there
-abbrev pub sends : Shared → Process → Machine → ℕ → ℕ → Effect
-sends c own m pid signal =
-    if signal == 0 then done c own m 0 else done (record c { signals = raised_at pid signal c.signals }) own m 0
+abbrev pub send_effect : Shared → Process → Machine → ℕ → ℕ → Effect
+send_effect c own m pid signal =
+    if signal == 0 then done_effect c own m 0 else done_effect (record c { signals = signals_after_raise pid signal c.signals }) own m 0
 
 -- a signal is sent: EINVAL where there is none of this number, ESRCH where no such process is there
-abbrev pub sends_to : Shared → Process → Machine → ℕ → ℕ → Effect
-sends_to c own m pid signal =
-    if nat_lt SIGNAL_LIMIT signal then refused c own m Inval
-    else if not (is_there c pid) then refused c own m Srch
-    else sends c own m pid signal
+abbrev pub send_effect_to : Shared → Process → Machine → ℕ → ℕ → Effect
+send_effect_to c own m pid signal =
+    if nat_lt SIGNAL_LIMIT signal then refused_effect c own m Inval
+    else if not (has_member c pid) then refused_effect c own m Srch
+    else send_effect c own m pid signal
 
 -- kill(2) of one process; to a group of processes it isn't supported
 unfoldable pub kill_call : Shared → Process → Machine → Effect
 kill_call c own m =
     let pid = low_word (register m A0) in
     let signal = low_word (register m A1) in
-    if is_below_one pid || is_unsupported_signal signal then quiet c own m (Unsupported KILL)
-    else sends_to c own m pid signal
+    if is_below_one pid || is_unsupported_signal signal then quiet_effect c own m (Unsupported KILL)
+    else send_effect_to c own m pid signal
 
 -- sends a signal to a process by the id of its one thread; EINVAL for an id below 1 (tkill(2))
 unfoldable pub tkill_call : Shared → Process → Machine → Effect
 tkill_call c own m =
     let tid = low_word (register m A0) in
     let signal = low_word (register m A1) in
-    if is_unsupported_signal signal then quiet c own m (Unsupported TKILL)
-    else if is_below_one tid then refused c own m Inval
-    else sends_to c own m tid signal
+    if is_unsupported_signal signal then quiet_effect c own m (Unsupported TKILL)
+    else if is_below_one tid then refused_effect c own m Inval
+    else send_effect_to c own m tid signal
 
 -- tgkill(2): ESRCH also where the thread is of another process
 unfoldable pub tgkill_call : Shared → Process → Machine → Effect
@@ -58,7 +58,7 @@ tgkill_call c own m =
     let tgid = low_word (register m A0) in
     let tid = low_word (register m A1) in
     let signal = low_word (register m A2) in
-    if is_unsupported_signal signal then quiet c own m (Unsupported TGKILL)
-    else if is_below_one tgid || is_below_one tid || nat_lt SIGNAL_LIMIT signal then refused c own m Inval
-    else if not (tgid == tid) then refused c own m Srch
-    else sends_to c own m tid signal
+    if is_unsupported_signal signal then quiet_effect c own m (Unsupported TGKILL)
+    else if is_below_one tgid || is_below_one tid || nat_lt SIGNAL_LIMIT signal then refused_effect c own m Inval
+    else if not (tgid == tid) then refused_effect c own m Srch
+    else send_effect_to c own m tid signal

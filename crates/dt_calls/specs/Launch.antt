@@ -13,14 +13,14 @@ use Rattle.dt_calls.specs.Container.{Container, process_at, with_process}
 use Rattle.dt_calls.specs.Execve.{with_program}
 
 -- the container after a launch, and what it came to
-pub record Launched : Type 0 where
+pub record ContainerLaunch : Type 0 where
   pub container : Container
   pub launch : Launch
 
 -- a program that can be started has its machine at home, and its break where it starts
-abbrev pub launched_program : Container → Result Program Errno → Launched
-launched_program c (Err errno) = record { container = c; launch = NoStart errno }
-launched_program c (Ok program) = record {
+abbrev pub launch_of_program : Container → Result Program Errno → ContainerLaunch
+launch_of_program c (Err errno) = record { container = c; launch = NoStart errno }
+launch_of_program c (Ok program) = record {
   container = record c {
     shared = with_process c.shared (with_program (process_at c.shared FIRST_PID) program);
     machines = insert c.machines FIRST_PID program.machine;
@@ -29,5 +29,5 @@ launched_program c (Ok program) = record {
 }
 
 -- the program of a command is started: it is handed the command's words, its path, and 16 bytes that the seed gives
-unfoldable pub launch : Container → Words → Launched
-launch c words = launched_program c (start_program c.shared.tree.shape words (start_bytes c.shared.rand))
+unfoldable pub launch : Container → Words → ContainerLaunch
+launch c words = launch_of_program c (start_program c.shared.tree.shape words (start_bytes c.shared.rand))

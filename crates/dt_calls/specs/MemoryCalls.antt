@@ -3,27 +3,27 @@ use Rattle.std.specs.Prelude.{ℕ}
 use Rattle.dt_base.specs.declared.abi.TheConstants.{A0, A1, A2, A3, MMAP, MUNMAP, MPROTECT}
 use Rattle.dt_rv64.specs.declared.machine.Machine.{Machine}
 use Rattle.dt_rv64.specs.Effects.{register}
-use Rattle.dt_mcalls.specs.Called.{Called}
-use Rattle.dt_mcalls.specs.Brk.{Moved, brk_of}
+use Rattle.dt_mcalls.specs.Called.{MemoryCallResult}
+use Rattle.dt_mcalls.specs.Brk.{BrkResult, brk_of}
 use Rattle.dt_mcalls.specs.Mmap.{mmap_of}
 use Rattle.dt_mcalls.specs.Munmap.{munmap_of}
 use Rattle.dt_mcalls.specs.Mprotect.{mprotect_of}
 use Rattle.dt_calls.specs.declared.shared.Process.{Process}
 use Rattle.dt_calls.specs.Container.{Shared}
-use Rattle.dt_calls.specs.Effect.{Effect, done, effect_of_answer}
+use Rattle.dt_calls.specs.Effect.{Effect, done_effect, effect_of_answer}
 
 -- a call of this number leaves the process's pages so, and gives its answer
-abbrev pub effect_of_memory_call : Shared → Process → Machine → ℕ → Called → Effect
+abbrev pub effect_of_memory_call : Shared → Process → Machine → ℕ → MemoryCallResult → Effect
 effect_of_memory_call c own m number r = effect_of_answer c own (record m { space = r.pages }) number r.answer
 
 -- the break and the pages are these, and the break is the answer
-abbrev pub moved_break : Shared → Process → Machine → Moved → Effect
-moved_break c own m r =
-    done c (record own { program_break = r.program_break }) (record m { space = r.pages }) r.program_break.end
+abbrev pub effect_of_break : Shared → Process → Machine → BrkResult → Effect
+effect_of_break c own m r =
+    done_effect c (record own { program_break = r.program_break }) (record m { space = r.pages }) r.program_break.end
 
 -- moves the end of the break, or leaves it where it is, and answers where it is then (brk(2))
 unfoldable pub brk_call : Shared → Process → Machine → Effect
-brk_call c own m = moved_break c own m (brk_of own.program_break m.space (register m A0))
+brk_call c own m = effect_of_break c own m (brk_of own.program_break m.space (register m A0))
 
 -- takes away the pages of a range, whichever are there (munmap(2))
 unfoldable pub munmap_call : Shared → Process → Machine → Effect

@@ -5,9 +5,9 @@ use Rattle.dt_fds.specs.Backs.{AllIn, IsPiped, descriptions_of}
 use Rattle.dt_host.specs.Cause.{HasCause}
 use Rattle.dt_host.specs.declared.error.HostErr.{HostErr}
 use Rattle.dt_host.specs.declared.error.HostErr.TheVariants.{Failed}
-use Rattle.dt_host.specs.Total.{total}
+use Rattle.dt_tables.specs.Total.{total}
 use Rattle.dt_host.specs.World.{World, IsDir}
-use Rattle.dt_procs.specs.Members.{lives}
+use Rattle.dt_procs.specs.Members.{has_live}
 use Rattle.dt_procs.specs.declared.member.TheConstants.{PROCESS_LIMIT}
 use Rattle.dt_procs.specs.Table as procs
 use Rattle.dt_procs.specs.Table.{members_of}
@@ -40,7 +40,7 @@ pub record IsSound (c : Shared) (w : World) : Type 0 where
   pub piped : IsPiped c.fs.files w.pipes
   pub named : (p : ℕ) → IfSome (get c.processes p) (λ own. own.caller.vpid ≡ p)
   pub given : (p : ℕ) → IsSome (get c.processes p) → p < c.pids.next
-  pub lives : (p : ℕ) → IsSome (get c.processes p) → lives (members_of c.pids) p ≡ true
+  pub lives : (p : ℕ) → IsSome (get c.processes p) → has_live (members_of c.pids) p ≡ true
   pub signalled : (p : ℕ) → IsSome (get c.processes p) → IsSome (get c.signals p)
   pub fresh : (p : ℕ) → c.pids.next ≤ p → get c.fs.files.descriptors.tables p ≡ None
 
@@ -55,8 +55,8 @@ pub record IsSoundContainer (c : ContainerView) (w : World) : Type 0 where
   pub few : length (keys c.places) ≤ PROCESS_LIMIT
 
 -- each process that has a signal state has one still
-abbrev pub StillSignalled : Signals → Signals → Type 0
-StillSignalled before after = (p : ℕ) → IsSome (get before p) → IsSome (get after p)
+abbrev pub KeepsSignals : Signals → Signals → Type 0
+KeepsSignals before after = (p : ℕ) → IsSome (get before p) → IsSome (get after p)
 
 -- what a call has in hand: what is shared, the part of the process that makes it, and what the host keeps
 pub record Hand : Type 0 where
@@ -85,7 +85,7 @@ pub record LeavesSound (old new : Hand) (made : Option Machine) : Type 0 where
   pub child : IfSome made (λ _. IsSome (get new.shared.processes old.shared.pids.next))
 
 -- the code served a stop as it is defined, unless the host failed or memory was wanting
-pub record Serves (defined : Effect) (old new : Hand) (machine : Machine) (result : Result EffectInCode HostErr) (before now : ℕ) : Type 0 where
+pub record HasEffect (defined : Effect) (old new : Hand) (machine : Machine) (result : Result EffectInCode HostErr) (before now : ℕ) : Type 0 where
   pub served : IfOk result (λ e. defined ≡ effect_as (shared_of new.shared new.world) new.own machine e)
   pub kept : IfOk result (λ e. LeavesSound old new e.child)
   pub cause : HasCause before now (IsErrOf result Failed)

@@ -11,14 +11,14 @@ use Rattle.dt_procs.specs.declared.member.Reaped.TheVariants.{Got, NoneReady, No
 use Rattle.dt_procs.specs.Members.{look_for, without_member}
 use Rattle.dt_rv64.specs.declared.machine.Machine.{Machine}
 use Rattle.dt_rv64.specs.Effects.{register}
-use Rattle.dt_space.specs.Argument.{may_fill, with_filled}
-use Rattle.dt_scene.specs.Arguments.{has_only}
-use Rattle.dt_base.specs.Abi.{has}
+use Rattle.dt_space.specs.Argument.{is_writable_or_null, with_bytes_unless_null}
+use Rattle.dt_callbase.specs.Arguments.{has_only}
+use Rattle.dt_base.specs.Abi.{has_flag}
 use Rattle.dt_calls.specs.declared.call.effect.Outcome.TheVariants.{Blocked, Unsupported}
 use Rattle.dt_calls.specs.declared.numbers.TheConstants.{RUSAGE_SIZE}
 use Rattle.dt_calls.specs.declared.shared.Process.{Process}
 use Rattle.dt_calls.specs.Container.{Shared}
-use Rattle.dt_calls.specs.Effect.{Effect, quiet, done, refused}
+use Rattle.dt_calls.specs.Effect.{Effect, quiet_effect, done_effect, refused_effect}
 
 -- the low 32 bits as a signed number are below -1
 abbrev pub is_group : ℕ → Bool
@@ -42,22 +42,22 @@ abbrev pub usage_bytes : List ℕ
 usage_bytes = replicate RUSAGE_SIZE 0
 
 -- a zombie is reaped, and its pid is the answer; EFAULT where its status or the use of resources can't be written
-abbrev pub reaps : Shared → Process → Machine → ℕ → ℕ → ℕ → End → Effect
-reaps c own m status usage vpid end =
-    if may_fill m.space status 4 && may_fill m.space usage RUSAGE_SIZE
-    then done (record c { members = without_member c.members vpid }) own
-    (record m { space = with_filled (with_filled m.space status (status_bytes end)) usage usage_bytes }) vpid
-    else refused c own m BadAddress
+abbrev pub reap_effect : Shared → Process → Machine → ℕ → ℕ → ℕ → End → Effect
+reap_effect c own m status usage vpid end =
+    if is_writable_or_null m.space status 4 && is_writable_or_null m.space usage RUSAGE_SIZE
+    then done_effect (record c { members = without_member c.members vpid }) own
+    (record m { space = with_bytes_unless_null (with_bytes_unless_null m.space status (status_bytes end)) usage usage_bytes }) vpid
+    else refused_effect c own m BadAddress
 
 -- by what there is: with WNOHANG the answer is 0 where no child has ended, and else the process waits
-abbrev pub by_found : Shared → Process → Machine → Reaped → Effect
-by_found c own m (Got vpid end) = reaps c own m (register m A1) (register m A3) vpid end
-by_found c own m NoneReady = if has (low_word (register m A2)) WNOHANG then done c own m 0 else quiet c own m Blocked
-by_found c own m NoChild = refused c own m Child
+abbrev pub effect_of_reaped : Shared → Process → Machine → Reaped → Effect
+effect_of_reaped c own m (Got vpid end) = reap_effect c own m (register m A1) (register m A3) vpid end
+effect_of_reaped c own m NoneReady = if has_flag (low_word (register m A2)) WNOHANG then done_effect c own m 0 else quiet_effect c own m Blocked
+effect_of_reaped c own m NoChild = refused_effect c own m Child
 
 -- reaps a child that has ended, or waits for one; for a group of processes it isn't supported (wait4(2))
 unfoldable pub wait4_call : Shared → Process → Machine → Effect
 wait4_call c own m =
-    if is_group (low_word (register m A0)) then quiet c own m (Unsupported WAIT4)
-    else if not (has_only (low_word (register m A2)) WAIT_OPTIONS) then refused c own m Inval
-    else by_found c own m (look_for c.members own.caller.vpid (which_child (low_word (register m A0))))
+    if is_group (low_word (register m A0)) then quiet_effect c own m (Unsupported WAIT4)
+    else if not (has_only (low_word (register m A2)) WAIT_OPTIONS) then refused_effect c own m Inval
+    else effect_of_reaped c own m (look_for c.members own.caller.vpid (which_child (low_word (register m A0))))

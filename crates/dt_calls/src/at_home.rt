@@ -2,22 +2,22 @@
 ghost use Rattle.std.specs.Prelude.{◌≡◌, IsSome, IfSome, IsOk, IfOk};
 ghost use Rattle.std.specs.FinMap.{get};
 ghost use Rattle.dt_rv64.specs.Segment.{segment_of};
-ghost use Rattle.dt_calls.specs.Settle.{serve_and_deliver};
-ghost use Rattle.dt_calls.specs.InCode.{home_of, shared_of};
-ghost use Rattle.dt_calls.specs.AtHome.{RunsAt, ServesAt};
-ghost use Rattle.dt_calls.specs.Sound.{IsSoundHand, Serves, hand};
+ghost use Rattle.dt_calls.specs.Settle.{effect_of_turn};
+ghost use Rattle.dt_calls.specs.InCode.{machines_at_home, shared_of};
+ghost use Rattle.dt_calls.specs.AtHome.{RunsAt, HasEffectAt};
+ghost use Rattle.dt_calls.specs.Sound.{IsSoundHand, HasEffect, hand};
 
 use crate::call::{Effect, serve_and_deliver};
 use crate::shared::{Process, Shared};
 use dt_base::NoMemory;
 use dt_host::{Host, HostErr};
-use dt_numbered::Numbered;
 use dt_rv64::{Machine, Seg, Stop, segment};
+use dt_tables::Numbered;
 use std::alloc::Global;
 
 /// Runs a segment of the machine of a process, which is at home.
 pub(crate) fn run_at(places: &mut Numbered<Option<Machine>>, vpid: u32) -> Result<Seg, NoMemory>
-    requires { IsSome (get (home_of places.old) vpid) }
+    requires { IsSome (get (machines_at_home places.old) vpid) }
     ensures always { IsOk result }
     ensures run { IfOk result (RunsAt places.old places.new vpid) }
 {
@@ -38,9 +38,9 @@ pub(crate) fn serve_at<H: Host>(
     stop: Stop,
 ) -> Result<Effect, HostErr>
     requires sound { IsSoundHand (hand shared.old own.old (H.view host.old)) }
-    requires home { IsSome (get (home_of places.old) vpid) }
-    ensures { ServesAt
-        (λ m. serve_and_deliver (shared_of shared.old (H.view host.old)) shared.old.pids.next own.old m stop)
+    requires home { IsSome (get (machines_at_home places.old) vpid) }
+    ensures { HasEffectAt
+        (λ m. effect_of_turn (shared_of shared.old (H.view host.old)) shared.old.pids.next own.old m stop)
         (hand shared.old own.old (H.view host.old)) (hand shared.new own.new (H.view host.new))
         places.old places.new vpid result (H.count host.old) (H.count host.new) }
 {
@@ -76,8 +76,8 @@ fn serve_in<H: Host>(
     requires sound { IsSoundHand (hand shared.old own.old (H.view host.old)) }
     requires some { IsSome place.old }
     ensures stays { IsSome place.new }
-    ensures served { IfSome place.old (λ was. IfSome place.new (λ now. Serves
-        (serve_and_deliver (shared_of shared.old (H.view host.old)) shared.old.pids.next own.old was stop)
+    ensures served { IfSome place.old (λ was. IfSome place.new (λ now. HasEffect
+        (effect_of_turn (shared_of shared.old (H.view host.old)) shared.old.pids.next own.old was stop)
         (hand shared.old own.old (H.view host.old)) (hand shared.new own.new (H.view host.new)) now result
         (H.count host.old) (H.count host.new))) }
 {

@@ -1,10 +1,10 @@
 // The system calls, by their numbers.
 ghost use Rattle.std.specs.Prelude.{◌≡◌};
 ghost use Rattle.dt_rv64.specs.Effects.{register};
-ghost use Rattle.dt_calls.specs.Call.{serve_stop, call_of, memory_call, identity_call, signal_call};
-ghost use Rattle.dt_calls.specs.Settle.{serve_and_deliver};
+ghost use Rattle.dt_calls.specs.Call.{effect_of_stop, call_of, memory_call, identity_call, signal_call};
+ghost use Rattle.dt_calls.specs.Settle.{effect_of_turn};
 ghost use Rattle.dt_calls.specs.InCode.{shared_of};
-ghost use Rattle.dt_calls.specs.Sound.{IsSoundHand, Serves, hand};
+ghost use Rattle.dt_calls.specs.Sound.{IsSoundHand, HasEffect, hand};
 
 mod clone;
 mod effect;
@@ -17,7 +17,7 @@ mod memory;
 mod signals;
 mod wait;
 
-use crate::delivery::{deliver_at, forced_by};
+use crate::delivery::{deliver_at, forced_signal};
 use crate::shared::{Process, Shared};
 use dt_base::Errno;
 use dt_base::abi::{
@@ -41,13 +41,13 @@ pub fn serve_and_deliver<H: Host>(
     stop: Stop,
 ) -> Result<Effect, HostErr>
     requires { IsSoundHand (hand shared.old own.old (H.view host.old)) }
-    ensures { Serves
-        (serve_and_deliver (shared_of shared.old (H.view host.old)) shared.old.pids.next own.old machine.old stop)
+    ensures { HasEffect
+        (effect_of_turn (shared_of shared.old (H.view host.old)) shared.old.pids.next own.old machine.old stop)
         (hand shared.old own.old (H.view host.old)) (hand shared.new own.new (H.view host.new)) machine.new result
         (H.count host.old) (H.count host.new) }
 {
     let mut effect = serve_stop(alloc, host, shared, own, machine, stop)?;
-    let forced = forced_by(stop);
+    let forced = forced_signal(stop);
     deliver_at(
         &mut shared.signals,
         own,
@@ -59,7 +59,7 @@ pub fn serve_and_deliver<H: Host>(
 }
 
 // Serves a stop: a call by its number, a counter by the logical time, a fault and the end of a slice by nothing.
-#[tactic(auto, unfolding(crate::specs::Call::serve_stop))]
+#[tactic(auto, unfolding(crate::specs::Call::effect_of_stop))]
 fn serve_stop<H: Host>(
     alloc: Global,
     host: &mut H,
@@ -69,7 +69,8 @@ fn serve_stop<H: Host>(
     stop: Stop,
 ) -> Result<Effect, HostErr>
     requires { IsSoundHand (hand shared.old own.old (H.view host.old)) }
-    ensures { Serves (serve_stop (shared_of shared.old (H.view host.old)) shared.old.pids.next own.old machine.old stop)
+    ensures { HasEffect (effect_of_stop
+        (shared_of shared.old (H.view host.old)) shared.old.pids.next own.old machine.old stop)
         (hand shared.old own.old (H.view host.old)) (hand shared.new own.new (H.view host.new)) machine.new result
         (H.count host.old) (H.count host.new) }
 {
@@ -90,7 +91,7 @@ fn call<H: Host>(
     machine: &mut Machine,
 ) -> Result<Effect, HostErr>
     requires { IsSoundHand (hand shared.old own.old (H.view host.old)) }
-    ensures { Serves (call_of (register machine.old A7) (shared_of shared.old (H.view host.old))
+    ensures { HasEffect (call_of (register machine.old A7) (shared_of shared.old (H.view host.old))
         shared.old.pids.next own.old machine.old)
         (hand shared.old own.old (H.view host.old)) (hand shared.new own.new (H.view host.new)) machine.new result
         (H.count host.old) (H.count host.new) }
@@ -116,7 +117,7 @@ fn memory_call<H: Host>(
     number: u64,
 ) -> Result<Effect, HostErr>
     requires { IsSoundHand (hand shared.old own.old (H.view host.old)) }
-    ensures { Serves (memory_call number (shared_of shared.old (H.view host.old)) own.old machine.old)
+    ensures { HasEffect (memory_call number (shared_of shared.old (H.view host.old)) own.old machine.old)
         (hand shared.old own.old (H.view host.old)) (hand shared.new own.new (H.view host.new)) machine.new result
         (H.count host.old) (H.count host.new) }
 {
@@ -141,7 +142,7 @@ fn identity_call<H: Host>(
     number: u64,
 ) -> Result<Effect, HostErr>
     requires { IsSoundHand (hand shared.old own.old (H.view host.old)) }
-    ensures { Serves (identity_call number (shared_of shared.old (H.view host.old)) own.old machine.old)
+    ensures { HasEffect (identity_call number (shared_of shared.old (H.view host.old)) own.old machine.old)
         (hand shared.old own.old (H.view host.old)) (hand shared.new own.new (H.view host.new)) machine.new result
         (H.count host.old) (H.count host.new) }
 {
@@ -172,7 +173,7 @@ fn signal_call<H: Host>(
     number: u64,
 ) -> Result<Effect, HostErr>
     requires { IsSoundHand (hand shared.old own.old (H.view host.old)) }
-    ensures { Serves (signal_call number (shared_of shared.old (H.view host.old)) own.old machine.old)
+    ensures { HasEffect (signal_call number (shared_of shared.old (H.view host.old)) own.old machine.old)
         (hand shared.old own.old (H.view host.old)) (hand shared.new own.new (H.view host.new)) machine.new result
         (H.count host.old) (H.count host.new) }
 {

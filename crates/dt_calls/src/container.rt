@@ -10,8 +10,8 @@ ghost use Rattle.dt_tree.specs.ImageTree.{image_tree};
 ghost use Rattle.dt_calls.specs.AtHome.{RunsAt};
 ghost use Rattle.dt_calls.specs.Container.{first_container};
 ghost use Rattle.dt_calls.specs.Launch.{launch};
-ghost use Rattle.dt_calls.specs.Settle.{serve};
-ghost use Rattle.dt_calls.specs.InCode.{Lives, home_of, container_of, launched_as, turned_as};
+ghost use Rattle.dt_calls.specs.Settle.{turn_of_container};
+ghost use Rattle.dt_calls.specs.InCode.{Lives, machines_at_home, container_of, container_launch_as, container_turn_as};
 ghost use Rattle.dt_calls.specs.Sound.{IsSoundContainer};
 
 use crate::at_home::{run_at, serve_at};
@@ -19,9 +19,9 @@ use crate::shared::Shared;
 use dt_base::{Command, End, Errno, Event, Image, NoMemory};
 use dt_exec::start_program;
 use dt_host::{Host, HostErr};
-use dt_numbered::Numbered;
 use dt_procs::FIRST_PID;
 use dt_rv64::{Machine, Seg, Stop};
+use dt_tables::Numbered;
 use dt_tree::Tree;
 use std::alloc::Global;
 use std::marker::Model;
@@ -117,7 +117,7 @@ impl Container {
         requires sound { IsSoundContainer self.old (H.view host.old) }
         requires lives { Lives self.old FIRST_PID }
         ensures ok { IfOk result (λ l. launch (container_of self.old (H.view host.old)) command.now
-            ≡ launched_as (container_of self.new (H.view host.new)) l) }
+            ≡ container_launch_as (container_of self.new (H.view host.new)) l) }
         ensures sound { IfOk result (λ _. IsSoundContainer self.new (H.view host.new)) }
         ensures cause { HasCause (H.count host.old) (H.count host.new) (IsErrOf result HostErr.Failed) }
     {
@@ -138,10 +138,10 @@ impl Container {
     /// Takes the machine of a process away, which is at home.
     #[tactic(auto, using(crate::proofs::Homes::homes))]
     pub fn take_machine(&mut self, vpid: u32) -> Machine
-        requires { IsSome (get (home_of self.old.places) vpid) }
-        ensures machine { get (home_of self.old.places) vpid ≡ Some result }
+        requires { IsSome (get (machines_at_home self.old.places) vpid) }
+        ensures machine { get (machines_at_home self.old.places) vpid ≡ Some result }
         ensures rest { self.new ≡ record self.old { places = insert self.old.places vpid None } }
-        ensures home { home_of self.new.places ≡ remove (home_of self.old.places) vpid }
+        ensures home { machines_at_home self.new.places ≡ remove (machines_at_home self.old.places) vpid }
     {
         let Some(machine) = self.places.swap(u64::from(vpid), None) else {
             unreachable!()
@@ -154,14 +154,14 @@ impl Container {
     pub fn give_machine(&mut self, vpid: u32, machine: Machine)
         requires { IsSome (get self.old.places vpid) }
         ensures rest { self.new ≡ record self.old { places = insert self.old.places vpid (Some machine) } }
-        ensures home { home_of self.new.places ≡ insert (home_of self.old.places) vpid machine }
+        ensures home { machines_at_home self.new.places ≡ insert (machines_at_home self.old.places) vpid machine }
     {
         self.places.set(u64::from(vpid), Some(machine));
     }
 
     /// Runs a segment of a process whose machine is at home.
     pub fn run_segment(&mut self, vpid: u32) -> Result<Seg, NoMemory>
-        requires { IsSome (get (home_of self.old.places) vpid) }
+        requires { IsSome (get (machines_at_home self.old.places) vpid) }
         ensures always { IsOk result }
         ensures run { IfOk result (RunsAt self.old.places self.new.places vpid) }
         ensures rest { self.new ≡ record self.old { places = self.new.places } }
@@ -170,12 +170,12 @@ impl Container {
     }
 
     /// Serves the stop of a process that lives and has its machine at home, and settles what becomes of it.
-    #[tactic(auto, unfolding(crate::specs::Settle::serve, crate::specs::Settle::serve_machine))]
+    #[tactic(auto, unfolding(crate::specs::Settle::turn_of_container, crate::specs::Settle::turn_of_machine))]
     pub fn serve<H: Host>(&mut self, host: &mut H, vpid: u32, stop: Stop) -> Result<Served, HostErr>
         requires sound { IsSoundContainer self.old (H.view host.old) }
-        requires home { IsSome (get (home_of self.old.places) vpid) }
-        ensures ok { IfOk result (λ s. serve (container_of self.old (H.view host.old)) vpid stop
-            ≡ Some (turned_as (container_of self.new (H.view host.new)) s)) }
+        requires home { IsSome (get (machines_at_home self.old.places) vpid) }
+        ensures ok { IfOk result (λ s. turn_of_container (container_of self.old (H.view host.old)) vpid stop
+            ≡ Some (container_turn_as (container_of self.new (H.view host.new)) s)) }
         ensures sound { IfOk result (λ _. IsSoundContainer self.new (H.view host.new)) }
         ensures cause { HasCause (H.count host.old) (H.count host.new) (IsErrOf result HostErr.Failed) }
     {
@@ -196,9 +196,9 @@ impl Container {
     /// Tries the call of a process again, which waits or goes on.
     pub fn retry<H: Host>(&mut self, host: &mut H, vpid: u32) -> Result<Served, HostErr>
         requires sound { IsSoundContainer self.old (H.view host.old) }
-        requires home { IsSome (get (home_of self.old.places) vpid) }
-        ensures ok { IfOk result (λ s. serve (container_of self.old (H.view host.old)) vpid a_call
-            ≡ Some (turned_as (container_of self.new (H.view host.new)) s)) }
+        requires home { IsSome (get (machines_at_home self.old.places) vpid) }
+        ensures ok { IfOk result (λ s. turn_of_container (container_of self.old (H.view host.old)) vpid a_call
+            ≡ Some (container_turn_as (container_of self.new (H.view host.new)) s)) }
         ensures sound { IfOk result (λ _. IsSoundContainer self.new (H.view host.new)) }
         ensures cause { HasCause (H.count host.old) (H.count host.new) (IsErrOf result HostErr.Failed) }
     {

@@ -2,15 +2,15 @@
 ghost use Rattle.std.specs.Prelude.{◌≡◌, IsSome};
 ghost use Rattle.std.specs.FinMap.{get};
 ghost use Rattle.dt_calls.specs.Container.{signals_in};
-ghost use Rattle.dt_calls.specs.Delivery.{delivery_to, forced_by, standing};
-ghost use Rattle.dt_calls.specs.InCode.{DeliversAt};
+ghost use Rattle.dt_calls.specs.Delivery.{standing_after_delivery, forced_signal, standing};
+ghost use Rattle.dt_calls.specs.InCode.{DeliveredAt};
 
 use crate::call::Outcome;
 use crate::shared::Process;
 use dt_base::End;
-use dt_numbered::Numbered;
 use dt_rv64::{Machine, Stop};
 use dt_signals::{CallState, Delivery, Sig, deliver};
+use dt_tables::Numbered;
 
 /// Delivers the signal of a fault, or the lowest that is pending and not masked, to a process whose stop was served.
 pub fn deliver_at(
@@ -21,8 +21,8 @@ pub fn deliver_at(
     outcome: &mut Outcome,
 )
     requires { IsSome (get signals.old own.old.caller.vpid) }
-    ensures delivers { DeliversAt
-        (delivery_to forced
+    ensures delivers { DeliveredAt
+        (standing_after_delivery forced
         (standing (signals_in signals.old own.old.caller.vpid) own.old machine.old outcome.old))
         own.old.caller.vpid signals.old signals.new own.new machine.new outcome.new }
     ensures rest { own.new ≡ record own.old {
@@ -36,7 +36,7 @@ pub fn deliver_at(
 }
 
 // Delivers to a process with this signal state.
-#[tactic(auto, unfolding(crate::specs::Delivery::delivery_to))]
+#[tactic(auto, unfolding(crate::specs::Delivery::standing_after_delivery))]
 fn deliver_to(
     sig: &mut Sig,
     own: &mut Process,
@@ -44,7 +44,7 @@ fn deliver_to(
     forced: Option<u8>,
     outcome: &mut Outcome,
 )
-    ensures delivered { delivery_to forced (standing sig.old own.old machine.old outcome.old)
+    ensures delivered { standing_after_delivery forced (standing sig.old own.old machine.old outcome.old)
         ≡ standing sig.new own.new machine.new outcome.new }
     ensures rest { own.new ≡ record own.old {
       caller = record own.old.caller { done = own.new.caller.done };
@@ -66,8 +66,8 @@ fn deliver_to(
 }
 
 /// The signal of a fault.
-pub fn forced_by(stop: Stop) -> Option<u8>
-    ensures { result ≡ forced_by stop }
+pub fn forced_signal(stop: Stop) -> Option<u8>
+    ensures { result ≡ forced_signal stop }
 {
     match stop {
         Stop::Fault(signal) => Some(signal),

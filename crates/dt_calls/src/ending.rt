@@ -3,7 +3,8 @@ ghost use Rattle.std.specs.Prelude.{◌≡◌, ◌≢◌, ℕ, ◌<◌, ◌^◌,
 ghost use Rattle.std.specs.List.{All};
 ghost use Rattle.std.specs.FinMap.{get, keys};
 ghost use Rattle.dt_host.specs.Cause.{HasCause};
-ghost use Rattle.dt_calls.specs.Settle.{ends_one, kills_each, kills_shown, ends, ends_shown};
+ghost use Rattle.dt_calls.specs.Settle.{shared_after_one_end, shared_after_kills, kill_events, shared_after_end};
+ghost use Rattle.dt_calls.specs.Settle.{end_events};
 ghost use Rattle.dt_calls.specs.InCode.{shared_of};
 ghost use Rattle.dt_calls.specs.Sound.{IsSound};
 
@@ -16,7 +17,7 @@ use dt_procs::FIRST_PID;
 impl Shared {
     /// Ends a process, and after the first one all others that live: what each has open is closed, it holds its working
     /// directory no longer, and it is a zombie (_exit(2)). The ends that show are added to the events.
-    #[tactic(auto, unfolding(crate::specs::Settle::ends))]
+    #[tactic(auto, unfolding(crate::specs::Settle::shared_after_end))]
     pub fn end<H: Host>(
         &mut self,
         host: &mut H,
@@ -27,9 +28,9 @@ impl Shared {
         requires sound { IsSound self.old (H.view host.old) }
         requires lives { IsSome (get self.old.processes vpid) }
         ensures ended { OnOk result (shared_of self.new (H.view host.new)
-            ≡ ends vpid end (shared_of self.old (H.view host.old))) }
+            ≡ shared_after_end vpid end (shared_of self.old (H.view host.old))) }
         ensures shown { OnOk result (events.new.items
-            ≡ events.old.items ++ ends_shown vpid end (shared_of self.old (H.view host.old))) }
+            ≡ events.old.items ++ end_events vpid end (shared_of self.old (H.view host.old))) }
         ensures sound { OnOk result (IsSound self.new (H.view host.new)) }
         ensures next { OnOk result (self.new.pids.next ≡ self.old.pids.next) }
         ensures others { (q : ℕ) → vpid ≢ FIRST_PID → q ≢ vpid → OnOk result
@@ -49,12 +50,12 @@ impl Shared {
         Ok(())
     }
 
-    #[tactic(auto, unfolding(crate::specs::Settle::ends_one))]
+    #[tactic(auto, unfolding(crate::specs::Settle::shared_after_one_end))]
     fn end_one<H: Host>(&mut self, host: &mut H, vpid: u32, end: End) -> Result<(), HostErr>
         requires sound { IsSound self.old (H.view host.old) }
         requires lives { IsSome (get self.old.processes vpid) }
         ensures ended { OnOk result (shared_of self.new (H.view host.new)
-            ≡ ends_one vpid end (shared_of self.old (H.view host.old))) }
+            ≡ shared_after_one_end vpid end (shared_of self.old (H.view host.old))) }
         ensures sound { OnOk result (IsSound self.new (H.view host.new)) }
         ensures next { OnOk result (self.new.pids.next ≡ self.old.pids.next) }
         ensures cause { HasCause (H.count host.old) (H.count host.new) (IsErrOf result HostErr.Failed) }
@@ -72,13 +73,13 @@ impl Shared {
     }
 
     // Kills processes, one after the other.
-    #[tactic(auto, unfolding(crate::specs::Settle::kills_each))]
+    #[tactic(auto, unfolding(crate::specs::Settle::shared_after_kills))]
     fn kill_each<H: Host>(&mut self, host: &mut H, vpids: &[u64]) -> Result<(), HostErr>
         requires sound { IsSound self.old (H.view host.old) }
         requires all { keys self.old.processes ≡ vpids.now }
         requires small { All (λ v. v < 2 ^ 32) vpids.now }
         ensures killed { OnOk result (shared_of self.new (H.view host.new)
-            ≡ kills_each vpids.now (shared_of self.old (H.view host.old))) }
+            ≡ shared_after_kills vpids.now (shared_of self.old (H.view host.old))) }
         ensures sound { OnOk result (IsSound self.new (H.view host.new)) }
         ensures next { OnOk result (self.new.pids.next ≡ self.old.pids.next) }
         ensures cause { HasCause (H.count host.old) (H.count host.new) (IsErrOf result HostErr.Failed) }
@@ -94,7 +95,7 @@ impl Shared {
 // Shows that processes were killed.
 fn show_kills(events: &mut Vec<Event>, vpids: &[u64]) -> Result<(), NoMemory>
     requires { All (λ v. v < 2 ^ 32) vpids.now }
-    ensures { OnOk result (events.new.items ≡ events.old.items ++ kills_shown vpids.now) }
+    ensures { OnOk result (events.new.items ≡ events.old.items ++ kill_events vpids.now) }
 {
     for vpid in vpids {
         events.push(Event::Exit(*vpid as u32, End::Signal(SIGKILL)))?;

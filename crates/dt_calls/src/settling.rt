@@ -4,11 +4,12 @@ ghost use Rattle.std.specs.Prelude.{IsErrOf, if◌then◌else◌};
 ghost use Rattle.std.specs.FinMap.{empty, get, keys, remove};
 ghost use Rattle.dt_rv64.specs.declared.machine.Machine.{Machine};
 ghost use Rattle.dt_host.specs.Cause.{HasCause};
-ghost use Rattle.dt_procs.specs.Members.{lives};
+ghost use Rattle.dt_procs.specs.Members.{has_live};
 ghost use Rattle.dt_procs.specs.Table.{members_of};
 ghost use Rattle.dt_procs.specs.declared.member.TheConstants.{PROCESS_LIMIT};
-ghost use Rattle.dt_calls.specs.Settle.{settle, turned, goes_on, is_gone, ends, ends_shown, next_after};
-ghost use Rattle.dt_calls.specs.InCode.{with_child_place, shared_of, container_of, turned_as, effect_as};
+ghost use Rattle.dt_calls.specs.Settle.{turn_of_effect, with_process_turn, served_of_living, served_of_ended};
+ghost use Rattle.dt_calls.specs.Settle.{shared_after_end, end_events, next_after};
+ghost use Rattle.dt_calls.specs.InCode.{with_child_place, shared_of, container_of, container_turn_as, effect_as};
 ghost use Rattle.dt_calls.specs.Sound.{IsSound, IsSoundHand, IsSoundContainer, IsPaired, hand};
 
 use crate::call::{Effect, Outcome};
@@ -16,13 +17,13 @@ use crate::container::{Container, Served};
 use crate::shared::Process;
 use dt_base::{End, NoMemory};
 use dt_host::{Host, HostErr};
-use dt_numbered::Numbered;
 use dt_procs::FIRST_PID;
 use dt_rv64::Machine;
+use dt_tables::Numbered;
 
 // What became of a process that goes on, with a child or without.
-fn goes_on(next: u32, child: &Option<Machine>) -> Served
-    ensures { result ≡ goes_on next child.now }
+fn served_of_living(next: u32, child: &Option<Machine>) -> Served
+    ensures { result ≡ served_of_living next child.now }
 {
     match child {
         Some(_) => Served::Child(next),
@@ -31,8 +32,8 @@ fn goes_on(next: u32, child: &Option<Machine>) -> Served
 }
 
 // What became of a process that ended, with a child or without.
-fn is_gone(next: u32, child: &Option<Machine>) -> Served
-    ensures { result ≡ is_gone next child.now }
+fn served_of_ended(next: u32, child: &Option<Machine>) -> Served
+    ensures { result ≡ served_of_ended next child.now }
 {
     match child {
         Some(_) => Served::LastChild(next),
@@ -42,7 +43,7 @@ fn is_gone(next: u32, child: &Option<Machine>) -> Served
 
 impl Container {
     /// Settles what becomes of a process whose stop was served, and whose machine is at home.
-    #[tactic(auto, unfolding(crate::specs::Settle::settle))]
+    #[tactic(auto, unfolding(crate::specs::Settle::turn_of_effect))]
     pub(crate) fn settle<H: Host>(
         &mut self,
         host: &mut H,
@@ -57,9 +58,9 @@ impl Container {
         requires apart { own.caller.vpid ≢ next }
         requires number { self.old.shared.pids.next ≡ next_after next effect.child }
         ensures ok { (m : Machine) → get self.old.places own.caller.vpid ≡ Some (Some m) → IfOk result (λ s.
-            turned (record (container_of self.old (H.view host.old)) { next = next }) own.caller.vpid
-            (settle next own.caller.vpid (effect_as (shared_of self.old.shared (H.view host.old)) own m effect))
-            ≡ turned_as (container_of self.new (H.view host.new)) s) }
+            with_process_turn (record (container_of self.old (H.view host.old)) { next = next }) own.caller.vpid
+            (turn_of_effect next own.caller.vpid (effect_as (shared_of self.old.shared (H.view host.old)) own m effect))
+            ≡ container_turn_as (container_of self.new (H.view host.new)) s) }
         ensures sound { IfOk result (λ _. IsSoundContainer self.new (H.view host.new)) }
         ensures cause { HasCause (H.count host.old) (H.count host.new) (IsErrOf result HostErr.Failed) }
     {
@@ -67,18 +68,18 @@ impl Container {
         let vpid = own.caller.vpid;
         self.shared.put(own);
         self.events = effect.events;
-        let goes_on = goes_on(next, &effect.child);
-        let is_gone = is_gone(next, &effect.child);
+        let served_of_living = served_of_living(next, &effect.child);
+        let served_of_ended = served_of_ended(next, &effect.child);
         match effect.outcome {
             Outcome::Ends(end) => {
                 self.finish(host, vpid, end, next, effect.child)?;
                 self.counted();
-                Ok(is_gone)
+                Ok(served_of_ended)
             }
             Outcome::Done => {
                 self.enter(next, effect.child)?;
                 self.counted();
-                Ok(goes_on)
+                Ok(served_of_living)
             }
             Outcome::Blocked => {
                 self.enter(next, effect.child)?;
@@ -104,7 +105,7 @@ impl Container {
     pub(crate) fn counted(&self)
         requires paired { IsPaired self.now }
         requires live { (p : ℕ) → IsSome (get self.now.shared.processes p)
-            → lives (members_of self.now.shared.pids) p ≡ true }
+            → has_live (members_of self.now.shared.pids) p ≡ true }
         ensures { length (keys self.now.places) ≤ PROCESS_LIMIT }
     {
         let _next = self.shared.pids.next();
@@ -136,9 +137,9 @@ impl Container {
         requires child { IfSome child (λ _. IsSome (get self.old.shared.processes next)) }
         requires apart { vpid ≢ next }
         ensures shared { OnOk result (shared_of self.new.shared (H.view host.new)
-            ≡ ends vpid end (shared_of self.old.shared (H.view host.old))) }
+            ≡ shared_after_end vpid end (shared_of self.old.shared (H.view host.old))) }
         ensures events { OnOk result (self.new.events
-            ≡ self.old.events ++ ends_shown vpid end (shared_of self.old.shared (H.view host.old))) }
+            ≡ self.old.events ++ end_events vpid end (shared_of self.old.shared (H.view host.old))) }
         ensures places { OnOk result (self.new.places
             ≡ (if vpid == FIRST_PID then empty else with_child_place (remove self.old.places vpid) next child)) }
         ensures next { OnOk result (self.new.shared.pids.next ≡ self.old.shared.pids.next) }

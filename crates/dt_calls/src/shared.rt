@@ -12,13 +12,13 @@ ghost use Rattle.dt_calls.specs.Sound.{IsSound, with_part};
 
 use crate::numbers::FIRST_UMASK;
 use dt_base::Caller;
+use dt_callbase::Fs;
 use dt_fds::Files;
 use dt_host::{Host, HostErr};
 use dt_mcalls::Break;
-use dt_numbered::Numbered;
 use dt_procs::{FIRST_PID, Pids};
-use dt_scene::Fs;
 use dt_signals::Sig;
+use dt_tables::Numbered;
 use dt_tree::{ROOT, Tree};
 use dt_virt::{Clock, Rand};
 use std::alloc::Global;

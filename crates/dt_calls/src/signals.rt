@@ -3,23 +3,23 @@ ghost use Rattle.std.specs.Prelude.{◌≡◌, ◌≤◌, Some, IsSome};
 ghost use Rattle.std.specs.FinMap.{get, insert};
 ghost use Rattle.dt_signals.specs.Signals.{after_exec};
 ghost use Rattle.dt_base.specs.declared.abi.TheConstants.{SIGNAL_LIMIT};
-ghost use Rattle.dt_calls.specs.Container.{raised_at, signals_in};
+ghost use Rattle.dt_calls.specs.Container.{signals_after_raise, signals_in};
 ghost use Rattle.dt_calls.specs.FileCalls.{signals_after};
-ghost use Rattle.dt_calls.specs.Sound.{StillSignalled};
+ghost use Rattle.dt_calls.specs.Sound.{KeepsSignals};
 
 use crate::shared::Shared;
 use dt_base::Answer;
 use dt_base::abi::SIGPIPE;
-use dt_numbered::Numbered;
 use dt_signals::Sig;
+use dt_tables::Numbered;
 
 impl Shared {
     /// Lets a signal be pending at a process, if that lives.
     pub fn raise(&mut self, vpid: u32, signal: u8)
         requires least { 1 ≤ signal }
         requires greatest { signal ≤ SIGNAL_LIMIT }
-        ensures raised { self.new ≡ record self.old { signals = raised_at vpid signal self.old.signals } }
-        ensures still { StillSignalled self.old.signals self.new.signals }
+        ensures raised { self.new ≡ record self.old { signals = signals_after_raise vpid signal self.old.signals } }
+        ensures still { KeepsSignals self.old.signals self.new.signals }
     {
         raise_in(&mut self.signals, vpid, signal);
     }
@@ -27,7 +27,7 @@ impl Shared {
     /// Lets SIGPIPE be pending at a process after a write to a pipe that nobody reads.
     pub fn raise_after(&mut self, vpid: u32, answer: &Answer)
         ensures raised { self.new ≡ record self.old { signals = signals_after vpid answer.now self.old.signals } }
-        ensures still { StillSignalled self.old.signals self.new.signals }
+        ensures still { KeepsSignals self.old.signals self.new.signals }
     {
         match answer {
             Answer::Pipe(_) => self.raise(vpid, SIGPIPE),
@@ -77,7 +77,7 @@ fn reset_in(signals: &mut Numbered<Sig>, vpid: u32)
 fn raise_in(signals: &mut Numbered<Sig>, vpid: u32, signal: u8)
     requires least { 1 ≤ signal }
     requires greatest { signal ≤ SIGNAL_LIMIT }
-    ensures { signals.new ≡ raised_at vpid signal signals.old }
+    ensures { signals.new ≡ signals_after_raise vpid signal signals.old }
 {
     match signals.get_mut(u64::from(vpid)) {
         Some(sig) => sig.raise(signal),

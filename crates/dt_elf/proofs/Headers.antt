@@ -5,7 +5,7 @@ use Rattle.dt_elf.specs.declared.elf.Segment.{Segment}
 use Rattle.std.specs.List.{list_any}
 use Rattle.dt_elf.specs.declared.layout.TheConstants.{HEADER_SIZE}
 use Rattle.dt_elf.specs.declared.header.ProgramHeader.{ProgramHeader}
-use Rattle.dt_elf.specs.Header.{program_header, headers_from, e_phoff, e_phnum, is_load, is_interp, segment_from_header, loads}
+use Rattle.dt_elf.specs.Header.{program_header, headers_from, e_phoff, e_phnum, is_load, is_interp, segment_from_header, load_segments}
 
 headers-suc : (bytes : List ℕ) (at at' left rest : ℕ) → left ≡ suc rest → at + HEADER_SIZE ≡ at' → headers_from bytes at left ≡ program_header bytes at ∷ headers_from bytes at' rest
 unfolding headers_from
@@ -51,18 +51,18 @@ module _ (bytes : List ℕ) (start count : ℕ) where
 abbrev pub loads_after : List ℕ → ℕ → List Segment
 loads_after bytes i = map segment_from_header (filter is_load (headers_after bytes (e_phoff bytes) (e_phnum bytes) i))
 
-pub loads-start : (bytes : List ℕ) → loads_after bytes 0 ≡ loads bytes
-unfolding loads
-loads-start bytes = ap (λ headers. map segment_from_header (filter is_load headers)) (headers_after-start bytes (e_phoff bytes) (e_phnum bytes))
+pub load_segments-start : (bytes : List ℕ) → loads_after bytes 0 ≡ load_segments bytes
+unfolding load_segments
+load_segments-start bytes = ap (λ headers. map segment_from_header (filter is_load headers)) (headers_after-start bytes (e_phoff bytes) (e_phnum bytes))
 
-pub loads-next : (bytes : List ℕ) (i : ℕ) (header : ProgramHeader) → i < e_phnum bytes → header ≡ program_header bytes (e_phoff bytes + HEADER_SIZE * i) → is_load header ≡ true → loads_after bytes i ≡ segment_from_header header ∷ loads_after bytes (i + 1)
-loads-next bytes i header lt is kept = ap (map segment_from_header) (loads-keep bytes (e_phoff bytes) (e_phnum bytes) i lt (ap is_load (sym is) ∙ kept)) ∙ rw is refl
+pub load_segments-next : (bytes : List ℕ) (i : ℕ) (header : ProgramHeader) → i < e_phnum bytes → header ≡ program_header bytes (e_phoff bytes + HEADER_SIZE * i) → is_load header ≡ true → loads_after bytes i ≡ segment_from_header header ∷ loads_after bytes (i + 1)
+load_segments-next bytes i header lt is kept = ap (map segment_from_header) (loads-keep bytes (e_phoff bytes) (e_phnum bytes) i lt (ap is_load (sym is) ∙ kept)) ∙ rw is refl
 
-pub loads-passed : (bytes : List ℕ) (i : ℕ) (header : ProgramHeader) → i < e_phnum bytes → header ≡ program_header bytes (e_phoff bytes + HEADER_SIZE * i) → is_load header ≡ false → loads_after bytes i ≡ loads_after bytes (i + 1)
-loads-passed bytes i header lt is skipped = ap (map segment_from_header) (loads-skip bytes (e_phoff bytes) (e_phnum bytes) i lt (ap is_load (sym is) ∙ skipped))
+pub load_segments-passed : (bytes : List ℕ) (i : ℕ) (header : ProgramHeader) → i < e_phnum bytes → header ≡ program_header bytes (e_phoff bytes + HEADER_SIZE * i) → is_load header ≡ false → loads_after bytes i ≡ loads_after bytes (i + 1)
+load_segments-passed bytes i header lt is skipped = ap (map segment_from_header) (loads-skip bytes (e_phoff bytes) (e_phnum bytes) i lt (ap is_load (sym is) ∙ skipped))
 
-pub loads-end : (bytes : List ℕ) (i : ℕ) → e_phnum bytes ≤ i → loads_after bytes i ≡ []
-loads-end bytes i all = ap (λ headers. map segment_from_header (filter is_load headers)) (headers_after-end bytes (e_phoff bytes) (e_phnum bytes) i all)
+pub load_segments-end : (bytes : List ℕ) (i : ℕ) → e_phnum bytes ≤ i → loads_after bytes i ≡ []
+load_segments-end bytes i all = ap (λ headers. map segment_from_header (filter is_load headers)) (headers_after-end bytes (e_phoff bytes) (e_phnum bytes) i all)
 
 -- one more segment in the table
 pub table-keep : (table : List Segment) (count : ℕ) (segment : Segment) (rest more all : List Segment) → count < length table → take count table ++ rest ≡ all → rest ≡ segment ∷ more → take (count + 1) (set table count segment) ++ more ≡ all

@@ -8,10 +8,10 @@ use Rattle.dt_elf.specs.declared.elf.Segment.{Segment}
 use Rattle.dt_elf.specs.declared.elf.ElfErr.{ElfErr}
 use Rattle.dt_elf.specs.declared.elf.ElfErr.TheVariants.{Short, Magic, Class, Kind, Machine, Header, Segment as BadSegment, Overlap, Interp, NoMemory}
 use Rattle.dt_base.specs.declared.limits.TheConstants.{ADDRESS_LIMIT}
-use Rattle.dt_elf.specs.Header.{table_end, e_phnum, e_entry, loads}
-use Rattle.dt_elf.specs.Executable.{Executable, refusal, exe, exe_of, IsElfErr, table_address, all_placed, is_placed}
+use Rattle.dt_elf.specs.Header.{table_end, e_phnum, e_entry, load_segments}
+use Rattle.dt_elf.specs.Executable.{Executable, refusal, exe, exe_of, IsElfErr, table_address, are_placed, is_placed}
 use Rattle.dt_elf.specs.inner.Refused.{is_short, is_bad_header}
-use Rattle.dt_elf.specs.Placed.{IsPlaced, ArePlaced, EndLow}
+use Rattle.dt_elf.specs.Placed.{IsPlaced, ArePlaced, EndBelowMappings}
 
 other : (test : Bool) (e : ElfErr) (rest : Option ElfErr) → e ≢ NoMemory → rest ≢ Some NoMemory → cond test (Some e) rest ≢ Some NoMemory
 other true e rest apart clean is = apart cc
@@ -36,8 +36,8 @@ is_refusal read Overlap apart is = is
 is_refusal read Interp apart is = is
 is_refusal read NoMemory apart is = absurd (apart refl)
 
-pub refused-is : (bytes : List ℕ) (e : ElfErr) → refusal bytes ≡ Some e → IsElfErr (exe bytes) e
-refused-is bytes e is = is_refusal (exe bytes) e (λ memory. refusal-real bytes (is ∙ ap Some memory)) (ap (exe_of bytes) is)
+pub refusal-is : (bytes : List ℕ) (e : ElfErr) → refusal bytes ≡ Some e → IsElfErr (exe bytes) e
+refusal-is bytes e is = is_refusal (exe bytes) e (λ memory. refusal-real bytes (is ∙ ap Some memory)) (ap (exe_of bytes) is)
 
 passed : (test : Bool) (e : ElfErr) (rest : Option ElfErr) → cond test (Some e) rest ≡ None → (test ≡ false) × (rest ≡ None)
 passed true e rest is = let clash : Some e ≡ None = is in absurd cc
@@ -48,7 +48,7 @@ pub record IsFit (bytes : List ℕ) : Type 0 where
   pub table : table_end bytes ≤ length bytes
   pub few : e_phnum bytes ≤ 64
   pub entry : e_entry bytes < ADDRESS_LIMIT
-  pub placed : all_placed bytes (loads bytes) ≡ true
+  pub placed : are_placed bytes (load_segments bytes) ≡ true
 
 short-not : (bytes : List ℕ) → is_short bytes ≡ false → table_end bytes ≤ length bytes
 short-not bytes is = grind (arith, nat_tests)
@@ -72,7 +72,7 @@ fit bytes none =
     let p5 = passed _ Machine _ p4.1 in
     let p6 = passed _ Header _ p5.1 in
     let p7 = passed _ BadSegment _ p6.1 in
-    record { table = short-not bytes p1.0; few = header-good bytes p6.0; entry = entry-low bytes p6.0; placed = not-not (all_placed bytes (loads bytes)) p7.0 }
+    record { table = short-not bytes p1.0; few = header-good bytes p6.0; entry = entry-low bytes p6.0; placed = not-not (are_placed bytes (load_segments bytes)) p7.0 }
 
 placed-from : (bytes : List ℕ) (segment : Segment) → is_placed bytes segment ≡ true → IsPlaced bytes segment
 placed-from bytes segment placed = record { part = grind (arith, nat_tests, placed); in_file = grind (arith, nat_tests, placed); above = grind (arith, nat_tests, placed); below = grind (arith, nat_tests, placed) }
@@ -81,18 +81,18 @@ and-right : (one other : Bool) → (one && other) ≡ true → other ≡ true
 and-right true other is = is
 and-right false other is = absurd cc
 
-pub are-placed : (bytes : List ℕ) (segments : List Segment) → all_placed bytes segments ≡ true → ArePlaced bytes segments
-unfolding all_placed
+pub are-placed : (bytes : List ℕ) (segments : List Segment) → are_placed bytes segments ≡ true → ArePlaced bytes segments
+unfolding are_placed
 are-placed bytes segments is k d within = placed-from bytes (get_or segments k d) (AllPass-from_list_all (is_placed bytes) segments (and-right (not (length segments == 0)) (list_all (is_placed bytes) segments) is) k d within)
 
-pub ends-low : (bytes : List ℕ) (segments : List Segment) → all_placed bytes segments ≡ true → EndLow segments
+pub ends-low : (bytes : List ℕ) (segments : List Segment) → are_placed bytes segments ≡ true → EndBelowMappings segments
 ends-low bytes segments is k d within = let placed : IsPlaced bytes (get_or segments k d) = are-placed bytes segments is k d within in placed.below
 
 -- what a file that was read has
 pub record IsRead (bytes : List ℕ) (program : Executable) : Type 0 where
   pub fit : IsFit bytes
   pub entry : program.entry ≡ e_entry bytes
-  pub segments : program.segments ≡ loads bytes
+  pub segments : program.segments ≡ load_segments bytes
 
 pub read-parts : (bytes : List ℕ) (program : Executable) → exe bytes ≡ Ok program → IsRead bytes program
 read-parts bytes program is = by-refusal (refusal bytes) refl is
@@ -100,7 +100,7 @@ read-parts bytes program is = by-refusal (refusal bytes) refl is
     by-refusal : (r : Option ElfErr) → refusal bytes ≡ r → exe_of bytes r ≡ Ok program → IsRead bytes program
     by-refusal (Some e) none is = let refused : Result Executable ElfErr = Err e in let clash : refused ≡ Ok program = is in absurd cc
     by-refusal None none is =
-        let read : Executable = record { entry = e_entry bytes; phdr = table_address bytes (loads bytes); segments = loads bytes } in
+        let read : Executable = record { entry = e_entry bytes; phdr = table_address bytes (load_segments bytes); segments = load_segments bytes } in
         let told : Path (Result Executable ElfErr) (Ok read) (Ok program) = is in
         let same : read ≡ program = cc in
         record { fit = fit bytes none; entry = sym (ap (λ (p : Executable). p.entry) same); segments = sym (ap (λ (p : Executable). p.segments) same) }
@@ -109,7 +109,7 @@ pub read-placed : (bytes : List ℕ) (program : Executable) → exe bytes ≡ Ok
 read-placed bytes program is =
     let read : IsRead bytes program = read-parts bytes program is in
     let good : IsFit bytes = read.fit in
-    subst (λ (segments : List Segment). ArePlaced bytes segments) (sym read.segments) (are-placed bytes (loads bytes) good.placed)
+    subst (λ (segments : List Segment). ArePlaced bytes segments) (sym read.segments) (are-placed bytes (load_segments bytes) good.placed)
 
 pub read-entry : (bytes : List ℕ) (program : Executable) → exe bytes ≡ Ok program → program.entry < ADDRESS_LIMIT
 read-entry bytes program is =
@@ -117,5 +117,5 @@ read-entry bytes program is =
     let good : IsFit bytes = read.fit in
     rw read.entry good.entry
 
-pub read-low : (bytes : List ℕ) (program : Executable) → exe bytes ≡ Ok program → EndLow program.segments
+pub read-low : (bytes : List ℕ) (program : Executable) → exe bytes ≡ Ok program → EndBelowMappings program.segments
 read-low bytes program is k d within = let placed : IsPlaced bytes (get_or program.segments k d) = read-placed bytes program is k d within in placed.below

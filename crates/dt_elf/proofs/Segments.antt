@@ -5,22 +5,22 @@ use Rattle.std.proofs.Math.Seq.{drop-cons}
 use Rattle.std.proofs.lemmas.List.{drop_all}
 use Rattle.dt_elf.specs.declared.elf.Segment.{Segment}
 use Rattle.dt_elf.specs.ProgramBreak.{segments_end}
-use Rattle.dt_elf.specs.Executable.{share_byte, overlap, table_address_or, table_address}
+use Rattle.dt_elf.specs.Executable.{share_byte, has_overlap, table_address_or, table_address}
 
 pub drop-last : {X : Type 0} (xs : List X) (i j : ℕ) (d : X) → j + 1 ≡ i → i ≤ length xs → drop j xs ≡ get_or xs j d ∷ drop i xs
 drop-last xs i j d next within = let same : suc j ≡ i = omega arith in rw (drop-cons xs j d (omega arith), same) refl
 
-pub overlap-end : (xs : List Segment) → false ≡ overlap (drop (length xs) xs)
-unfolding overlap
+pub overlap-end : (xs : List Segment) → false ≡ has_overlap (drop (length xs) xs)
+unfolding has_overlap
 overlap-end xs = rw (drop_all (length xs) xs (omega arith)) refl
 
-overlap-cons : (segment : Segment) (rest : List Segment) → overlap (segment ∷ rest) ≡ (list_any (share_byte segment) rest || overlap rest)
-unfolding overlap
+overlap-cons : (segment : Segment) (rest : List Segment) → has_overlap (segment ∷ rest) ≡ (list_any (share_byte segment) rest || has_overlap rest)
+unfolding has_overlap
 overlap-cons segment rest = refl
 
-pub overlap-next : (xs rest : List Segment) (i j : ℕ) (d : Segment) (any found : Bool) → j + 1 ≡ i → i ≤ length xs → found ≡ overlap (drop i xs) → rest ≡ drop i xs → any ≡ list_any (share_byte (get_or xs j d)) rest → (any || found) ≡ overlap (drop j xs)
+pub overlap-next : (xs rest : List Segment) (i j : ℕ) (d : Segment) (any found : Bool) → j + 1 ≡ i → i ≤ length xs → found ≡ has_overlap (drop i xs) → rest ≡ drop i xs → any ≡ list_any (share_byte (get_or xs j d)) rest → (any || found) ≡ has_overlap (drop j xs)
 overlap-next xs rest i j d any found next within sofar is shares =
-    let whole : overlap (drop j xs) ≡ (list_any (share_byte (get_or xs j d)) (drop i xs) || overlap (drop i xs)) = ap overlap (drop-last xs i j d next within) ∙ overlap-cons (get_or xs j d) (drop i xs) in
+    let whole : has_overlap (drop j xs) ≡ (list_any (share_byte (get_or xs j d)) (drop i xs) || has_overlap (drop i xs)) = ap has_overlap (drop-last xs i j d next within) ∙ overlap-cons (get_or xs j d) (drop i xs) in
     rw (shares, is, sofar) (sym whole)
 
 pub table-end : (bytes : List ℕ) (xs : List Segment) → 0 ≡ table_address bytes (drop (length xs) xs)

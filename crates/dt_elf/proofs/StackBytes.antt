@@ -8,7 +8,7 @@ use Rattle.std.proofs.lemmas.Bool.{cases_lt}
 use Rattle.std.proofs.lemmas.Bool.Decides.{nat_tests}
 use Rattle.dt_base.specs.declared.limits.TheConstants.{PAGE_SIZE}
 use Rattle.dt_space.specs.declared.access.TheConstants.{READ, WRITE}
-use Rattle.dt_space.specs.Space.{PageView, has_right, granted, page_at, byte_of, byte_at}
+use Rattle.dt_space.specs.Space.{PageView, has_right, granted_rights, page_at, byte_of, byte_at}
 use Rattle.dt_space.specs.Pages.{zero_padded, pages_from, EndsBelow}
 use Rattle.dt_elf.specs.declared.layout.TheConstants.{SEGMENT_PAGES_END, STACK_START, STACK_PAGES, STACK_TOP}
 use Rattle.dt_elf.specs.Header.{e_phnum}
@@ -67,4 +67,4 @@ pub stack-byte : (program : Executable) (bytes : List ℕ) (given : Invocation) 
 stack-byte program bytes given address low high =
     let ends : EndsBelow (segment_pages program.segments bytes) SEGMENT_PAGES_END = pages-ends program.segments bytes (segment_pages program.segments bytes) SEGMENT_PAGES_END refl in
     let below : EndsBelow (segment_pages program.segments bytes) (STACK_START / PAGE_SIZE) = λ i d within. omega (arith, ends i d within) in
-    byte-pages_from (segment_pages program.segments bytes) trampoline_pages (STACK_START / PAGE_SIZE) (granted (READ + WRITE)) READ (stack_contents program (e_phnum bytes) given) STACK_PAGES address below refl low high
+    byte-pages_from (segment_pages program.segments bytes) trampoline_pages (STACK_START / PAGE_SIZE) (granted_rights (READ + WRITE)) READ (stack_contents program (e_phnum bytes) given) STACK_PAGES address below refl low high

@@ -3,34 +3,34 @@ use Rattle.std.proofs.Common.{◌≡◌, ℕ, ◌+◌, ◌-◌, ◌*◌, ◌<◌
 use Rattle.std.proofs.lemmas.List.{drop_all, take_all, length-replicate}
 use Rattle.dt_base.proofs.Lists.{drop-at}
 use Rattle.dt_base.specs.Fields.{low_bytes}
-use Rattle.dt_elf.specs.Stack.{Invocation, terminated, addresses, word_bytes, size, strings, strings_start, stack_words_at, stack_words, laid_out}
+use Rattle.dt_elf.specs.Stack.{Invocation, terminated_words, word_addresses, word_bytes, words_size, strings, strings_start, stack_words_at, stack_words, stack_layout}
 use Rattle.dt_elf.specs.declared.layout.TheConstants.{RANDOM_SIZE, STACK_START}
 use Rattle.dt_base.specs.declared.limits.TheConstants.{ARGUMENT_LIMIT, PATH_LIMIT}
 use Rattle.dt_base.specs.Command.{Words}
 use Rattle.dt_elf.specs.Executable.{Executable}
 
-size-cons : (word : List ℕ) (rest : List (List ℕ)) → size (word ∷ rest) ≡ length word + 9 + size rest
-unfolding size
+size-cons : (word : List ℕ) (rest : List (List ℕ)) → words_size (word ∷ rest) ≡ length word + 9 + words_size rest
+unfolding words_size
 size-cons word rest = refl
 
-pub size-nil : size [] ≡ 0
-unfolding size
+pub size-nil : words_size [] ≡ 0
+unfolding words_size
 size-nil = refl
 
-terminated-cons : (word : List ℕ) (rest : List (List ℕ)) → terminated (word ∷ rest) ≡ word ++ (0 ∷ terminated rest)
-unfolding terminated
+terminated-cons : (word : List ℕ) (rest : List (List ℕ)) → terminated_words (word ∷ rest) ≡ word ++ (0 ∷ terminated_words rest)
+unfolding terminated_words
 terminated-cons word rest = refl
 
-pub terminated-nil : terminated [] ≡ []
-unfolding terminated
+pub terminated-nil : terminated_words [] ≡ []
+unfolding terminated_words
 terminated-nil = refl
 
-addresses-cons : (address : ℕ) (word : List ℕ) (rest : List (List ℕ)) → addresses address (word ∷ rest) ≡ address ∷ addresses (address + (length word + 1)) rest
-unfolding addresses
+addresses-cons : (address : ℕ) (word : List ℕ) (rest : List (List ℕ)) → word_addresses address (word ∷ rest) ≡ address ∷ word_addresses (address + (length word + 1)) rest
+unfolding word_addresses
 addresses-cons address word rest = refl
 
-pub addresses-nil : (address : ℕ) → addresses address [] ≡ []
-unfolding addresses
+pub addresses-nil : (address : ℕ) → word_addresses address [] ≡ []
+unfolding word_addresses
 addresses-nil address = refl
 
 word_bytes-cons : (word : ℕ) (rest : List ℕ) → word_bytes (word ∷ rest) ≡ low_bytes 8 word ++ word_bytes rest
@@ -43,35 +43,35 @@ word_bytes-nil = refl
 
 -- one word on
 
-pub size-on : (words : List (List ℕ)) (i : ℕ) (word : List ℕ) → i < length words → word ≡ get_or words i word → size (drop i words) ≡ length word + 9 + size (drop (i + 1) words)
-size-on words i word lt is = ap size (drop-at words i word word lt is) ∙ size-cons word (drop (i + 1) words)
+pub size-on : (words : List (List ℕ)) (i : ℕ) (word : List ℕ) → i < length words → word ≡ get_or words i word → words_size (drop i words) ≡ length word + 9 + words_size (drop (i + 1) words)
+size-on words i word lt is = ap words_size (drop-at words i word word lt is) ∙ size-cons word (drop (i + 1) words)
 
-pub size-end : (words : List (List ℕ)) (i : ℕ) → length words ≤ i → size (drop i words) ≡ 0
-size-end words i all = ap size (drop_all i words all) ∙ size-nil
+pub size-end : (words : List (List ℕ)) (i : ℕ) → length words ≤ i → words_size (drop i words) ≡ 0
+size-end words i all = ap words_size (drop_all i words all) ∙ size-nil
 
-pub terminated-on : (words : List (List ℕ)) (i : ℕ) (word text : List ℕ) → i < length words → word ≡ get_or words i word → (text ++ word) ++ (0 ∷ []) ++ terminated (drop (i + 1) words) ≡ text ++ terminated (drop i words)
+pub terminated-on : (words : List (List ℕ)) (i : ℕ) (word text : List ℕ) → i < length words → word ≡ get_or words i word → (text ++ word) ++ (0 ∷ []) ++ terminated_words (drop (i + 1) words) ≡ text ++ terminated_words (drop i words)
 terminated-on words i word text lt is =
-    let parts : terminated (drop i words) ≡ word ++ (0 ∷ terminated (drop (i + 1) words)) = ap terminated (drop-at words i word word lt is) ∙ terminated-cons word (drop (i + 1) words) in
+    let parts : terminated_words (drop i words) ≡ word ++ (0 ∷ terminated_words (drop (i + 1) words)) = ap terminated_words (drop-at words i word word lt is) ∙ terminated-cons word (drop (i + 1) words) in
     rw parts (simp append_assoc)
 
-pub terminated-end : (words : List (List ℕ)) (i : ℕ) (text : List ℕ) → length words ≤ i → text ++ terminated (drop i words) ≡ text
+pub terminated-end : (words : List (List ℕ)) (i : ℕ) (text : List ℕ) → length words ≤ i → text ++ terminated_words (drop i words) ≡ text
 terminated-end words i text all = rw (drop_all i words all, terminated-nil) (append-nil text)
 
-pub length-terminated-on : (words : List (List ℕ)) (i : ℕ) (word : List ℕ) → i < length words → word ≡ get_or words i word → length (terminated (drop i words)) ≡ length word + 1 + length (terminated (drop (i + 1) words))
+pub length-terminated-on : (words : List (List ℕ)) (i : ℕ) (word : List ℕ) → i < length words → word ≡ get_or words i word → length (terminated_words (drop i words)) ≡ length word + 1 + length (terminated_words (drop (i + 1) words))
 length-terminated-on words i word lt is =
-    let parts : terminated (drop i words) ≡ word ++ (0 ∷ terminated (drop (i + 1) words)) = ap terminated (drop-at words i word word lt is) ∙ terminated-cons word (drop (i + 1) words) in
-    let long = ap length parts ∙ length-append word (0 ∷ terminated (drop (i + 1) words)) in
+    let parts : terminated_words (drop i words) ≡ word ++ (0 ∷ terminated_words (drop (i + 1) words)) = ap terminated_words (drop-at words i word word lt is) ∙ terminated-cons word (drop (i + 1) words) in
+    let long = ap length parts ∙ length-append word (0 ∷ terminated_words (drop (i + 1) words)) in
     omega (arith, long)
 
-pub length-terminated-end : (words : List (List ℕ)) (i : ℕ) → length words ≤ i → length (terminated (drop i words)) ≡ 0
-length-terminated-end words i all = ap (λ (ws : List (List ℕ)). length (terminated ws)) (drop_all i words all) ∙ ap length terminated-nil
+pub length-terminated-end : (words : List (List ℕ)) (i : ℕ) → length words ≤ i → length (terminated_words (drop i words)) ≡ 0
+length-terminated-end words i all = ap (λ (ws : List (List ℕ)). length (terminated_words ws)) (drop_all i words all) ∙ ap length terminated-nil
 
-pub addresses-on : (words : List (List ℕ)) (i next : ℕ) (word list : List ℕ) → i < length words → word ≡ get_or words i word → (list ++ next ∷ []) ++ addresses (next + (length word + 1)) (drop (i + 1) words) ≡ list ++ addresses next (drop i words)
+pub addresses-on : (words : List (List ℕ)) (i next : ℕ) (word list : List ℕ) → i < length words → word ≡ get_or words i word → (list ++ next ∷ []) ++ word_addresses (next + (length word + 1)) (drop (i + 1) words) ≡ list ++ word_addresses next (drop i words)
 addresses-on words i next word list lt is =
-    let parts : addresses next (drop i words) ≡ next ∷ addresses (next + (length word + 1)) (drop (i + 1) words) = ap (addresses next) (drop-at words i word word lt is) ∙ addresses-cons next word (drop (i + 1) words) in
+    let parts : word_addresses next (drop i words) ≡ next ∷ word_addresses (next + (length word + 1)) (drop (i + 1) words) = ap (word_addresses next) (drop-at words i word word lt is) ∙ addresses-cons next word (drop (i + 1) words) in
     rw parts (simp append_assoc)
 
-pub addresses-end : (words : List (List ℕ)) (i next : ℕ) (list : List ℕ) → length words ≤ i → list ++ addresses next (drop i words) ≡ list
+pub addresses-end : (words : List (List ℕ)) (i next : ℕ) (list : List ℕ) → length words ≤ i → list ++ word_addresses next (drop i words) ≡ list
 addresses-end words i next list all = rw (drop_all i words all, addresses-nil next) (append-nil list)
 
 pub word_bytes-on : (words : List ℕ) (i d : ℕ) (bytes : List ℕ) → i < length words → (bytes ++ low_bytes 8 (get_or words i d)) ++ word_bytes (drop (i + 1) words) ≡ bytes ++ word_bytes (drop i words)
@@ -94,22 +94,22 @@ length-word_bytes (word ∷ rest) =
     omega (arith, long, more, eight)
 
 -- words, each with its 0 and 8 bytes for its address, are what they count
-pub length-terminated : (words : List (List ℕ)) → length (terminated words) + 8 * length words ≡ size words
+pub length-terminated : (words : List (List ℕ)) → length (terminated_words words) + 8 * length words ≡ words_size words
 length-terminated [] = let none = ap length terminated-nil in omega (arith, none, size-nil)
 length-terminated (word ∷ rest) =
-    let long = ap length (terminated-cons word rest) ∙ length-append word (0 ∷ terminated rest) in
+    let long = ap length (terminated-cons word rest) ∙ length-append word (0 ∷ terminated_words rest) in
     let more = length-terminated rest in
     let count = size-cons word rest in
     omega (arith, long, more, count)
 
-pub length-addresses : (words : List (List ℕ)) (address : ℕ) → length (addresses address words) ≡ length words
+pub length-addresses : (words : List (List ℕ)) (address : ℕ) → length (word_addresses address words) ≡ length words
 length-addresses [] address = ap length (addresses-nil address)
 length-addresses (word ∷ rest) address =
     let long = ap length (addresses-cons address word rest) in
     let more = length-addresses rest (address + (length word + 1)) in
     omega (arith, long, more)
 
-pub length-strings : (given : Invocation) → length (strings given) ≡ length given.random + (length given.execfn + (1 + (length (terminated given.words.args) + length (terminated given.words.env))))
+pub length-strings : (given : Invocation) → length (strings given) ≡ length given.random + (length given.execfn + (1 + (length (terminated_words given.words.args) + length (terminated_words given.words.env))))
 length-strings given = simp length-append (omega arith)
 
 pub length-words : (program : Executable) (headers : ℕ) (words : Words) (execfn : List ℕ) (start : ℕ) → length (stack_words_at program headers words execfn start) ≡ 31 + (length words.args + length words.env)
@@ -124,7 +124,7 @@ pub stack_words-are : (program : Executable) (headers : ℕ) (given : Invocation
 unfolding stack_words
 stack_words-are program headers given start is = rw is refl
 
-pub has-room : (program : Executable) (headers : ℕ) (given : Invocation) → size given.words.args + size given.words.env ≤ ARGUMENT_LIMIT → length given.execfn ≤ PATH_LIMIT → length given.random ≡ RANDOM_SIZE → HasRoom program headers given
+pub has-room : (program : Executable) (headers : ℕ) (given : Invocation) → words_size given.words.args + words_size given.words.env ≤ ARGUMENT_LIMIT → length given.execfn ≤ PATH_LIMIT → length given.random ≡ RANDOM_SIZE → HasRoom program headers given
 has-room program headers given few short sixteen =
     let args = length-terminated given.words.args in
     let env = length-terminated given.words.env in
@@ -135,7 +135,7 @@ has-room program headers given few short sixteen =
 pub listed-whole : (w1 w2 w3 w4 w5 w6 args env rest : List ℕ) (count : ℕ) → w1 ≡ [] ++ count ∷ [] → w2 ≡ w1 ++ args → w3 ≡ w2 ++ 0 ∷ [] → w4 ≡ w3 ++ env → w5 ≡ w4 ++ 0 ∷ [] → w6 ≡ w5 ++ rest → w6 ≡ count ∷ (args ++ (0 ∷ (env ++ (0 ∷ rest))))
 listed-whole w1 w2 w3 w4 w5 w6 args env rest count e1 e2 e3 e4 e5 e6 = rw (e6, e5, e4, e3, e2, e1) (simp append_assoc)
 
-pub laid-whole : (zeros both resized whole words text : List ℕ) (pointer start len : ℕ) → STACK_START ≤ pointer → pointer + 8 * length words ≤ start → zeros ≡ replicate (pointer - STACK_START) 0 → both ≡ zeros ++ word_bytes words → length both ≡ len → resized ≡ take (start - STACK_START) both ++ replicate (start - STACK_START - len) 0 → whole ≡ resized ++ text → whole ≡ laid_out pointer words start text
+pub laid-whole : (zeros both resized whole words text : List ℕ) (pointer start len : ℕ) → STACK_START ≤ pointer → pointer + 8 * length words ≤ start → zeros ≡ replicate (pointer - STACK_START) 0 → both ≡ zeros ++ word_bytes words → length both ≡ len → resized ≡ take (start - STACK_START) both ++ replicate (start - STACK_START - len) 0 → whole ≡ resized ++ text → whole ≡ stack_layout pointer words start text
 laid-whole zeros both resized whole words text pointer start len above apart zeros_are both_are len_is resized_is whole_is =
     let prefix_length = ap length zeros_are ∙ length-replicate (pointer - STACK_START) 0 in
     let long = ap length both_are ∙ length-append zeros (word_bytes words) in

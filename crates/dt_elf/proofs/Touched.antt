@@ -4,15 +4,15 @@ use Rattle.std.proofs.lemmas.List.{length-map, map-append, drop_all, take_all, g
 use Rattle.std.proofs.lemmas.List.Elements.{All-map}
 use Rattle.std.proofs.lemmas.Bool.{cases_lt}
 use Rattle.std.proofs.lemmas.Bool.Decides.{nat_tests}
-use Rattle.dt_base.specs.Bytes.{overwritten}
+use Rattle.dt_base.specs.Bytes.{with_bytes_at}
 use Rattle.std.proofs.lemmas.List.FromFn.{length-map-range_with_len, get_or-map-range_with_len}
 use Rattle.dt_base.specs.declared.limits.TheConstants.{PAGE_SIZE}
 use Rattle.dt_elf.specs.declared.elf.Segment.{Segment}
-use Rattle.dt_elf.specs.SegmentPages.{touched, rights_with, numbers_below, page_rights, segment_byte, loaded_byte, loaded_bytes, loaded_page}
+use Rattle.dt_elf.specs.SegmentPages.{is_segment_page, rights_with, numbers_below, page_rights, segment_byte, loaded_byte, loaded_bytes, loaded_page}
 use Rattle.dt_elf.specs.inner.Next.{IsNext}
 use Rattle.dt_elf.proofs.Segments.{drop-last}
 use Rattle.dt_elf.proofs.Numbers.{numbers-on, numbers-low}
-use Rattle.dt_space.specs.Space.{PageView, granted}
+use Rattle.dt_space.specs.Space.{PageView, granted_rights}
 use Rattle.dt_space.specs.Pages.{zero_padded, pages_from, EndsBelow}
 
 -- rights
@@ -42,17 +42,17 @@ get-loaded_bytes segments bytes start count i d lt = get_or-map-range_with_len (
 within-take : (bytes : List ℕ) (from count k : ℕ) → k < count → get_or (take count (drop from bytes)) k 0 ≡ get_or bytes (from + k) 0
 within-take bytes from count k lt = get_or-take count (drop from bytes) k 0 lt ∙ get_or-drop from bytes k 0
 
-get-inside : (old bytes : List ℕ) (offset i : ℕ) → offset + length bytes ≤ length old → offset ≤ i → i < offset + length bytes → get_or (overwritten old offset bytes) i 0 ≡ get_or bytes (i - offset) 0
+get-inside : (old bytes : List ℕ) (offset i : ℕ) → offset + length bytes ≤ length old → offset ≤ i → i < offset + length bytes → get_or (with_bytes_at old offset bytes) i 0 ≡ get_or bytes (i - offset) 0
 get-inside old bytes offset i fits low high =
     let prefix_length : length (take offset old) ≡ offset = length-take-le offset old (omega arith) in
     rw append_assoc (get_or-append_right (take offset old) (bytes ++ drop (offset + length bytes) old) offset i 0 prefix_length low ∙ get_or_append_left bytes (drop (offset + length bytes) old) 0 (i - offset) (omega arith))
 
-get-under : (old bytes : List ℕ) (offset i : ℕ) → offset + length bytes ≤ length old → i < offset → get_or (overwritten old offset bytes) i 0 ≡ get_or old i 0
+get-under : (old bytes : List ℕ) (offset i : ℕ) → offset + length bytes ≤ length old → i < offset → get_or (with_bytes_at old offset bytes) i 0 ≡ get_or old i 0
 get-under old bytes offset i fits under =
     let prefix_length : length (take offset old) ≡ offset = length-take-le offset old (omega arith) in
     rw append_assoc (get_or_append_left (take offset old) (bytes ++ drop (offset + length bytes) old) 0 i (omega arith) ∙ get_or-take offset old i 0 under)
 
-get-over : (old bytes : List ℕ) (offset i : ℕ) → offset + length bytes ≤ length old → offset + length bytes ≤ i → get_or (overwritten old offset bytes) i 0 ≡ get_or old i 0
+get-over : (old bytes : List ℕ) (offset i : ℕ) → offset + length bytes ≤ length old → offset + length bytes ≤ i → get_or (with_bytes_at old offset bytes) i 0 ≡ get_or old i 0
 get-over old bytes offset i fits over =
     let prefix_length : length (take offset old) ≡ offset = length-take-le offset old (omega arith) in
     let position : offset + length bytes + (i - offset - length bytes) ≡ i = omega arith in
@@ -71,7 +71,7 @@ byte-over : (segment : Segment) (bytes : List ℕ) (address other : ℕ) → seg
 byte-over segment bytes address other over = grind (arith, nat_tests)
 
 -- where the file part meets the page, its bytes are put there
-pub put-part : (segment : Segment) (bytes old : List ℕ) (start low high from count : ℕ) → length old ≡ PAGE_SIZE → segment.offset + segment.filesz ≤ length bytes → low ≡ max segment.vaddr start → high ≡ min (segment.vaddr + segment.filesz) (start + PAGE_SIZE) → low < high → from ≡ segment.offset + (low - segment.vaddr) → count ≡ high - low → (i : ℕ) → i < PAGE_SIZE → get_or (overwritten old (low - start) (take count (drop from bytes))) i 0 ≡ segment_byte segment bytes (start + i) (get_or old i 0)
+pub put-part : (segment : Segment) (bytes old : List ℕ) (start low high from count : ℕ) → length old ≡ PAGE_SIZE → segment.offset + segment.filesz ≤ length bytes → low ≡ max segment.vaddr start → high ≡ min (segment.vaddr + segment.filesz) (start + PAGE_SIZE) → low < high → from ≡ segment.offset + (low - segment.vaddr) → count ≡ high - low → (i : ℕ) → i < PAGE_SIZE → get_or (with_bytes_at old (low - start) (take count (drop from bytes))) i 0 ≡ segment_byte segment bytes (start + i) (get_or old i 0)
 put-part segment bytes old start low high from count whole in_file low_is high_is some from_is count_is i within =
     let part = take count (drop from bytes) in
     let long : length part ≡ count = length-take-le count (drop from bytes) (omega (arith, length-drop from bytes)) in
@@ -122,15 +122,15 @@ pages-one number rights contents whole =
     rw (all, none, append-nil) refl
 
 -- the pages up to the next one that is touched
-pub pages-on : (segments : List Segment) (bytes contents : List ℕ) (space new : List PageView) (number next rights : ℕ) → touched segments number ≡ true → IsNext (touched segments) (number + 1) next → space ≡ map (loaded_page segments bytes) (numbers_below number (touched segments)) → rights ≡ page_rights segments number → contents ≡ loaded_bytes segments bytes (PAGE_SIZE * number) PAGE_SIZE → new ≡ space ++ pages_from number (granted rights) contents 1 → new ≡ map (loaded_page segments bytes) (numbers_below next (touched segments))
+pub pages-on : (segments : List Segment) (bytes contents : List ℕ) (space new : List PageView) (number next rights : ℕ) → is_segment_page segments number ≡ true → IsNext (is_segment_page segments) (number + 1) next → space ≡ map (loaded_page segments bytes) (numbers_below number (is_segment_page segments)) → rights ≡ page_rights segments number → contents ≡ loaded_bytes segments bytes (PAGE_SIZE * number) PAGE_SIZE → new ≡ space ++ pages_from number (granted_rights rights) contents 1 → new ≡ map (loaded_page segments bytes) (numbers_below next (is_segment_page segments))
 pages-on segments bytes contents space new number next rights hit is sofar rights_is contents_is new_is =
     let long : length contents ≡ PAGE_SIZE = ap length contents_is ∙ length-loaded_bytes segments bytes (PAGE_SIZE * number) PAGE_SIZE in
-    let page : pages_from number (granted rights) contents 1 ≡ map (loaded_page segments bytes) (number ∷ []) = pages-one number (granted rights) contents long ∙ rw (rights_is, contents_is) refl in
-    new_is ∙ rw (sofar, page) (sym (ap (map (loaded_page segments bytes)) (numbers-on (touched segments) number next hit is) ∙ map-append (loaded_page segments bytes) (numbers_below number (touched segments)) (number ∷ [])))
+    let page : pages_from number (granted_rights rights) contents 1 ≡ map (loaded_page segments bytes) (number ∷ []) = pages-one number (granted_rights rights) contents long ∙ rw (rights_is, contents_is) refl in
+    new_is ∙ rw (sofar, page) (sym (ap (map (loaded_page segments bytes)) (numbers-on (is_segment_page segments) number next hit is) ∙ map-append (loaded_page segments bytes) (numbers_below number (is_segment_page segments)) (number ∷ [])))
 
-pub pages-length : (segments : List Segment) (bytes : List ℕ) (space : List PageView) (number : ℕ) → space ≡ map (loaded_page segments bytes) (numbers_below number (touched segments)) → length space ≡ length (numbers_below number (touched segments))
+pub pages-length : (segments : List Segment) (bytes : List ℕ) (space : List PageView) (number : ℕ) → space ≡ map (loaded_page segments bytes) (numbers_below number (is_segment_page segments)) → length space ≡ length (numbers_below number (is_segment_page segments))
 pages-length segments bytes space number is = ap length is ∙ length-map _ _
 
 -- each of the pages so far is below the next
-pub pages-ends : (segments : List Segment) (bytes : List ℕ) (space : List PageView) (number : ℕ) → space ≡ map (loaded_page segments bytes) (numbers_below number (touched segments)) → EndsBelow space number
-pages-ends segments bytes space number is = rw is (All-map (λ (page : PageView). page.number < number) (loaded_page segments bytes) (numbers_below number (touched segments)) (numbers-low (touched segments) number))
+pub pages-ends : (segments : List Segment) (bytes : List ℕ) (space : List PageView) (number : ℕ) → space ≡ map (loaded_page segments bytes) (numbers_below number (is_segment_page segments)) → EndsBelow space number
+pages-ends segments bytes space number is = rw is (All-map (λ (page : PageView). page.number < number) (loaded_page segments bytes) (numbers_below number (is_segment_page segments)) (numbers-low (is_segment_page segments) number))

@@ -7,7 +7,7 @@ use Rattle.dt_elf.specs.declared.elf.ElfErr.{ElfErr}
 use Rattle.dt_elf.specs.declared.elf.ElfErr.TheVariants.{Short, Magic, Class, Kind, Machine, Header, Segment as BadSegment, Overlap, Interp, NoMemory}
 use Rattle.dt_elf.specs.declared.elf.Elf.{Elf}
 use Rattle.dt_elf.specs.declared.elf.Segment.{Segment}
-use Rattle.dt_elf.specs.Header.{e_type, e_machine, e_entry, e_phoff, e_phentsize, e_phnum, table_end, program_headers, is_interp, loads}
+use Rattle.dt_elf.specs.Header.{e_type, e_machine, e_entry, e_phoff, e_phentsize, e_phnum, table_end, program_headers, is_interp, load_segments}
 
 -- the file part lies in the file and in the memory part, and this between the first page and the mappings' start
 abbrev pub is_placed : List ℕ → Segment → Bool
@@ -16,17 +16,17 @@ is_placed bytes segment =
     && nat_le PAGE_SIZE segment.vaddr && nat_le (segment.vaddr + segment.memsz) MMAP_START
 
 -- there is a segment, and each is placed well
-unfoldable pub all_placed : List ℕ → List Segment → Bool
-all_placed bytes segments = not (length segments == 0) && list_all (is_placed bytes) segments
+unfoldable pub are_placed : List ℕ → List Segment → Bool
+are_placed bytes segments = not (length segments == 0) && list_all (is_placed bytes) segments
 
 -- some byte of memory is in both segments
 abbrev pub share_byte : Segment → Segment → Bool
 share_byte one other = nat_lt one.vaddr (other.vaddr + other.memsz) && nat_lt other.vaddr (one.vaddr + one.memsz)
 
 -- some two of the segments share a byte
-unfoldable pub overlap : List Segment → Bool
-overlap [] = false
-overlap (segment ∷ rest) = list_any (share_byte segment) rest || overlap rest
+unfoldable pub has_overlap : List Segment → Bool
+has_overlap [] = false
+has_overlap (segment ∷ rest) = list_any (share_byte segment) rest || has_overlap rest
 
 -- the first reason why a file is no executable that can be started
 abbrev pub refusal : List ℕ → Option ElfErr
@@ -38,20 +38,20 @@ refusal bytes =
     else if not (e_machine bytes == EM_RISCV) then Some Machine
     else if not (e_phentsize bytes == HEADER_SIZE) || e_phnum bytes == 0 || nat_lt HEADER_LIMIT (e_phnum bytes)
     || nat_le ADDRESS_LIMIT (e_entry bytes) then Some Header
-    else if not (all_placed bytes (loads bytes)) then Some BadSegment
-    else if overlap (loads bytes) then Some Overlap
+    else if not (are_placed bytes (load_segments bytes)) then Some BadSegment
+    else if has_overlap (load_segments bytes) then Some Overlap
     else if list_any is_interp (program_headers bytes) then Some Interp
     else None
 
 -- the segment's file part holds all program headers
-abbrev pub holds_table : List ℕ → Segment → Bool
-holds_table bytes segment =
+abbrev pub has_table : List ℕ → Segment → Bool
+has_table bytes segment =
     nat_le segment.offset (e_phoff bytes) && nat_le (table_end bytes) (segment.offset + segment.filesz)
 
 -- the address of the program headers in a segment that holds them all, else another
 abbrev pub table_address_or : List ℕ → Segment → ℕ → ℕ
 table_address_or bytes segment other =
-    if holds_table bytes segment then segment.vaddr + (e_phoff bytes - segment.offset) else other
+    if has_table bytes segment then segment.vaddr + (e_phoff bytes - segment.offset) else other
 
 -- the address of the program headers: in the first segment that holds them all, else 0
 unfoldable pub table_address : List ℕ → List Segment → ℕ
@@ -69,8 +69,8 @@ abbrev pub exe_of : List ℕ → Option ElfErr → Result Executable ElfErr
 exe_of bytes (Some refused) = Err refused
 exe_of bytes None = Ok (record {
   entry = e_entry bytes;
-  phdr = table_address bytes (loads bytes);
-  segments = loads bytes;
+  phdr = table_address bytes (load_segments bytes);
+  segments = load_segments bytes;
 })
 
 -- the executable that a file is, or its first refusal

@@ -7,22 +7,22 @@ use Rattle.dt_elf.specs.declared.layout.TheConstants.{STACK_START, STACK_PAGES, 
 use Rattle.dt_elf.specs.Header.{e_phnum}
 use Rattle.dt_elf.specs.Executable.{Executable}
 use Rattle.dt_elf.specs.SegmentPages.{page_numbers, segment_pages}
-use Rattle.dt_elf.specs.Stack.{Invocation, size, stack_pointer, stack_contents}
+use Rattle.dt_elf.specs.Stack.{Invocation, words_size, stack_pointer, stack_contents}
 use Rattle.dt_rv64.specs.declared.machine.Machine.{Machine}
 use Rattle.dt_space.specs.declared.access.TheConstants.{READ, WRITE, EXECUTE}
-use Rattle.dt_space.specs.Space.{PageView, granted}
+use Rattle.dt_space.specs.Space.{PageView, granted_rights}
 use Rattle.dt_space.specs.Pages.{pages_from}
 
 -- the stack's pages, its contents running through them: the byte at an address of the stack is that of the contents at
 -- the offset from the stack's start, or 0 past their end (proved as `stack-byte` in proofs/StackBytes.antt)
 abbrev pub stack_pages : Executable → List ℕ → Invocation → List PageView
 stack_pages program bytes given =
-    pages_from (STACK_START / PAGE_SIZE) (granted (READ + WRITE)) (stack_contents program (e_phnum bytes) given)
+    pages_from (STACK_START / PAGE_SIZE) (granted_rights (READ + WRITE)) (stack_contents program (e_phnum bytes) given)
     STACK_PAGES
 
 -- the page to which handlers of signals return
 abbrev pub trampoline_pages : List PageView
-trampoline_pages = pages_from (TRAMPOLINE / PAGE_SIZE) (granted (READ + EXECUTE)) TRAMPOLINE_CODE 1
+trampoline_pages = pages_from (TRAMPOLINE / PAGE_SIZE) (granted_rights (READ + EXECUTE)) TRAMPOLINE_CODE 1
 
 -- the first machine: the stack pointer, and all other registers 0
 abbrev pub first_machine : Executable → List ℕ → Invocation → Machine
@@ -35,7 +35,7 @@ first_machine program bytes given = record {
 -- the words or the pages pass their limit
 abbrev pub is_too_big : Executable → Words → Bool
 is_too_big program words =
-    nat_lt ARGUMENT_LIMIT (size words.args + size words.env)
+    nat_lt ARGUMENT_LIMIT (words_size words.args + words_size words.env)
     || nat_lt PAGE_LIMIT (length (page_numbers program.segments) + STACK_PAGES + 1)
 
 -- the machine that starts an executable, where nothing passes its limit

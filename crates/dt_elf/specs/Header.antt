@@ -84,5 +84,5 @@ segment_from_header header = record {
 }
 
 -- the segments that take memory, in the order of their headers
-unfoldable pub loads : List ℕ → List Segment
-loads bytes = map segment_from_header (filter is_load (program_headers bytes))
+unfoldable pub load_segments : List ℕ → List Segment
+load_segments bytes = map segment_from_header (filter is_load (program_headers bytes))

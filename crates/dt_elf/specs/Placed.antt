@@ -16,5 +16,5 @@ abbrev pub ArePlaced : List ℕ → List Segment → Type 0
 ArePlaced bytes segments = All (IsPlaced bytes) segments
 
 -- each ends where mappings may start, or below
-abbrev pub EndLow : List Segment → Type 0
-EndLow segments = All (λ segment. segment.vaddr + segment.memsz ≤ MMAP_START) segments
+abbrev pub EndBelowMappings : List Segment → Type 0
+EndBelowMappings segments = All (λ segment. segment.vaddr + segment.memsz ≤ MMAP_START) segments

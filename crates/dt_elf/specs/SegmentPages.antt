@@ -4,16 +4,16 @@ use Rattle.std.specs.List.{filter, list_any, range_with_len}
 use Rattle.dt_base.specs.declared.limits.TheConstants.{PAGE_SIZE}
 use Rattle.dt_elf.specs.declared.layout.TheConstants.{SEGMENT_PAGES_END}
 use Rattle.dt_elf.specs.declared.elf.Segment.{Segment}
-use Rattle.dt_space.specs.Space.{PageView, granted}
+use Rattle.dt_space.specs.Space.{PageView, granted_rights}
 
 -- a segment has memory in the page of this number
-abbrev pub touches : ℕ → Segment → Bool
-touches number segment =
+abbrev pub has_page : ℕ → Segment → Bool
+has_page number segment =
     nat_lt segment.vaddr (PAGE_SIZE * (number + 1)) && nat_lt (PAGE_SIZE * number) (segment.vaddr + segment.memsz)
 
 -- some segment has
-abbrev pub touched : List Segment → ℕ → Bool
-touched segments number = list_any (touches number) segments
+abbrev pub is_segment_page : List Segment → ℕ → Bool
+is_segment_page segments number = list_any (has_page number) segments
 
 -- the numbers below a limit that pass a test, rising
 unfoldable pub numbers_below : ℕ → (ℕ → Bool) → List ℕ
@@ -21,11 +21,11 @@ numbers_below limit test = filter test (range_with_len 0 limit)
 
 -- the numbers of the pages that the segments touch
 abbrev pub page_numbers : List Segment → List ℕ
-page_numbers segments = numbers_below SEGMENT_PAGES_END (touched segments)
+page_numbers segments = numbers_below SEGMENT_PAGES_END (is_segment_page segments)
 
 -- the rights of others, with a segment's where it touches the page
 abbrev pub rights_with : ℕ → Segment → ℕ → ℕ
-rights_with number segment others = if touches number segment then bit_or others segment.rights else others
+rights_with number segment others = if has_page number segment then bit_or others segment.rights else others
 
 -- the rights of all segments that touch a page
 unfoldable pub page_rights : List Segment → ℕ → ℕ
@@ -51,7 +51,7 @@ loaded_bytes segments bytes start count = map (loaded_byte segments bytes) (rang
 abbrev pub loaded_page : List Segment → List ℕ → ℕ → PageView
 loaded_page segments bytes number = record {
   number = number;
-  rights = granted (page_rights segments number);
+  rights = granted_rights (page_rights segments number);
   bytes = loaded_bytes segments bytes (PAGE_SIZE * number) PAGE_SIZE;
 }
 

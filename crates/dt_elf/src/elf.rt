@@ -2,10 +2,10 @@
 ghost use Rattle.std.specs.Prelude.{◌≡◌, ◌+◌, ◌*◌, ◌≤◌, ◌<◌, length, take, not, nat_lt, nat_le, filter, IfOk};
 ghost use Rattle.std.specs.Prelude.{MatchResult, Ok, None, true};
 ghost use Rattle.std.specs.List.{list_any, list_all};
-ghost use Rattle.dt_elf.specs.Header.{e_phnum, table_end, program_headers, is_interp, loads};
-ghost use Rattle.dt_elf.specs.Executable.{is_placed, share_byte, overlap, all_placed, refusal, holds_table};
+ghost use Rattle.dt_elf.specs.Header.{e_phnum, table_end, program_headers, is_interp, load_segments};
+ghost use Rattle.dt_elf.specs.Executable.{is_placed, share_byte, has_overlap, are_placed, refusal, has_table};
 ghost use Rattle.dt_elf.specs.Executable.{table_address_or, table_address, exe, executable, IsElfErr};
-ghost use Rattle.dt_elf.specs.Placed.{IsPlaced, ArePlaced, EndLow};
+ghost use Rattle.dt_elf.specs.Placed.{IsPlaced, ArePlaced, EndBelowMappings};
 ghost use Rattle.dt_elf.specs.ProgramBreak.{program_break, segments_end};
 ghost use Rattle.dt_elf.specs.inner.Refused.{is_short, is_bad_header, segments_refusal};
 
@@ -83,10 +83,10 @@ impl From<AllocError> for ElfErr {
 /// comes only where there is no such reason.
 pub fn read_elf(alloc: Global, bytes: &[u8]) -> Result<Elf, ElfErr>
     ensures exact { MatchResult result (λ elf. exe bytes.now ≡ Ok (executable elf)) (IsElfErr (exe bytes.now)) }
-    ensures low { IfOk result (λ elf. EndLow elf.segments.items) }
+    ensures low { IfOk result (λ elf. EndBelowMappings elf.segments.items) }
 {
-    if let Some(refused) = refused(bytes) {
-        return Err(refused);
+    if let Some(refusal) = refusal(bytes) {
+        return Err(refusal);
     }
     let mut table = [NO_SEGMENT; 64];
     let count = read_segments(bytes, &mut table);
@@ -101,7 +101,7 @@ pub fn read_elf(alloc: Global, bytes: &[u8]) -> Result<Elf, ElfErr>
 }
 
 // The first reason why a file is no executable.
-fn refused(bytes: &[u8]) -> Option<ElfErr>
+fn refusal(bytes: &[u8]) -> Option<ElfErr>
     ensures { result ≡ refusal bytes.now }
 {
     if is_short_file(bytes) {
@@ -117,7 +117,7 @@ fn refused(bytes: &[u8]) -> Option<ElfErr>
     } else if is_unusable(bytes) {
         Some(ElfErr::Header)
     } else {
-        refused_segments(bytes)
+        segments_refusal(bytes)
     }
 }
 
@@ -141,7 +141,7 @@ fn is_unusable(bytes: &[u8]) -> bool
 }
 
 // The first reason that lies in the program headers.
-fn refused_segments(bytes: &[u8]) -> Option<ElfErr>
+fn segments_refusal(bytes: &[u8]) -> Option<ElfErr>
     requires table { table_end bytes.now ≤ length bytes.now }
     requires few { e_phnum bytes.now ≤ HEADER_LIMIT }
     ensures { result ≡ segments_refusal bytes.now }
@@ -151,9 +151,9 @@ fn refused_segments(bytes: &[u8]) -> Option<ElfErr>
     let found = &table[..count];
     if !are_placed(bytes, found) {
         Some(ElfErr::Segment)
-    } else if overlapping(found) {
+    } else if has_overlap(found) {
         Some(ElfErr::Overlap)
-    } else if asks_interpreter(bytes) {
+    } else if has_interpreter(bytes) {
         Some(ElfErr::Interp)
     } else {
         None
@@ -165,12 +165,12 @@ fn read_segments(bytes: &[u8], table: &mut [Segment; 64]) -> usize
     requires table { table_end bytes.now ≤ length bytes.now }
     requires few { e_phnum bytes.now ≤ HEADER_LIMIT }
     ensures within { result ≤ HEADER_LIMIT }
-    ensures segments { take result table.new ≡ loads bytes.now }
+    ensures segments { take result table.new ≡ load_segments bytes.now }
 {
     let mut count = 0;
     for index in 0..phnum(bytes) {
         let header = read_header(bytes, index);
-        if header.loads() {
+        if header.is_load() {
             table[count] = header.segment();
             count += 1;
         }
@@ -179,9 +179,9 @@ fn read_segments(bytes: &[u8], table: &mut [Segment; 64]) -> usize
 }
 
 // Whether there is a segment, and each is placed well.
-#[tactic(auto, unfolding(crate::specs::Executable::all_placed))]
+#[tactic(auto, unfolding(crate::specs::Executable::are_placed))]
 fn are_placed(bytes: &[u8], segments: &[Segment]) -> bool
-    ensures { result ≡ all_placed bytes.now segments.now }
+    ensures { result ≡ are_placed bytes.now segments.now }
 {
     !segments.is_empty() && each_is_placed(bytes, segments)
 }
@@ -194,8 +194,8 @@ fn each_is_placed(bytes: &[u8], segments: &[Segment]) -> bool
 }
 
 // Whether some two of the segments share a byte.
-fn overlapping(segments: &[Segment]) -> bool
-    ensures { result ≡ overlap segments.now }
+fn has_overlap(segments: &[Segment]) -> bool
+    ensures { result ≡ has_overlap segments.now }
 {
     let mut index = segments.len();
     let mut found = false;
@@ -223,7 +223,7 @@ fn table_address(bytes: &[u8], segments: &[Segment]) -> u64
 }
 
 // Whether a program header asks for a program interpreter.
-fn asks_interpreter(bytes: &[u8]) -> bool
+fn has_interpreter(bytes: &[u8]) -> bool
     requires { table_end bytes.now ≤ length bytes.now }
     ensures { result ≡ list_any is_interp (program_headers bytes.now) }
 {
@@ -239,7 +239,7 @@ fn asks_interpreter(bytes: &[u8]) -> bool
 impl Elf {
     /// Where the break starts: the end of the highest segment, rounded up to a page.
     pub fn program_break(&self) -> u64
-        requires { EndLow self.now.segments.items }
+        requires { EndBelowMappings self.now.segments.items }
         ensures exact { result ≡ program_break (executable self.now) }
         ensures low { result ≤ MMAP_START }
     {
@@ -249,7 +249,7 @@ impl Elf {
 
 // The greatest of the addresses that follow segments.
 fn segments_end(segments: &[Segment]) -> u64
-    requires { EndLow segments.now }
+    requires { EndBelowMappings segments.now }
     ensures exact { result ≡ segments_end segments.now }
     ensures low { result ≤ MMAP_START }
 {
@@ -294,7 +294,7 @@ impl Segment {
         requires placed { IsPlaced bytes.now self.now }
         ensures { result ≡ table_address_or bytes.now self.now other }
     {
-        if self.holds_table_of(bytes) {
+        if self.has_table_of(bytes) {
             self.vaddr + (double(bytes, 32) - self.offset)
         } else {
             other
@@ -302,10 +302,10 @@ impl Segment {
     }
 
     // Whether its file part holds all program headers.
-    fn holds_table_of(&self, bytes: &[u8]) -> bool
+    fn has_table_of(&self, bytes: &[u8]) -> bool
         requires table { table_end bytes.now ≤ length bytes.now }
         requires placed { IsPlaced bytes.now self.now }
-        ensures { result ≡ holds_table bytes.now self.now }
+        ensures { result ≡ has_table bytes.now self.now }
     {
         self.offset <= double(bytes, 32) && !table_exceeds(bytes, self.offset + self.filesz)
     }

@@ -1,10 +1,10 @@
 // The machine that starts an executable.
 ghost use Rattle.std.specs.Prelude.{◌≡◌, ◌≤◌, ◌<◌, ◌^◌, ◌+◌, ◌/◌, ◌++◌, ◌↔◌, false, length, IfOk, Ok, Err, Some, None};
 ghost use Rattle.dt_rv64.specs.Valid.{IsMachine};
-ghost use Rattle.dt_space.specs.Space.{IsSpace, granted};
+ghost use Rattle.dt_space.specs.Space.{IsSpace, granted_rights};
 ghost use Rattle.dt_space.specs.Pages.{pages_from, EndsBelow};
 ghost use Rattle.dt_elf.specs.Executable.{exe, executable};
-ghost use Rattle.dt_elf.specs.Placed.{ArePlaced, EndLow};
+ghost use Rattle.dt_elf.specs.Placed.{ArePlaced, EndBelowMappings};
 ghost use Rattle.dt_elf.specs.Stack.{invocation};
 ghost use Rattle.dt_elf.specs.FirstMachine.{is_too_big, first_machine, trampoline_pages, first};
 
@@ -61,19 +61,19 @@ pub fn start(
     if is_too_big(elf, command) {
         return Err(StartErr::TooBig);
     }
-    Ok(make(alloc, elf, bytes, command, execfn, random)?)
+    Ok(make_machine(alloc, elf, bytes, command, execfn, random)?)
 }
 
 // Whether the words or the pages pass their limit.
 fn is_too_big(elf: &Elf, command: &Command) -> bool
-    requires { EndLow elf.now.segments.items }
+    requires { EndBelowMappings elf.now.segments.items }
     ensures { result ≡ is_too_big (executable elf.now) command.now }
 {
     are_too_many(command) || touch_more_than(PAGE_LIMIT - STACK_PAGES - 1, &elf.segments)
 }
 
 // The machine, where nothing passes its limit.
-fn make(
+fn make_machine(
     alloc: Global,
     elf: &Elf,
     bytes: &[u8],
@@ -106,7 +106,7 @@ fn with_stack(alloc: Global, segments: Space, contents: &[u8]) -> Result<Space, 
     requires below { EndsBelow segments (STACK_START / PAGE_SIZE) }
     requires few { length segments + STACK_PAGES + 1 ≤ PAGE_LIMIT }
     ensures pages { IfOk result (λ space. space
-        ≡ segments ++ pages_from (STACK_START / PAGE_SIZE) (granted (READ + WRITE)) contents.now STACK_PAGES
+        ≡ segments ++ pages_from (STACK_START / PAGE_SIZE) (granted_rights (READ + WRITE)) contents.now STACK_PAGES
         ++ trampoline_pages) }
     ensures sound { IfOk result IsSpace }
 {

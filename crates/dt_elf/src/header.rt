@@ -38,7 +38,7 @@ pub(crate) fn read_header(bytes: &[u8], index: u16) -> ProgramHeader
 
 impl ProgramHeader {
     /// Whether it loads memory.
-    pub(crate) fn loads(&self) -> bool
+    pub(crate) fn is_load(&self) -> bool
         ensures { result ≡ is_load self.now }
     {
         self.kind == PT_LOAD && 0 < self.memsz

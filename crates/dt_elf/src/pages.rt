@@ -1,8 +1,9 @@
 // The pages of an executable's segments.
 ghost use Rattle.std.specs.Prelude.{◌≡◌, ◌+◌, ◌*◌, ◌≤◌, ◌<◌, ℕ, length, nat_lt, slice_index, IfOk};
-ghost use Rattle.dt_base.specs.Bytes.{overwritten};
-ghost use Rattle.dt_elf.specs.Placed.{IsPlaced, ArePlaced, EndLow};
-ghost use Rattle.dt_elf.specs.SegmentPages.{touches, touched, page_numbers, rights_with, page_rights, segment_byte};
+ghost use Rattle.dt_base.specs.Bytes.{with_bytes_at};
+ghost use Rattle.dt_elf.specs.Placed.{IsPlaced, ArePlaced, EndBelowMappings};
+ghost use Rattle.dt_elf.specs.SegmentPages.{has_page, is_segment_page, page_numbers, rights_with, page_rights};
+ghost use Rattle.dt_elf.specs.SegmentPages.{segment_byte};
 ghost use Rattle.dt_elf.specs.SegmentPages.{loaded_bytes, segment_pages};
 ghost use Rattle.dt_elf.specs.inner.Next.{IsNext};
 
@@ -30,7 +31,7 @@ pub(crate) fn load(alloc: Global, segments: &[Segment], bytes: &[u8]) -> Result<
 
 /// Whether the segments touch more pages than these.
 pub(crate) fn touch_more_than(pages: u64, segments: &[Segment]) -> bool
-    requires { EndLow segments.now }
+    requires { EndBelowMappings segments.now }
     ensures { result ≡ nat_lt pages (length (page_numbers segments.now)) }
 {
     let mut left = pages;
@@ -47,9 +48,9 @@ pub(crate) fn touch_more_than(pages: u64, segments: &[Segment]) -> bool
 
 // The number of the first page from this one on that some segment touches, or the end of the numbers.
 fn next_page(segments: &[Segment], from: u64) -> u64
-    requires low { EndLow segments.now }
+    requires low { EndBelowMappings segments.now }
     requires within { from ≤ SEGMENT_PAGES_END }
-    ensures { IsNext (touched segments.now) from result }
+    ensures { IsNext (is_segment_page segments.now) from result }
 {
     let mut index = segments.len();
     let mut next = SEGMENT_PAGES_END;
@@ -62,7 +63,7 @@ fn next_page(segments: &[Segment], from: u64) -> u64
 
 // The rights of all segments that touch a page.
 fn page_rights(segments: &[Segment], number: u64) -> u8
-    requires low { EndLow segments.now }
+    requires low { EndBelowMappings segments.now }
     requires within { number < SEGMENT_PAGES_END }
     ensures { result ≡ page_rights segments.now number }
 {
@@ -94,7 +95,7 @@ impl Segment {
     fn next_page(&self, from: u64) -> u64
         requires low { self.now.vaddr + self.now.memsz ≤ MMAP_START }
         requires within { from ≤ SEGMENT_PAGES_END }
-        ensures { IsNext (λ number. touches number self.now) from result }
+        ensures { IsNext (λ number. has_page number self.now) from result }
     {
         let next = from.max(self.vaddr / PAGE_SIZE);
         if PAGE_SIZE * next < self.vaddr + self.memsz {
@@ -121,7 +122,7 @@ impl Segment {
     fn touches(&self, number: u64) -> bool
         requires low { self.now.vaddr + self.now.memsz ≤ MMAP_START }
         requires within { number < SEGMENT_PAGES_END }
-        ensures { result ≡ touches number self.now }
+        ensures { result ≡ has_page number self.now }
     {
         self.vaddr < PAGE_SIZE * (number + 1) && PAGE_SIZE * number < self.vaddr + self.memsz
     }
@@ -154,7 +155,7 @@ impl Segment {
 // Writes bytes into a page from an offset on.
 fn overwrite(page: &mut [u8; 4096], offset: usize, bytes: &[u8])
     requires { offset + length bytes.now ≤ PAGE_SIZE }
-    ensures { page.new ≡ overwritten page.old offset bytes.now }
+    ensures { page.new ≡ with_bytes_at page.old offset bytes.now }
 {
     page[offset..offset + bytes.len()].copy_from_slice(bytes);
 }

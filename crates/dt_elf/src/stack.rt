@@ -1,9 +1,11 @@
 // The stack of a program that starts.
 ghost use Rattle.std.specs.Prelude.{◌≡◌, ◌+◌, ◌*◌, ◌^◌, ◌≤◌, ◌<◌, ◌++◌, length, nat_lt, IfOk, OnOk, MatchOption};
 ghost use Rattle.dt_elf.specs.Executable.{executable};
-ghost use Rattle.dt_elf.specs.Stack.{invocation, aligned, pointer_below, args_start, terminated, addresses, strings};
-ghost use Rattle.dt_elf.specs.Stack.{auxiliary, stack_words_at, stack_pointer, word_bytes, laid_out, stack_contents};
-ghost use Rattle.dt_elf.specs.Stack.{size};
+ghost use Rattle.dt_elf.specs.Stack.{invocation, aligned_address, pointer_below, args_start, terminated_words};
+ghost use Rattle.dt_elf.specs.Stack.{word_addresses, strings};
+ghost use Rattle.dt_elf.specs.Stack.{auxiliary_vector, stack_words_at, stack_pointer, word_bytes, stack_layout};
+ghost use Rattle.dt_elf.specs.Stack.{stack_contents};
+ghost use Rattle.dt_elf.specs.Stack.{words_size};
 
 use crate::elf::Elf;
 use crate::layout::{
@@ -23,7 +25,7 @@ pub(crate) struct Stack {
 
 /// Whether the words of a command are more than an execution takes.
 pub fn are_too_many(command: &Command) -> bool
-    ensures { result ≡ nat_lt ARGUMENT_LIMIT (size command.now.args + size command.now.env) }
+    ensures { result ≡ nat_lt ARGUMENT_LIMIT (words_size command.now.args + words_size command.now.env) }
 {
     match room_after(command.args(), ARGUMENT_LIMIT) {
         Some(room) => room_after(command.env(), room).is_none(),
@@ -33,7 +35,7 @@ pub fn are_too_many(command: &Command) -> bool
 
 // What is left of some room after words, or None where they need more.
 fn room_after(words: &[Blob], room: u64) -> Option<u64>
-    ensures { MatchOption result (room < size words.now) (λ left. left + size words.now ≡ room) }
+    ensures { MatchOption result (room < words_size words.now) (λ left. left + words_size words.now ≡ room) }
 {
     let mut left = room;
     for word in words {
@@ -51,7 +53,7 @@ pub(crate) fn make_stack(
     execfn: &[u8],
     random: &[u8; 16],
 ) -> Result<Stack, NoMemory>
-    requires few { size command.now.args + size command.now.env ≤ ARGUMENT_LIMIT }
+    requires few { words_size command.now.args + words_size command.now.env ≤ ARGUMENT_LIMIT }
     requires short { length execfn.now ≤ PATH_LIMIT }
     ensures pointer { IfOk result (λ stack. stack.pointer
         ≡ stack_pointer (executable elf.now) headers (invocation command.now execfn.now random.now)) }
@@ -59,7 +61,7 @@ pub(crate) fn make_stack(
         ≡ stack_contents (executable elf.now) headers (invocation command.now execfn.now random.now)) }
 {
     let text = strings(alloc, command, execfn, random)?;
-    let start = aligned(STACK_TOP - text.len() as u64);
+    let start = aligned_address(STACK_TOP - text.len() as u64);
     let words = words(alloc, elf, headers, command, execfn, start)?;
     let pointer = pointer_below(start, words.len() as u64);
     let contents = lay_out(alloc, pointer, &words, start, &text)?;
@@ -71,12 +73,12 @@ fn pointer_below(start: u64, words: u64) -> u64
     requires { 8 * words ≤ start }
     ensures { result ≡ pointer_below start words }
 {
-    aligned(start - 8 * words)
+    aligned_address(start - 8 * words)
 }
 
 // An address rounded down to the stack's alignment.
-fn aligned(address: u64) -> u64
-    ensures { result ≡ aligned address }
+fn aligned_address(address: u64) -> u64
+    ensures { result ≡ aligned_address address }
 {
     address / STACK_ALIGN * STACK_ALIGN
 }
@@ -101,7 +103,7 @@ fn strings(
 
 // Appends words, each with its 0.
 fn push_terminated(text: &mut Vec<u8>, words: &[Blob]) -> Result<(), NoMemory>
-    ensures { OnOk result (text.new.items ≡ text.old.items ++ terminated words.now) }
+    ensures { OnOk result (text.new.items ≡ text.old.items ++ terminated_words words.now) }
 {
     for word in words {
         text.extend_from_slice(word.as_slice())?;
@@ -119,7 +121,7 @@ fn words(
     execfn: &[u8],
     start: u64,
 ) -> Result<Vec<u64>, NoMemory>
-    requires few { size command.now.args + size command.now.env ≤ ARGUMENT_LIMIT }
+    requires few { words_size command.now.args + words_size command.now.env ≤ ARGUMENT_LIMIT }
     requires short { length execfn.now ≤ PATH_LIMIT }
     requires low { start ≤ STACK_TOP }
     ensures { IfOk result (λ words.
@@ -132,7 +134,7 @@ fn words(
     words.push(0)?;
     push_addresses(&mut words, command.env(), env_at)?;
     words.push(0)?;
-    words.extend_from_slice(&auxiliary(elf, headers, start))?;
+    words.extend_from_slice(&auxiliary_vector(elf, headers, start))?;
     Ok(words)
 }
 
@@ -147,9 +149,9 @@ fn args_start(start: u64, execfn: &[u8]) -> u64
 
 // Appends the addresses of words that follow one another, the first at `address`, and gives the end of the last.
 fn push_addresses(list: &mut Vec<u64>, words: &[Blob], address: u64) -> Result<u64, NoMemory>
-    requires { address + length (terminated words.now) < 2 ^ 63 }
-    ensures listed { IfOk result (λ _. list.new.items ≡ list.old.items ++ addresses address words.now) }
-    ensures end { IfOk result (λ end. end ≡ address + length (terminated words.now)) }
+    requires { address + length (terminated_words words.now) < 2 ^ 63 }
+    ensures listed { IfOk result (λ _. list.new.items ≡ list.old.items ++ word_addresses address words.now) }
+    ensures end { IfOk result (λ end. end ≡ address + length (terminated_words words.now)) }
 {
     let mut next = address;
     for word in words {
@@ -159,9 +161,9 @@ fn push_addresses(list: &mut Vec<u64>, words: &[Blob], address: u64) -> Result<u
     Ok(next)
 }
 
-fn auxiliary(elf: &Elf, headers: u16, start: u64) -> [u64; 28]
+fn auxiliary_vector(elf: &Elf, headers: u16, start: u64) -> [u64; 28]
     requires { start ≤ STACK_TOP }
-    ensures { result ≡ auxiliary (executable elf.now) headers start }
+    ensures { result ≡ auxiliary_vector (executable elf.now) headers start }
 {
     [
         AT_PHDR,
@@ -205,7 +207,7 @@ fn lay_out(
 ) -> Result<Vec<u8>, NoMemory>
     requires above { STACK_START ≤ pointer }
     requires apart { pointer + 8 * length words.now ≤ start }
-    ensures { IfOk result (λ bytes. bytes.items ≡ laid_out pointer words.now start text.now) }
+    ensures { IfOk result (λ bytes. bytes.items ≡ stack_layout pointer words.now start text.now) }
 {
     let mut bytes = vec![in alloc; 0; (pointer - STACK_START) as usize]?;
     push_words(&mut bytes, words)?;

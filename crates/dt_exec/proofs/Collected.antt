@@ -9,7 +9,7 @@ use Rattle.dt_base.specs.declared.blob.Blob.{Blob}
 use Rattle.dt_base.specs.declared.errno.Errno.{Errno}
 use Rattle.dt_base.specs.declared.errno.Errno.TheVariants.{TooBig, Fault as BadAddress}
 use Rattle.dt_base.specs.declared.limits.TheConstants.{ARGUMENT_LIMIT}
-use Rattle.dt_elf.specs.Stack.{size}
+use Rattle.dt_elf.specs.Stack.{words_size}
 use Rattle.dt_space.specs.declared.access.Miss.{Miss}
 use Rattle.dt_space.specs.declared.access.TheConstants.{READ}
 use Rattle.dt_space.specs.Space.{PageView, load, loaded_number}
@@ -38,17 +38,17 @@ after-before words word (Err errno) = refl
 pub record SoFar (all rest : Result (List (List ℕ)) Errno) (stored : List (List ℕ)) (count : ℕ) : Type 0 where
   pub words : List (List ℕ)
   pub so_far : all ≡ after words rest
-  pub counted : count ≡ min (size words) (2 ^ 64 - 1)
+  pub counted : count ≡ min (words_size words) (2 ^ 64 - 1)
   pub same : count ≤ ARGUMENT_LIMIT → stored ≡ words
   pub no_nul : IsTrue (list_all has_no_nul stored)
 
-size-push : (words : List (List ℕ)) (word : List ℕ) → size (words ++ word ∷ []) ≡ size words + length word + 9
-unfolding size
+size-push : (words : List (List ℕ)) (word : List ℕ) → words_size (words ++ word ∷ []) ≡ words_size words + length word + 9
+unfolding words_size
 size-push [] word = omega arith
 size-push (first ∷ words) word = omega (arith, size-push words word)
 
 pub start : (all : Result (List (List ℕ)) Errno) → SoFar all all [] 0
-unfolding size
+unfolding words_size
 start all = record { words = []; so_far = after-none all; counted = refl; same = λ _. refl; no_nul = refl }
 
 abbrev stored_if : Bool → List (List ℕ) → List ℕ → List (List ℕ)
@@ -92,7 +92,7 @@ ended all rest stored count found sofar is found_is = subst (IsList all) (sym fo
         record { whole = whole ∙ ap Ok (sym (sofar.same few)); no_nul = sofar.no_nul }
     by_test false is =
         let many : ARGUMENT_LIMIT < count = grind (arith, nat_tests) in
-        subst (λ r. IsOkAnd r (λ words. ARGUMENT_LIMIT < size words)) (sym whole) (omega (arith, many, sofar.counted))
+        subst (λ r. IsOkAnd r (λ words. ARGUMENT_LIMIT < words_size words)) (sym whole) (omega (arith, many, sofar.counted))
 
 -- one entry of a list
 pub entry_at : (pages : List PageView) (at left less : ℕ) (found : Result ℕ Miss) → left ≡ suc less → found ≡ loaded_number (load pages READ at 8) → words_at pages at left ≡ words_from pages found (words_at pages ((at + 8) % 2 ^ 64) less)
@@ -114,13 +114,13 @@ is_listed (Ok words) None is = refl
 is_listed (Err errno) None is = absurd is
 is_listed all (Some words) is = subst IsOk (sym is.whole) refl
 
-size-one_at_least : (words : List (List ℕ)) → size words ≤ size (one_at_least words)
-unfolding size
+size-one_at_least : (words : List (List ℕ)) → words_size words ≤ words_size (one_at_least words)
+unfolding words_size
 size-one_at_least [] = omega arith
 size-one_at_least (word ∷ words) = omega arith
 
-too_many : (args env : List (List ℕ)) → ARGUMENT_LIMIT < size args + size env → Err TooBig ≡ within_limit (record { args = args; env = env })
-too_many args env many = let long : nat_lt ARGUMENT_LIMIT (size args + size env) ≡ true = grind (arith, nat_tests) in rw long refl
+too_many : (args env : List (List ℕ)) → ARGUMENT_LIMIT < words_size args + words_size env → Err TooBig ≡ within_limit (record { args = args; env = env })
+too_many args env many = let long : nat_lt ARGUMENT_LIMIT (words_size args + words_size env) ≡ true = grind (arith, nat_tests) in rw long refl
 
 -- either list alone may be past the limit
 pub args-too_big : (args env : Result (List (List ℕ)) Errno) → IsTooBig args → IsOk env → Err TooBig ≡ command_of args env

@@ -15,8 +15,8 @@ use Rattle.dt_exec.specs.declared.limits.TheConstants.{SCRIPT_LINE_LIMIT}
 use Rattle.dt_exec.specs.declared.script.Script.{Script}
 use Rattle.dt_base.specs.declared.errno.Errno.TheVariants.{NameTooLong}
 use Rattle.dt_base.specs.declared.limits.TheConstants.{PATH_LIMIT}
-use Rattle.dt_space.specs.Argument.{text_or, not_empty, path_argument}
-use Rattle.dt_exec.specs.Script.{HasNoNul, is_blank, blanks_skipped, blanks_cut, some_word, script_named, script_by, script_args}
+use Rattle.dt_space.specs.Argument.{text_or, non_empty_text, path_argument}
+use Rattle.dt_exec.specs.Script.{HasNoNul, is_blank, without_leading_blanks, without_trailing_blanks, some_word, script_of_text, script_of_line, script_args}
 
 both : (a b : Bool) → IsTrue (a && b) → IsTrue a × IsTrue b
 both true true is = (refl, refl)
@@ -44,12 +44,12 @@ module _ {X : Type 0} (p : X → Bool) where
 abbrev pub not_nul : ℕ → Bool
 not_nul b = not (b == 0)
 
-skipped : (text : List ℕ) → IsTrue (has_no_nul text) → IsTrue (has_no_nul (blanks_skipped text))
-unfolding blanks_skipped
+skipped : (text : List ℕ) → IsTrue (has_no_nul text) → IsTrue (has_no_nul (without_leading_blanks text))
+unfolding without_leading_blanks
 skipped text is = all-drop not_nul (prefix_len is_blank text) text is
 
-cut : (text : List ℕ) → IsTrue (has_no_nul text) → IsTrue (has_no_nul (blanks_cut text))
-unfolding blanks_cut
+cut : (text : List ℕ) → IsTrue (has_no_nul text) → IsTrue (has_no_nul (without_trailing_blanks text))
+unfolding without_trailing_blanks
 cut text is = all-take not_nul _ text is
 
 some : (word : List ℕ) → IsTrue (has_no_nul word) → IsTrue (list_all has_no_nul (option_to_list (some_word word)))
@@ -59,15 +59,15 @@ some word is = by_test (length word == 0)
     by_test true = refl
     by_test false = each _ true is refl
 
-named : (text : List ℕ) (s : Script) → IsTrue (has_no_nul text) → script_named text ≡ Some s → HasNoNul s
-unfolding script_named
+named : (text : List ℕ) (s : Script) → IsTrue (has_no_nul text) → script_of_text text ≡ Some s → HasNoNul s
+unfolding script_of_text
 named text s clean is = by_test (length path == 0) is
   where
     path : List ℕ
     path = take (position_or_len is_blank text) text
 
     found : Script
-    found = record { interpreter = path; argument = some_word (blanks_skipped (drop (length path) text)) }
+    found = record { interpreter = path; argument = some_word (without_leading_blanks (drop (length path) text)) }
 
     by_test : (empty : Bool) → (if empty then None else Some found) ≡ Some s → HasNoNul s
     by_test true is = cc
@@ -75,20 +75,20 @@ named text s clean is = by_test (length path == 0) is
         let same : found ≡ s = cc in
         subst HasNoNul same (record {
           interpreter = all-take not_nul (position_or_len is_blank text) text clean;
-          argument = some (blanks_skipped (drop (length path) text)) (skipped (drop (length path) text) (all-drop not_nul (length path) text clean));
+          argument = some (without_leading_blanks (drop (length path) text)) (skipped (drop (length path) text) (all-drop not_nul (length path) text clean));
         })
 
-by_line : (line : List ℕ) (s : Script) → script_by line ≡ Some s → HasNoNul s
-unfolding script_by
+by_line : (line : List ℕ) (s : Script) → script_of_line line ≡ Some s → HasNoNul s
+unfolding script_of_line
 by_line line s is = by_tests (nat_lt SCRIPT_LINE_LIMIT (length line)) (has_no_nul line) refl is
   where
-    by_tests : (long clean : Bool) → has_no_nul line ≡ clean → (if long || not clean then None else script_named (blanks_cut (blanks_skipped (drop 2 line)))) ≡ Some s → HasNoNul s
+    by_tests : (long clean : Bool) → has_no_nul line ≡ clean → (if long || not clean then None else script_of_text (without_trailing_blanks (without_leading_blanks (drop 2 line)))) ≡ Some s → HasNoNul s
     by_tests true clean same is = cc
     by_tests false false same is = cc
-    by_tests false true same is = named (blanks_cut (blanks_skipped (drop 2 line))) s (cut (blanks_skipped (drop 2 line)) (skipped (drop 2 line) (all-drop not_nul 2 line same))) is
+    by_tests false true same is = named (without_trailing_blanks (without_leading_blanks (drop 2 line))) s (cut (without_leading_blanks (drop 2 line)) (skipped (drop 2 line) (all-drop not_nul 2 line same))) is
 
 -- what a script says has none
-pub script-no_nul : {E : Type 0} (found : Result (Option Script) E) (line : List ℕ) → IfOk found (λ script. script ≡ script_by line) → IfOk found (λ script. IfSome script HasNoNul)
+pub script-no_nul : {E : Type 0} (found : Result (Option Script) E) (line : List ℕ) → IfOk found (λ script. script ≡ script_of_line line) → IfOk found (λ script. IfSome script HasNoNul)
 script-no_nul (Ok None) line is = tt
 script-no_nul (Ok (Some s)) line is = by_line line s (sym is)
 script-no_nul (Err e) line is = tt
@@ -100,7 +100,7 @@ args-no_nul s path args own clean all =
     (all-append has_no_nul (option_to_list s.argument) (path ∷ drop 1 args) own.argument
     (each (has_no_nul path) _ clean (all-drop has_no_nul 1 args all)))
 
-path_read : (found : Result (List ℕ) TextErr) (text : List ℕ) → Ok text ≡ not_empty (text_or NameTooLong found) → found ≡ Ok text
+path_read : (found : Result (List ℕ) TextErr) (text : List ℕ) → Ok text ≡ non_empty_text (text_or NameTooLong found) → found ≡ Ok text
 path_read (Ok []) text is = cc
 path_read (Ok (byte ∷ bytes)) text is = let same : text ≡ byte ∷ bytes = cc in ap Ok (sym same)
 path_read (Err (text_err.Miss miss)) text is = cc

@@ -20,7 +20,7 @@ use Rattle.dt_walk.specs.declared.step.Found.{Found}
 use Rattle.dt_walk.specs.declared.step.Found.TheVariants.{Node, Missing, Gone}
 use Rattle.dt_walk.specs.declared.step.Step.{Step}
 use Rattle.dt_walk.specs.declared.step.Step.TheVariants.{On, Done, Refused, Follow}
-use Rattle.dt_walk.specs.Walk.{is_nil, path_names, ends_in_slash, start_of, keeps, node_or, looked_up, walk_ended, reached_node, after_look, step_in_dir, step_of, after_step, walk_from, walk_by, walk_of}
+use Rattle.dt_walk.specs.Walk.{is_nil, path_names, ends_in_slash, start_of, is_keep, node_or, lookup_in, end_step, node_step, after_look, step_in_dir, step_of, after_step, walk_from, walk_by, walk_of}
 use Rattle.dt_exec.specs.Lookup.{node_reached, lookup}
 
 -- what may be there is there
@@ -71,7 +71,7 @@ module _ (v : Forest) (s : IsShaped v) where
   lives-parent at None e = tt
   lives-parent at (Some d) e = let spot = parent-entry v at d e in IsLive-IsDir v d (IsDir-entry v d spot.0 at spot.2)
 
-  lives-looked : (at : ℕ) (name : List ℕ) → IsLive v at → LivesFound v (looked_up v at name)
+  lives-looked : (at : ℕ) (name : List ℕ) → IsLive v at → LivesFound v (lookup_in v at name)
   lives-looked at name live =
       let up = option_if v (at == v.root) (Some at) (parent_at v at) live (lives-parent at (parent_at v at) refl) in
       found_if v (bytes_eq name (codes ".")) (Node at) _ live
@@ -80,12 +80,12 @@ module _ (v : Forest) (s : IsShaped v) where
       (lives_or v Missing (entry v at name) tt (lives-entry at name (entry v at name) refl)))
 
   module _ (keep last slash : Bool) (at : ℕ) (name : List ℕ) where
-    lives-ended : (n : ℕ) → IsLive v n → LivesStep v (walk_ended v slash at name n)
+    lives-ended : (n : ℕ) → IsLive v n → LivesStep v (end_step v slash at name n)
     lives-ended n live = step_if v (slash && not (is_dir v n)) (Refused NotDir) (Done (record { parent = at; name = name; node = Some n; slash = slash })) tt live
 
-    lives-arrived : (n : ℕ) (target : Option (List ℕ)) → IsLive v n → LivesStep v (reached_node v keep last slash at name n target)
-    lives-arrived n None live = step_if v last (walk_ended v slash at name n) (On n) (lives-ended n live) tt
-    lives-arrived n (Some target) live = step_if v (last && keep) (walk_ended v slash at name n) (Follow target) (lives-ended n live) tt
+    lives-arrived : (n : ℕ) (target : Option (List ℕ)) → IsLive v n → LivesStep v (node_step v keep last slash at name n target)
+    lives-arrived n None live = step_if v last (end_step v slash at name n) (On n) (lives-ended n live) tt
+    lives-arrived n (Some target) live = step_if v (last && keep) (end_step v slash at name n) (Follow target) (lives-ended n live) tt
 
     lives-after : (found : Found) → LivesFound v found → LivesStep v (after_look v keep last slash at name found)
     lives-after Gone live = tt
@@ -94,8 +94,8 @@ module _ (v : Forest) (s : IsShaped v) where
 
     lives-in_dir : IsDir v at → LivesStep v (step_in_dir v keep last slash at name)
     lives-in_dir is =
-        step_if v (nat_le (NAME_LIMIT + 1) (length name)) (Refused NameTooLong) (after_look v keep last slash at name (looked_up v at name)) tt
-        (lives-after (looked_up v at name) (lives-looked at name (IsLive-IsDir v at is)))
+        step_if v (nat_le (NAME_LIMIT + 1) (length name)) (Refused NameTooLong) (after_look v keep last slash at name (lookup_in v at name)) tt
+        (lives-after (lookup_in v at name) (lives-looked at name (IsLive-IsDir v at is)))
 
     lives-step_if : (b : Bool) → is_dir v at ≡ b → LivesStep v (cond b (step_in_dir v keep last slash at name) (Refused NotDir))
     lives-step_if true is = lives-in_dir is
@@ -137,7 +137,7 @@ module _ (v : Forest) (s : IsShaped v) where
   unfolding lookup
   lookup-live root start path n is =
       lives-reached (walk_of v start path follow_last) n
-      (lives-by root (keeps follow_last) LINK_LIMIT (start_of start path) (path_names path) (ends_in_slash path)) is
+      (lives-by root (is_keep follow_last) LINK_LIMIT (start_of start path) (path_names path) (ends_in_slash path)) is
 
 pub root-live : (t : FileTree) → IsTree t → IsLive t.shape ROOT
 root-live t tree = IsLive-IsDir t.shape ROOT (subst (IsDir t.shape) tree.root tree.shaped.root)

@@ -4,7 +4,7 @@ use Rattle.dt_base.specs.Command.{Words}
 use Rattle.dt_base.specs.declared.errno.Errno.{Errno}
 use Rattle.dt_base.specs.declared.errno.Errno.TheVariants.{TooBig, Fault as BadAddress}
 use Rattle.dt_base.specs.declared.limits.TheConstants.{ADDRESS_LIMIT, ARGUMENT_LIMIT}
-use Rattle.dt_elf.specs.Stack.{size}
+use Rattle.dt_elf.specs.Stack.{words_size}
 use Rattle.dt_exec.specs.declared.limits.TheConstants.{LIST_LIMIT, LIST_ENTRY}
 use Rattle.dt_space.specs.declared.access.Miss.{Miss}
 use Rattle.dt_space.specs.declared.access.TheConstants.{READ}
@@ -45,7 +45,8 @@ one_at_least (word ∷ words) = word ∷ words
 
 -- words that count no more than the limit
 abbrev pub within_limit : Words → Result Words Errno
-within_limit words = if nat_lt ARGUMENT_LIMIT (size words.args + size words.env) then Err TooBig else Ok words
+within_limit words =
+    if nat_lt ARGUMENT_LIMIT (words_size words.args + words_size words.env) then Err TooBig else Ok words
 
 -- the words of two lists, each of which is read to its end before they are counted
 abbrev pub command_of : Result (List (List ℕ)) Errno → Result (List (List ℕ)) Errno → Result Words Errno

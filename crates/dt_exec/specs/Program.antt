@@ -10,7 +10,7 @@ use Rattle.dt_rv64.specs.declared.machine.Machine.{Machine}
 use Rattle.dt_space.specs.Space.{PageView}
 use Rattle.dt_elf.specs.declared.elf.ElfErr.{ElfErr}
 use Rattle.dt_elf.specs.Executable.{Executable, exe}
-use Rattle.dt_elf.specs.Stack.{Invocation, invocation, size}
+use Rattle.dt_elf.specs.Stack.{Invocation, invocation, words_size}
 use Rattle.dt_elf.specs.FirstMachine.{first}
 use Rattle.dt_elf.specs.ProgramBreak.{program_break}
 use Rattle.dt_exec.specs.declared.program.Program.{Program}
@@ -35,15 +35,15 @@ unfoldable pub program_of : Invocation → List ℕ → Result Program Errno
 program_of given bytes = program_of_elf given bytes (exe bytes)
 
 -- the bytes of a file, and of nothing else
-abbrev pub file_or_refused : Option (List ℕ) → Result (List ℕ) Errno
-file_or_refused None = Err Acces
-file_or_refused (Some bytes) = Ok bytes
+abbrev pub file_or_errno : Option (List ℕ) → Result (List ℕ) Errno
+file_or_errno None = Err Acces
+file_or_errno (Some bytes) = Ok bytes
 
 -- the bytes of the file that a path led to
 abbrev pub file_reached : Forest → Result (Option ℕ) Errno → Result (List ℕ) Errno
 file_reached v (Err errno) = Err errno
 file_reached v (Ok None) = Err NoEnt
-file_reached v (Ok (Some n)) = file_or_refused (file_at v n)
+file_reached v (Ok (Some n)) = file_or_errno (file_at v n)
 
 -- the bytes of the file that a path leads to from a directory
 unfoldable pub file_by_path : Forest → ℕ → List ℕ → Result (List ℕ) Errno
@@ -55,15 +55,15 @@ program_of_interpreter given (Err errno) = Err errno
 program_of_interpreter given (Ok bytes) = if is_script bytes then Err NoExec else program_of given bytes
 
 -- what a script's interpreter is executed with: other arguments, the same environment and EXECFN
-abbrev pub by_script : Invocation → Script → Invocation
-by_script given script =
+abbrev pub script_invocation : Invocation → Script → Invocation
+script_invocation given script =
     record given { words = record given.words { args = script_args script given.execfn given.words.args } }
 
 -- a script's program, which is its interpreter's
 abbrev pub program_of_script : Forest → ℕ → Invocation → Option Script → Result Program Errno
 program_of_script v cwd given None = Err NoExec
 program_of_script v cwd given (Some script) =
-    program_of_interpreter (by_script given script) (file_by_path v cwd script.interpreter)
+    program_of_interpreter (script_invocation given script) (file_by_path v cwd script.interpreter)
 
 -- the program of a file's bytes, which are a script or an executable
 abbrev pub program_of_file : Forest → ℕ → Invocation → Result (List ℕ) Errno → Result Program Errno
@@ -85,7 +85,7 @@ unfoldable pub start_program : Forest → Words → List ℕ → Result Program 
 start_program v words random =
     if length (argv0 words.args) == 0 then Err NoEnt
     else if nat_lt PATH_LIMIT (length (argv0 words.args)) then Err NameTooLong
-    else if nat_lt ARGUMENT_LIMIT (size words.args + size words.env) then Err TooBig
+    else if nat_lt ARGUMENT_LIMIT (words_size words.args + words_size words.env) then Err TooBig
     else program_at v ROOT (invocation words (argv0 words.args) random)
 
 -- the program of a path and words that were read

@@ -23,12 +23,12 @@ unfoldable pub first_line : List ℕ → List ℕ
 first_line bytes = take (position_or_len is_lf bytes) bytes
 
 -- a text without the blanks that it begins with
-unfoldable pub blanks_skipped : List ℕ → List ℕ
-blanks_skipped text = drop (prefix_len is_blank text) text
+unfoldable pub without_leading_blanks : List ℕ → List ℕ
+without_leading_blanks text = drop (prefix_len is_blank text) text
 
 -- a text without the blanks that it ends with
-unfoldable pub blanks_cut : List ℕ → List ℕ
-blanks_cut text = take (length text - suffix_len is_blank text) text
+unfoldable pub without_trailing_blanks : List ℕ → List ℕ
+without_trailing_blanks text = take (length text - suffix_len is_blank text) text
 
 -- a word, unless it is empty
 abbrev pub some_word : List ℕ → Option (List ℕ)
@@ -36,23 +36,23 @@ some_word word = if length word == 0 then None else Some word
 
 -- a script by a text without blanks at its ends: the interpreter's path goes up to the first blank, the argument is the
 -- rest
-unfoldable pub script_named : List ℕ → Option Script
-script_named text =
+unfoldable pub script_of_text : List ℕ → Option Script
+script_of_text text =
     let path = take (position_or_len is_blank text) text in
     if length path == 0 then None else Some (record {
       interpreter = path;
-      argument = some_word (blanks_skipped (drop (length path) text));
+      argument = some_word (without_leading_blanks (drop (length path) text));
     })
 
 -- the script that a first line makes: it has at most 255 bytes, no NUL, and names an interpreter behind its `#!`
-unfoldable pub script_by : List ℕ → Option Script
-script_by line =
+unfoldable pub script_of_line : List ℕ → Option Script
+script_of_line line =
     if nat_lt SCRIPT_LINE_LIMIT (length line) || not (has_no_nul line) then None
-    else script_named (blanks_cut (blanks_skipped (drop 2 line)))
+    else script_of_text (without_trailing_blanks (without_leading_blanks (drop 2 line)))
 
 -- the script that a file is, unless its first line is bad
 abbrev pub script_of : List ℕ → Option Script
-script_of bytes = script_by (first_line bytes)
+script_of bytes = script_of_line (first_line bytes)
 
 -- the arguments of a script's interpreter: its own path, what the script says, the script's path, and the script's
 -- arguments from the second on

@@ -6,7 +6,7 @@ ghost use Rattle.dt_host.specs.World.{IsDir, IsLive, file_at};
 ghost use Rattle.dt_tree.specs.Table.{Stands, shape_of};
 ghost use Rattle.dt_elf.specs.Stack.{invocation};
 ghost use Rattle.dt_exec.specs.Script.{HasNoNul};
-ghost use Rattle.dt_exec.specs.Program.{argv0, file_or_refused, file_by_path, program_of_interpreter};
+ghost use Rattle.dt_exec.specs.Program.{argv0, file_or_errno, file_by_path, program_of_interpreter};
 ghost use Rattle.dt_exec.specs.Program.{program_of_script, program_at, program_of, start_program, execve_program};
 
 use crate::arguments::command_argument;
@@ -202,7 +202,7 @@ fn file_of<H: Host>(host: &mut H, tree: &Tree, inode: u64) -> Result<Result<Blob
     requires stands { Stands tree.now (H.view host.old).forest }
     requires live { IsLive (shape_of tree.now (H.view host.old).forest) inode }
     ensures ok { IfOk result (λ file. file
-        ≡ file_or_refused (file_at (shape_of tree.now (H.view host.old).forest) inode)) }
+        ≡ file_or_errno (file_at (shape_of tree.now (H.view host.old).forest) inode)) }
     ensures asks { Asks H.view H.count host.old host.new result }
 {
     if tree.is_dir(inode) || tree.is_link(inode) {

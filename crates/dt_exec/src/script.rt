@@ -2,8 +2,9 @@
 ghost use Rattle.std.specs.Prelude.{◌≡◌, ◌<◌, ◌++◌, length, IfOk, IfSome, OnOk, IsTrue};
 ghost use Rattle.std.specs.List.{position, position_or_len};
 ghost use Rattle.dt_base.specs.Path.{has_no_nul};
-ghost use Rattle.dt_exec.specs.Script.{HasNoNul, is_script, is_lf, is_blank, first_line, blanks_skipped, blanks_cut};
-ghost use Rattle.dt_exec.specs.Script.{some_word, script_named, script_by, script_of, script_args};
+ghost use Rattle.dt_exec.specs.Script.{HasNoNul, is_script, is_lf, is_blank, first_line, without_leading_blanks};
+ghost use Rattle.dt_exec.specs.Script.{without_trailing_blanks};
+ghost use Rattle.dt_exec.specs.Script.{some_word, script_of_text, script_of_line, script_of, script_args};
 
 use crate::limits::{SCRIPT_LINE_LIMIT, SCRIPT_MARK};
 use dt_base::{Blob, Command, NoMemory, has_no_nul};
@@ -28,7 +29,7 @@ pub fn script_of(alloc: Global, bytes: &[u8]) -> Result<Option<Script>, NoMemory
     ensures value { IfOk result (λ script. script ≡ script_of bytes.now) }
     ensures no_nul { IfOk result (λ script. IfSome script HasNoNul) }
 {
-    script_by(alloc, first_line(bytes))
+    script_of_line(alloc, first_line(bytes))
 }
 
 /// The command that runs a script: its interpreter's path, what the script says, the script's path, and the arguments
@@ -51,28 +52,28 @@ pub fn script_command(
 }
 
 // The script that a first line makes.
-#[tactic(auto, unfolding(crate::specs::Script::script_by))]
-fn script_by(alloc: Global, line: &[u8]) -> Result<Option<Script>, NoMemory>
-    ensures { IfOk result (λ script. script ≡ script_by line.now) }
+#[tactic(auto, unfolding(crate::specs::Script::script_of_line))]
+fn script_of_line(alloc: Global, line: &[u8]) -> Result<Option<Script>, NoMemory>
+    ensures { IfOk result (λ script. script ≡ script_of_line line.now) }
 {
     if line.len() as u64 > SCRIPT_LINE_LIMIT || !has_no_nul(line) {
         return Ok(None);
     }
     let (_, text) = line.split_at(line.len().min(SCRIPT_MARK.len()));
-    script_named(alloc, blanks_cut(blanks_skipped(text)))
+    script_of_text(alloc, without_trailing_blanks(without_leading_blanks(text)))
 }
 
 // The script of a first line without its mark and the blanks at its ends.
-#[tactic(auto, unfolding(crate::specs::Script::script_named))]
-fn script_named(alloc: Global, text: &[u8]) -> Result<Option<Script>, NoMemory>
-    ensures { IfOk result (λ script. script ≡ script_named text.now) }
+#[tactic(auto, unfolding(crate::specs::Script::script_of_text))]
+fn script_of_text(alloc: Global, text: &[u8]) -> Result<Option<Script>, NoMemory>
+    ensures { IfOk result (λ script. script ≡ script_of_text text.now) }
 {
     let (path, rest) = text.split_at(word_len(text));
     if path.is_empty() {
         return Ok(None);
     }
     let interpreter = blob_of(alloc, path)?;
-    let argument = some_word(alloc, blanks_skipped(rest))?;
+    let argument = some_word(alloc, without_leading_blanks(rest))?;
     Ok(Some(Script {
         interpreter,
         argument,
@@ -136,9 +137,9 @@ fn is_blank(byte: u8) -> bool
 }
 
 // A text without the blanks that it begins with.
-#[tactic(auto, unfolding(crate::specs::Script::blanks_skipped))]
-fn blanks_skipped(text: &[u8]) -> &[u8]
-    ensures { result.now ≡ blanks_skipped text.now }
+#[tactic(auto, unfolding(crate::specs::Script::without_leading_blanks))]
+fn without_leading_blanks(text: &[u8]) -> &[u8]
+    ensures { result.now ≡ without_leading_blanks text.now }
 {
     let mut rest = text;
     while let Some((first, behind)) = rest.split_first() {
@@ -151,9 +152,9 @@ fn blanks_skipped(text: &[u8]) -> &[u8]
 }
 
 // A text without the blanks that it ends with.
-#[tactic(auto, unfolding(crate::specs::Script::blanks_cut))]
-fn blanks_cut(text: &[u8]) -> &[u8]
-    ensures { result.now ≡ blanks_cut text.now }
+#[tactic(auto, unfolding(crate::specs::Script::without_trailing_blanks))]
+fn without_trailing_blanks(text: &[u8]) -> &[u8]
+    ensures { result.now ≡ without_trailing_blanks text.now }
 {
     let mut rest = text;
     while let Some((last, before)) = rest.split_last() {

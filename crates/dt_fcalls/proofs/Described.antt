@@ -1,4 +1,4 @@
 -- What an open descriptor refers to is in the tree, by the words that functions name.
-use Rattle.dt_scene.proofs.Described.{described_file, described_dir, file_live, dir_live}
+use Rattle.dt_callbase.proofs.Described.{described_file, described_dir, file_live, dir_live}
 
 pub ruleset is_there = (described_file, described_dir, file_live, dir_live)

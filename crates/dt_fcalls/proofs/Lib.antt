@@ -1,4 +1,3 @@
-pub mod Drawn
 pub mod Kept
 pub mod Described
 pub mod Opening

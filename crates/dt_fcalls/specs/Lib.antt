@@ -1,8 +1,6 @@
 pub mod Nodes
 pub mod Stat
 pub mod Status
-pub mod Time
-pub mod Random
 pub mod Calls
 pub mod Open
 pub mod inner

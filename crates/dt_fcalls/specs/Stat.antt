@@ -5,7 +5,7 @@ use Rattle.dt_base.specs.declared.abi.TheConstants.{DT_DIR, DT_REG, DT_LNK, S_IF
 use Rattle.dt_tree.specs.declared.meta.Meta.{Meta}
 use Rattle.dt_fcalls.specs.declared.stat.TheConstants.{STAT_LEN, ST_DEV, ST_INO, ST_MODE, ST_NLINK, ST_SIZE, ST_BLKSIZE, ST_BLOCKS, ST_ATIME, ST_MTIME, ST_CTIME, DEVICE, BLOCK_SIZE, SECTOR_SIZE, STREAM_INODE, STREAM_MODE, PIPE_MODE}
 use Rattle.dt_fcalls.specs.declared.stat.Status.{Status}
-use Rattle.dt_fcalls.specs.declared.time.TheConstants.{FIRST_SECOND, SECOND_TICKS, NANOSECONDS}
+use Rattle.dt_callbase.specs.declared.wall_time.TheConstants.{FIRST_SECOND, SECOND_TICKS, NANOSECONDS}
 
 -- the bits of a mode that tell the type of a node
 abbrev pub type_bits : ℕ → ℕ

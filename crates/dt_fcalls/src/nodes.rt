@@ -5,23 +5,23 @@ ghost use Rattle.dt_base.specs.declared.abi.TheConstants.{CWD_DIRFD as FROM_CWD}
 ghost use Rattle.dt_base.specs.declared.limits.TheConstants.{MODE_LIMIT as MOST};
 ghost use Rattle.dt_host.specs.Cause.{HasCause};
 ghost use Rattle.dt_host.specs.World.{IsDir, IsLive, OnlyForest};
-ghost use Rattle.dt_tree.specs.Changes.{held, released};
+ghost use Rattle.dt_tree.specs.Changes.{tree_after_hold, tree_after_release};
 ghost use Rattle.dt_tree.specs.FileTree.{holds_of};
 ghost use Rattle.dt_tree.specs.Shape.{is_link};
 ghost use Rattle.dt_tree.specs.Table.{Stands, shape_of, tree_of};
 ghost use Rattle.dt_walk.specs.declared.place.Last.TheVariants.{Follow as followed};
 ghost use Rattle.dt_walk.specs.Placed.{IsPlaceIn, IsFollowed};
-ghost use Rattle.dt_scene.specs.Arguments.{argument};
-ghost use Rattle.dt_fcalls.specs.Nodes.{umask_row, faccessat_row, chmods, fchmodat_row, with_cwd, chdir_row};
-ghost use Rattle.dt_scene.specs.Places.{place_at};
-ghost use Rattle.dt_scene.specs.Scene.{Scene};
-ghost use Rattle.dt_scene.specs.Sound.{Sound, Serves, Ends, stage, scene};
+ghost use Rattle.dt_callbase.specs.Arguments.{argument};
+ghost use Rattle.dt_fcalls.specs.Nodes.{umask_row, faccessat_row, chmod_reply, fchmodat_row, cwd_reply, chdir_row};
+ghost use Rattle.dt_callbase.specs.Places.{place_at};
+ghost use Rattle.dt_callbase.specs.Scene.{Scene};
+ghost use Rattle.dt_callbase.specs.Sound.{Sound, HasRowReply, HasReplyOf, stage, scene};
 
 use crate::modes::PERMISSIONS;
 use dt_base::abi::{ACCESS_ALL, CWD_DIRFD, low_word};
 use dt_base::{Answer, Caller, Errno, MODE_LIMIT};
+use dt_callbase::{Fs, LastLink, place_at};
 use dt_host::{Host, HostErr};
-use dt_scene::{Fs, LastLink, place_at};
 use dt_space::Space;
 use dt_tree::Tree;
 use dt_walk::Place;
@@ -52,7 +52,7 @@ pub fn faccessat<H: Host>(
     args: [u64; 6],
 ) -> Result<Answer, HostErr>
     requires { Sound (stage fs.now (H.view host.old) caller.now space.now) }
-    ensures { Serves faccessat_row args (stage fs.now (H.view host.old) caller.now space.now)
+    ensures { HasRowReply faccessat_row args (stage fs.now (H.view host.old) caller.now space.now)
         (stage fs.now (H.view host.new) caller.now space.now) result
         (H.count host.old) (H.count host.new) }
 {
@@ -87,7 +87,7 @@ fn access<H: Host>(
     requires known { low_word (argument args 2) ≤ ACCESS_ALL }
     requires found { found ≡ place_at (scene (stage fs.now (H.view host.now) caller.now space.now))
         (argument args 0) (argument args 1) LastLink.Follow }
-    ensures { Serves faccessat_row args (stage fs.now (H.view host.now) caller.now space.now)
+    ensures { HasRowReply faccessat_row args (stage fs.now (H.view host.now) caller.now space.now)
         (stage fs.now (H.view host.now) caller.now space.now) result
         (H.count host.now) (H.count host.now) }
 {
@@ -110,7 +110,7 @@ pub fn fchmodat<H: Host>(
     args: [u64; 6],
 ) -> Result<Answer, HostErr>
     requires { Sound (stage fs.old (H.view host.old) caller.now space.now) }
-    ensures { Serves fchmodat_row args (stage fs.old (H.view host.old) caller.now space.now)
+    ensures { HasRowReply fchmodat_row args (stage fs.old (H.view host.old) caller.now space.now)
         (stage fs.new (H.view host.new) caller.now space.now) result
         (H.count host.old) (H.count host.new) }
 {
@@ -142,7 +142,7 @@ fn change_mode<H: Host>(
         (argument args 0) (argument args 1) LastLink.Follow }
     requires place { IfOk found (IsPlaceIn (shape_of fs.old.tree (H.view host.now).forest)) }
     requires followed { IfOk found (IsFollowed (shape_of fs.old.tree (H.view host.now).forest) followed) }
-    ensures { Serves fchmodat_row args (stage fs.old (H.view host.now) caller.now space.now)
+    ensures { HasRowReply fchmodat_row args (stage fs.old (H.view host.now) caller.now space.now)
         (stage fs.new (H.view host.now) caller.now space.now) result
         (H.count host.now) (H.count host.now) }
 {
@@ -170,7 +170,7 @@ fn set_mode<H: Host>(
     requires live { IsLive (shape_of fs.old.tree (H.view host.now).forest) n }
     requires no_link { is_link (shape_of fs.old.tree (H.view host.now).forest) n ≡ false }
     requires mode { mode ≤ MOST }
-    ensures { Ends (chmods mode n) (stage fs.old (H.view host.now) caller.now space.now)
+    ensures { HasReplyOf (chmod_reply mode n) (stage fs.old (H.view host.now) caller.now space.now)
         (stage fs.new (H.view host.now) caller.now space.now) result
         (H.count host.now) (H.count host.now) }
 {
@@ -190,7 +190,7 @@ pub fn chdir<H: Host>(
     args: [u64; 6],
 ) -> Result<Answer, HostErr>
     requires { Sound (stage fs.old (H.view host.old) caller.old space.now) }
-    ensures { Serves chdir_row args (stage fs.old (H.view host.old) caller.old space.now)
+    ensures { HasRowReply chdir_row args (stage fs.old (H.view host.old) caller.old space.now)
         (stage fs.new (H.view host.new) caller.new space.now) result
         (H.count host.old) (H.count host.new) }
 {
@@ -204,12 +204,12 @@ pub fn chdir<H: Host>(
         args[0],
         LastLink::Follow,
     )?;
-    enter(fs, host, caller, space, args, found)
+    enter_dir(fs, host, caller, space, args, found)
 }
 
 // Makes the directory at the place of a path the working directory.
 #[tactic(auto, unfolding(crate::specs::Nodes::chdir_row), using(crate::proofs::Kept::in_other_words))]
-fn enter<H: Host>(
+fn enter_dir<H: Host>(
     fs: &mut Fs,
     host: &mut H,
     caller: &mut Caller,
@@ -220,7 +220,7 @@ fn enter<H: Host>(
     requires sound { Sound (stage fs.old (H.view host.old) caller.old space.now) }
     requires found { found ≡ place_at (scene (stage fs.old (H.view host.old) caller.old space.now))
         FROM_CWD (argument args 0) LastLink.Follow }
-    ensures { Serves chdir_row args (stage fs.old (H.view host.old) caller.old space.now)
+    ensures { HasRowReply chdir_row args (stage fs.old (H.view host.old) caller.old space.now)
         (stage fs.new (H.view host.new) caller.new space.now) result
         (H.count host.old) (H.count host.new) }
 {
@@ -248,7 +248,7 @@ fn set_cwd<H: Host>(
 ) -> Result<Answer, HostErr>
     requires sound { Sound (stage fs.old (H.view host.old) caller.old space.now) }
     requires directory { IsDir (shape_of fs.old.tree (H.view host.old).forest) n }
-    ensures { Ends (with_cwd n) (stage fs.old (H.view host.old) caller.old space.now)
+    ensures { HasReplyOf (cwd_reply n) (stage fs.old (H.view host.old) caller.old space.now)
         (stage fs.new (H.view host.new) caller.new space.now) result
         (H.count host.old) (H.count host.new) }
 {
@@ -265,7 +265,7 @@ fn swap_hold<H: Host>(tree: &mut Tree, host: &mut H, last: u64, next: u64) -> Re
     requires directory { IsDir (shape_of tree.old (H.view host.old).forest) next }
     requires held { 1 ≤ holds_of (tree_of tree.old (H.view host.old).forest) last }
     ensures tree { OnOk result (tree_of tree.new (H.view host.new).forest
-        ≡ released (held (tree_of tree.old (H.view host.old).forest) next) last) }
+        ≡ tree_after_release (tree_after_hold (tree_of tree.old (H.view host.old).forest) next) last) }
     ensures stands { OnOk result (Stands tree.new (H.view host.new).forest) }
     ensures rest { OnlyForest (H.view host.old) (H.view host.new) }
     ensures cause { HasCause (H.count host.old) (H.count host.new)

@@ -9,20 +9,21 @@ ghost use Rattle.dt_fcalls.specs.inner.Steps.{Steps};
 ghost use Rattle.dt_host.specs.World.{Forest, IsFile, IsDir, IsLive};
 ghost use Rattle.dt_tree.specs.Calls.{IsNewName};
 ghost use Rattle.dt_tree.specs.Table.{Stands, shape_of, tree_of};
-ghost use Rattle.dt_fcalls.specs.Open.{access_of, is_exclusive, open_rule, desc_of, file_desc, dir_desc, opens};
-ghost use Rattle.dt_fcalls.specs.Open.{makes_file, creates, opens_missing, open_refusal, cuts_file, cuts, opens_found};
-ghost use Rattle.dt_fcalls.specs.Open.{opens_at, is_full, place_of_path, opens_path, openat_row};
-ghost use Rattle.dt_scene.specs.Places.{IsFound};
-ghost use Rattle.dt_scene.specs.Sound.{Sound, Serves, Ends, stage, scene};
+ghost use Rattle.dt_fcalls.specs.Open.{access_of, is_exclusive, open_rule, desc_of, file_desc, dir_desc, open_reply};
+ghost use Rattle.dt_fcalls.specs.Open.{file_creation, create_reply, open_missing_reply, open_refusal, file_truncation};
+ghost use Rattle.dt_fcalls.specs.Open.{truncate_reply, open_found_reply};
+ghost use Rattle.dt_fcalls.specs.Open.{open_at_reply, is_full, place_of_path, open_path_reply, openat_row};
+ghost use Rattle.dt_callbase.specs.Places.{IsFound};
+ghost use Rattle.dt_callbase.specs.Sound.{Sound, HasRowReply, HasReplyOf, stage, scene};
 
 use dt_base::abi::{
     O_ACCMODE, O_APPEND, O_CLOEXEC, O_CREAT, O_DIRECTORY, O_EXCL, O_LARGEFILE, O_NOCTTY,
-    O_NOFOLLOW, O_NONBLOCK, O_RDONLY, O_RDWR, O_TRUNC, O_WRONLY, has, low_word,
+    O_NOFOLLOW, O_NONBLOCK, O_RDONLY, O_RDWR, O_TRUNC, O_WRONLY, has_flag, low_word,
 };
 use dt_base::{Answer, Blob, Caller, Errno, MODE_LIMIT, What};
+use dt_callbase::{Fs, LastLink, masked_mode, start_of, walk_from};
 use dt_fds::{Desc, DescKind, Spot};
 use dt_host::{CallErr, Host, HostErr};
-use dt_scene::{Fs, LastLink, masked, start_of, walk_from};
 use dt_space::{Space, path_argument};
 use dt_tree::Tree;
 use dt_walk::Place;
@@ -54,7 +55,7 @@ fn access_of(flags: u32) -> u8
 fn is_exclusive(flags: u32) -> bool
     ensures { result ≡ is_exclusive flags }
 {
-    has(flags, O_CREAT) && has(flags, O_EXCL)
+    has_flag(flags, O_CREAT) && has_flag(flags, O_EXCL)
 }
 
 // What becomes of a link that is the last name.
@@ -63,7 +64,7 @@ fn open_rule(flags: u32) -> LastLink
 {
     if is_exclusive(flags) {
         LastLink::Keep
-    } else if has(flags, O_NOFOLLOW) {
+    } else if has_flag(flags, O_NOFOLLOW) {
         LastLink::KeepWithoutSlash
     } else {
         LastLink::Follow
@@ -78,8 +79,8 @@ fn desc_of(kind: DescKind, spot: Spot, flags: u32) -> Desc
         kind,
         spot,
         access: access_of(flags),
-        append: has(flags, O_APPEND),
-        nonblock: has(flags, O_NONBLOCK),
+        append: has_flag(flags, O_APPEND),
+        nonblock: has_flag(flags, O_NONBLOCK),
     }
 }
 
@@ -97,10 +98,16 @@ fn open_desc<H: Host>(
     requires good { IsDesc desc }
     requires there { IsIn (shape_of fs.old.tree (H.view host.now).forest) desc.kind }
     requires no_end { pipe_of desc.kind ≡ None }
-    ensures { Ends (opens flags desc) (stage fs.old (H.view host.now) caller.now space.now)
+    ensures { HasReplyOf (open_reply flags desc) (stage fs.old (H.view host.now) caller.now space.now)
         (stage fs.new (H.view host.now) caller.now space.now) result (H.count host.now) (H.count host.now) }
 {
-    match fs.files.add(host, &mut fs.tree, caller.vpid, desc, has(flags, O_CLOEXEC)) {
+    match fs.files.add(
+        host,
+        &mut fs.tree,
+        caller.vpid,
+        desc,
+        has_flag(flags, O_CLOEXEC),
+    ) {
         Ok(fd) => Ok(Answer::Value(u64::from(fd))),
         Err(CallErr::Errno(errno)) => Ok(Answer::Refused(errno)),
         Err(CallErr::Host(error)) => Err(error),
@@ -119,7 +126,7 @@ fn open_file<H: Host>(
     requires sound { Sound (stage fs.old (H.view host.now) caller.now space.now) }
     requires file { IsFile (shape_of fs.old.tree (H.view host.now).forest) n }
     requires access { access_of flags ≤ 2 }
-    ensures { Ends (opens flags (file_desc flags n)) (stage fs.old (H.view host.now) caller.now space.now)
+    ensures { HasReplyOf (open_reply flags (file_desc flags n)) (stage fs.old (H.view host.now) caller.now space.now)
         (stage fs.new (H.view host.now) caller.now space.now) result (H.count host.now) (H.count host.now) }
 {
     let desc = desc_of(DescKind::File(n), Spot::At(0), flags);
@@ -138,7 +145,7 @@ fn open_dir<H: Host>(
     requires sound { Sound (stage fs.old (H.view host.now) caller.now space.now) }
     requires directory { IsDir (shape_of fs.old.tree (H.view host.now).forest) n }
     requires access { access_of flags ≤ 2 }
-    ensures { Ends (opens flags (dir_desc flags n)) (stage fs.old (H.view host.now) caller.now space.now)
+    ensures { HasReplyOf (open_reply flags (dir_desc flags n)) (stage fs.old (H.view host.now) caller.now space.now)
         (stage fs.new (H.view host.now) caller.now space.now) result (H.count host.now) (H.count host.now) }
 {
     let desc = desc_of(DescKind::Dir(n), Spot::After(None), flags);
@@ -157,7 +164,7 @@ fn make_file<H: Host>(
     requires sound { Sound (stage fs.old (H.view host.old) caller.now space.now) }
     requires new { IsNewName (tree_of fs.old.tree (H.view host.old).forest) place.now.parent place.now.name }
     requires mode { mode ≤ MOST }
-    ensures step { Steps (makes_file mode place.now) (stage fs.old (H.view host.old) caller.now space.now)
+    ensures step { Steps (file_creation mode place.now) (stage fs.old (H.view host.old) caller.now space.now)
         (stage fs.new (H.view host.new) caller.now space.now) result (H.count host.old) (H.count host.new) }
     ensures file { IfOk result (λ made. IfOk made (IsFile (shape_of fs.new.tree (H.view host.new).forest))) }
 {
@@ -195,11 +202,11 @@ fn create<H: Host>(
     requires sound { Sound (stage fs.old (H.view host.old) caller.now space.now) }
     requires new { IsNewName (tree_of fs.old.tree (H.view host.old).forest) place.now.parent place.now.name }
     requires access { access_of flags ≤ 2 }
-    ensures { Ends (creates flags mode place.now) (stage fs.old (H.view host.old) caller.now space.now)
+    ensures { HasReplyOf (create_reply flags mode place.now) (stage fs.old (H.view host.old) caller.now space.now)
         (stage fs.new (H.view host.new) caller.now space.now) result (H.count host.old) (H.count host.new) }
 {
     let _before = host.faults();
-    let mode = masked(mode & MODE_LIMIT, caller.umask);
+    let mode = masked_mode(mode & MODE_LIMIT, caller.umask);
     match make_file(alloc, fs, host, caller, space, place, mode)? {
         Ok(n) => open_file(fs, host, caller, space, flags, n),
         Err(errno) => Ok(Answer::Refused(errno)),
@@ -221,11 +228,11 @@ fn open_missing<H: Host>(
     requires place { IsFound (shape_of fs.old.tree (H.view host.old).forest) place.now }
     requires missing { place.now.node ≡ None }
     requires access { access_of flags ≤ 2 }
-    ensures { Ends (opens_missing flags mode place.now) (stage fs.old (H.view host.old) caller.now space.now)
+    ensures { HasReplyOf (open_missing_reply flags mode place.now) (stage fs.old (H.view host.old) caller.now space.now)
         (stage fs.new (H.view host.new) caller.now space.now) result (H.count host.old) (H.count host.new) }
 {
     let _before = host.faults();
-    if !has(flags, O_CREAT) {
+    if !has_flag(flags, O_CREAT) {
         return Ok(Answer::Refused(Errno::NoEnt));
     }
     if place.slash {
@@ -245,11 +252,13 @@ fn open_refusal(tree: &Tree, flags: u32, n: u64) -> Option<Errno>
         return Some(Errno::Loop);
     }
     if tree.is_dir(n)
-        && (u32::from(access_of(flags)) != O_RDONLY || has(flags, O_CREAT) || has(flags, O_TRUNC))
+        && (u32::from(access_of(flags)) != O_RDONLY
+            || has_flag(flags, O_CREAT)
+            || has_flag(flags, O_TRUNC))
     {
         return Some(Errno::IsDir);
     }
-    if !tree.is_dir(n) && has(flags, O_DIRECTORY) {
+    if !tree.is_dir(n) && has_flag(flags, O_DIRECTORY) {
         return Some(Errno::NotDir);
     }
     None
@@ -265,7 +274,7 @@ fn cut_file<H: Host>(
 ) -> Result<Result<(), Errno>, HostErr>
     requires sound { Sound (stage fs.old (H.view host.old) caller.now space.now) }
     requires file { IsFile (shape_of fs.old.tree (H.view host.old).forest) n }
-    ensures step { Steps (cuts_file n) (stage fs.old (H.view host.old) caller.now space.now)
+    ensures step { Steps (file_truncation n) (stage fs.old (H.view host.old) caller.now space.now)
         (stage fs.new (H.view host.new) caller.now space.now) result (H.count host.old) (H.count host.new) }
     ensures file { OnOk result (IsFile (shape_of fs.new.tree (H.view host.new).forest) n) }
 {
@@ -293,7 +302,7 @@ fn cut_and_open<H: Host>(
     requires sound { Sound (stage fs.old (H.view host.old) caller.now space.now) }
     requires file { IsFile (shape_of fs.old.tree (H.view host.old).forest) n }
     requires access { access_of flags ≤ 2 }
-    ensures { Ends (cuts flags n) (stage fs.old (H.view host.old) caller.now space.now)
+    ensures { HasReplyOf (truncate_reply flags n) (stage fs.old (H.view host.old) caller.now space.now)
         (stage fs.new (H.view host.new) caller.now space.now) result (H.count host.old) (H.count host.new) }
 {
     let _before = host.faults();
@@ -315,7 +324,7 @@ fn open_node<H: Host>(
     requires sound { Sound (stage fs.old (H.view host.old) caller.now space.now) }
     requires live { IsLive (shape_of fs.old.tree (H.view host.old).forest) n }
     requires access { access_of flags ≤ 2 }
-    ensures { Ends (opens_found flags n) (stage fs.old (H.view host.old) caller.now space.now)
+    ensures { HasReplyOf (open_found_reply flags n) (stage fs.old (H.view host.old) caller.now space.now)
         (stage fs.new (H.view host.new) caller.now space.now) result (H.count host.old) (H.count host.new) }
 {
     let _before = host.faults();
@@ -325,7 +334,7 @@ fn open_node<H: Host>(
     if fs.tree.is_dir(n) {
         return open_dir(fs, host, caller, space, flags, n);
     }
-    if has(flags, O_TRUNC) {
+    if has_flag(flags, O_TRUNC) {
         return cut_and_open(fs, host, caller, space, flags, n);
     }
     open_file(fs, host, caller, space, flags, n)
@@ -345,7 +354,7 @@ fn open_place<H: Host>(
     requires sound { Sound (stage fs.old (H.view host.old) caller.now space.now) }
     requires place { IsFound (shape_of fs.old.tree (H.view host.old).forest) place.now }
     requires access { access_of flags ≤ 2 }
-    ensures { Ends (opens_at flags mode place.now place.now.node)
+    ensures { HasReplyOf (open_at_reply flags mode place.now place.now.node)
         (stage fs.old (H.view host.old) caller.now space.now)
         (stage fs.new (H.view host.new) caller.now space.now) result (H.count host.old) (H.count host.new) }
 {
@@ -357,7 +366,7 @@ fn open_place<H: Host>(
 
 // The place of a path that is to be opened.
 #[tactic(auto, unfolding(crate::specs::Open::place_of_path))]
-fn find<H: Host>(
+fn place_of_path<H: Host>(
     alloc: Global,
     fs: &Fs,
     host: &mut H,
@@ -383,7 +392,7 @@ fn find<H: Host>(
 }
 
 // Opens what a path led to.
-#[tactic(auto, unfolding(crate::specs::Open::opens_path), using(crate::proofs::Kept::in_other_words))]
+#[tactic(auto, unfolding(crate::specs::Open::open_path_reply), using(crate::proofs::Kept::in_other_words))]
 fn open_found<H: Host>(
     alloc: Global,
     fs: &mut Fs,
@@ -402,7 +411,8 @@ fn open_found<H: Host>(
         ≡ place_of_path (scene (stage fs.old (H.view host.old) caller.now space.now)) dirfd flags path.now }
     requires found { IfOk found (IsFound (shape_of fs.old.tree (H.view host.old).forest)) }
     requires access { access_of flags ≤ 2 }
-    ensures { Ends (opens_path dirfd flags mode path.now) (stage fs.old (H.view host.old) caller.now space.now)
+    ensures { HasReplyOf (open_path_reply dirfd flags mode path.now)
+        (stage fs.old (H.view host.old) caller.now space.now)
         (stage fs.new (H.view host.new) caller.now space.now) result (H.count host.old) (H.count host.new) }
 {
     let _before = host.faults();
@@ -413,7 +423,7 @@ fn open_found<H: Host>(
 }
 
 // Opens a path that was read.
-#[tactic(auto, unfolding(crate::specs::Open::opens_path), using(crate::proofs::Kept::after_asking))]
+#[tactic(auto, unfolding(crate::specs::Open::open_path_reply), using(crate::proofs::Kept::after_asking))]
 fn open_path<H: Host>(
     alloc: Global,
     fs: &mut Fs,
@@ -428,14 +438,15 @@ fn open_path<H: Host>(
     requires sound { Sound (stage fs.old (H.view host.old) caller.now space.now) }
     requires no_nul { IsTrue (has_no_nul path.now) }
     requires access { access_of flags ≤ 2 }
-    ensures { Ends (opens_path dirfd flags mode path.now) (stage fs.old (H.view host.old) caller.now space.now)
+    ensures { HasReplyOf (open_path_reply dirfd flags mode path.now)
+        (stage fs.old (H.view host.old) caller.now space.now)
         (stage fs.new (H.view host.new) caller.now space.now) result (H.count host.old) (H.count host.new) }
 {
     let _before = host.faults();
     if fs.files.is_full(caller.vpid) {
         return Ok(Answer::Refused(Errno::MFile));
     }
-    let found = find(alloc, fs, host, caller, space, dirfd, flags, path)?;
+    let found = place_of_path(alloc, fs, host, caller, space, dirfd, flags, path)?;
     open_found(
         alloc, fs, host, caller, space, dirfd, flags, mode, path, found,
     )
@@ -455,7 +466,7 @@ pub fn openat<H: Host>(
     args: [u64; 6],
 ) -> Result<Answer, HostErr>
     requires { Sound (stage fs.old (H.view host.old) caller.now space.now) }
-    ensures { Serves openat_row args (stage fs.old (H.view host.old) caller.now space.now)
+    ensures { HasRowReply openat_row args (stage fs.old (H.view host.old) caller.now space.now)
         (stage fs.new (H.view host.new) caller.now space.now) result
         (H.count host.old) (H.count host.new) }
 {
@@ -464,7 +475,7 @@ pub fn openat<H: Host>(
     if flags | OPEN_FLAGS != OPEN_FLAGS || flags & O_ACCMODE == O_ACCMODE {
         return Ok(Answer::Unsupported);
     }
-    if has(flags, O_CREAT) && has(flags, O_DIRECTORY) {
+    if has_flag(flags, O_CREAT) && has_flag(flags, O_DIRECTORY) {
         return Ok(Answer::Refused(Errno::Inval));
     }
     match path_argument(space, args[1])? {

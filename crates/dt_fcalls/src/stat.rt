@@ -1,17 +1,17 @@
 //! The layout of `struct stat` on 64-bit RISC-V, and what its fields hold (asm-generic/stat.h).
 ghost use Rattle.std.specs.Prelude.{◌≡◌, ◌+◌, ◌≤◌, length};
 ghost use Rattle.dt_fcalls.specs.declared.stat.TheConstants.{STAT_LEN as LEN};
-ghost use Rattle.dt_fcalls.specs.declared.time.TheConstants.{NANOSECONDS as HALF};
+ghost use Rattle.dt_callbase.specs.declared.wall_time.TheConstants.{NANOSECONDS as HALF};
 ghost use Rattle.dt_fcalls.specs.Stat.{type_bits, st_blocks, node_status, outer_status, stream_status, pipe_status};
 ghost use Rattle.dt_fcalls.specs.Stat.{with_identity, with_size_fields, with_time, stat_bytes};
 ghost use Rattle.dt_fcalls.specs.Stat.{stat_of, stream_stat, pipe_stat};
 
-use crate::time::{FIRST_SECOND, NANOSECONDS, SECOND_TICKS};
 use dt_base::abi::{
     AT_EMPTY_PATH, AT_NO_AUTOMOUNT, AT_SYMLINK_NOFOLLOW, DT_DIR, DT_LNK, DT_REG, S_IFCHR, S_IFDIR,
     S_IFIFO, S_IFLNK, S_IFREG,
 };
 use dt_base::{put32, put64};
+use dt_callbase::wall_time::{FIRST_SECOND, NANOSECONDS, SECOND_TICKS};
 use dt_tree::Meta;
 
 /// The flags that newfstatat(2) takes.

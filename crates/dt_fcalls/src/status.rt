@@ -5,17 +5,17 @@ ghost use Rattle.dt_host.specs.World.{target_at};
 ghost use Rattle.dt_tree.specs.Above.{path_of};
 ghost use Rattle.dt_tree.specs.Table.{shape_of};
 ghost use Rattle.dt_walk.specs.Placed.{IsPlaceIn};
-ghost use Rattle.dt_scene.specs.Arguments.{argument};
-ghost use Rattle.dt_scene.specs.Places.{place_at};
-ghost use Rattle.dt_scene.specs.Sound.{Sound, Serves, Ends, stage, scene};
-ghost use Rattle.dt_fcalls.specs.Status.{getcwd_row, tells_target, readlinkat_row};
+ghost use Rattle.dt_callbase.specs.Arguments.{argument};
+ghost use Rattle.dt_callbase.specs.Places.{place_at};
+ghost use Rattle.dt_callbase.specs.Sound.{Sound, HasRowReply, HasReplyOf, stage, scene};
+ghost use Rattle.dt_fcalls.specs.Status.{getcwd_row, target_reply, readlinkat_row};
 
 mod node;
 
 use dt_base::abi::{low_word, signed_word};
 use dt_base::{Answer, Blob, Caller, Errno, NoMemory};
+use dt_callbase::{Fs, LastLink, fill, place_at};
 use dt_host::{Host, HostErr};
-use dt_scene::{Fs, LastLink, fill, place_at};
 use dt_space::Space;
 use dt_walk::Place;
 pub use node::{fstat, newfstatat};
@@ -42,7 +42,7 @@ pub fn getcwd<H: Host>(
     args: [u64; 6],
 ) -> Result<Answer, HostErr>
     requires { Sound (stage fs.now (H.view host.old) caller.now space.old) }
-    ensures { Serves getcwd_row args (stage fs.now (H.view host.old) caller.now space.old)
+    ensures { HasRowReply getcwd_row args (stage fs.now (H.view host.old) caller.now space.old)
         (stage fs.now (H.view host.new) caller.now space.new) result
         (H.count host.old) (H.count host.new) }
 {
@@ -63,7 +63,7 @@ fn tell_path<H: Host>(
 ) -> Result<Answer, HostErr>
     requires sound { Sound (stage fs.now (H.view host.now) caller.now space.old) }
     requires path { path ≡ path_of (shape_of fs.now.tree (H.view host.now).forest) caller.now.cwd }
-    ensures { Serves getcwd_row args (stage fs.now (H.view host.now) caller.now space.old)
+    ensures { HasRowReply getcwd_row args (stage fs.now (H.view host.now) caller.now space.old)
         (stage fs.now (H.view host.now) caller.now space.new) result
         (H.count host.now) (H.count host.now) }
 {
@@ -91,7 +91,7 @@ pub fn readlinkat<H: Host>(
     args: [u64; 6],
 ) -> Result<Answer, HostErr>
     requires { Sound (stage fs.now (H.view host.old) caller.now space.old) }
-    ensures { Serves readlinkat_row args (stage fs.now (H.view host.old) caller.now space.old)
+    ensures { HasRowReply readlinkat_row args (stage fs.now (H.view host.old) caller.now space.old)
         (stage fs.now (H.view host.new) caller.now space.new) result
         (H.count host.old) (H.count host.new) }
 {
@@ -127,7 +127,7 @@ fn read_link<H: Host>(
     requires found { found ≡ place_at (scene (stage fs.now (H.view host.old) caller.now space.old))
         (argument args 0) (argument args 1) LastLink.KeepWithoutSlash }
     requires place { IfOk found (IsPlaceIn (shape_of fs.now.tree (H.view host.old).forest)) }
-    ensures { Serves readlinkat_row args (stage fs.now (H.view host.old) caller.now space.old)
+    ensures { HasRowReply readlinkat_row args (stage fs.now (H.view host.old) caller.now space.old)
         (stage fs.now (H.view host.new) caller.now space.new) result
         (H.count host.old) (H.count host.new) }
 {
@@ -152,7 +152,7 @@ fn tell_target<H: Host>(
     n: u64,
 ) -> Result<Answer, HostErr>
     requires { Sound (stage fs.now (H.view host.old) caller.now space.old) }
-    ensures { Ends (tells_target (argument args 2) (low_word (argument args 3)) n)
+    ensures { HasReplyOf (target_reply (argument args 2) (low_word (argument args 3)) n)
         (stage fs.now (H.view host.old) caller.now space.old)
         (stage fs.now (H.view host.new) caller.now space.new) result
         (H.count host.old) (H.count host.new) }
@@ -178,17 +178,17 @@ fn fill_target<H: Host>(
 ) -> Result<Answer, HostErr>
     requires sound { Sound (stage fs.now (H.view host.now) caller.now space.old) }
     requires target { target_at (shape_of fs.now.tree (H.view host.now).forest) n ≡ Some target.now }
-    ensures { Ends (tells_target (argument args 2) (low_word (argument args 3)) n)
+    ensures { HasReplyOf (target_reply (argument args 2) (low_word (argument args 3)) n)
         (stage fs.now (H.view host.now) caller.now space.old)
         (stage fs.now (H.view host.now) caller.now space.new) result
         (H.count host.now) (H.count host.now) }
 {
-    let bytes = cut(target.as_slice(), low_word(args[3]));
+    let bytes = prefix(target.as_slice(), low_word(args[3]));
     fill(fs, host, caller, space, args[2], bytes, bytes.len() as u64)
 }
 
 // So many bytes of a text, or all where it has fewer.
-fn cut(text: &[u8], size: u32) -> &[u8]
+fn prefix(text: &[u8], size: u32) -> &[u8]
     ensures { result.now ≡ take size text.now }
 {
     &text[..text.len().min(size as usize)]

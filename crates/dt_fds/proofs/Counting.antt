@@ -10,15 +10,15 @@ use Rattle.std.proofs.lemmas.Option.{unwrap_or-slice_get}
 use Rattle.std.proofs.lemmas.List.{length-set}
 use Rattle.std.proofs.lemmas.Bool.Decides.{nat_tests}
 use Rattle.std.proofs.lemmas.List.Sums.{sum_by-set}
-use Rattle.dt_host.proofs.Maps.{at_insert, at_remove, get-insert_same, get-insert_other, get-remove_same, get-remove_other}
-use Rattle.dt_host.specs.Total.{total}
-use Rattle.dt_host.specs.inner.Weight.{weight}
-use Rattle.dt_host.proofs.Totals.{total-insert, total-remove}
+use Rattle.dt_tables.proofs.Maps.{at_insert, at_remove, get-insert_same, get-insert_other, get-remove_same, get-remove_other}
+use Rattle.dt_tables.specs.Total.{total}
+use Rattle.dt_tables.specs.inner.Weight.{weight}
+use Rattle.dt_tables.proofs.Totals.{total-insert, total-remove}
 use Rattle.dt_fds.specs.declared.desc.TheConstants.{DESCRIPTOR_LIMIT}
 use Rattle.dt_fds.specs.declared.desc.Desc.{Desc}
 use Rattle.dt_fds.specs.declared.desc.Slot.{Slot}
 use Rattle.dt_tree.specs.Shape.{one_for}
-use Rattle.dt_fds.specs.Descriptions.{IsDesc, Descriptions, Table, table_at, refers, descriptors_of, with_slot, swept, freed}
+use Rattle.dt_fds.specs.Descriptions.{IsDesc, Descriptions, Table, table_at, slot_references, descriptors_of, with_slot, without_unreferenced, without_slot}
 use Rattle.dt_fds.specs.inner.Counts.{Counts}
 use Rattle.dt_fds.proofs.Slots.{flat}
 
@@ -26,7 +26,7 @@ abbrev pub Tables : Type 0
 Tables = FinMap nat_cmp Table
 
 abbrev pub count : Tables → ℕ → ℕ
-count tables k = total (sum_by (refers k)) tables
+count tables k = total (sum_by (slot_references k)) tables
 
 abbrev pub table_in : Tables → ℕ → Table
 table_in tables p = unwrap_or (get tables p) []
@@ -44,20 +44,20 @@ length_in tables p sized there = by_found (get tables p) (sized p) there
 
 -- a slot of a table changed: what it referred to is counted less, what it refers to more
 pub count-set : (tables : Tables) (p fd : ℕ) (slot : Option Slot) (k : ℕ) → IsSome (get tables p) → fd < length (table_in tables p)
-    → count (insert tables p (slice_set (table_in tables p) fd slot)) k + refers k (option_flatten (slice_get (table_in tables p) fd)) ≡ count tables k + refers k slot
+    → count (insert tables p (slice_set (table_in tables p) fd slot)) k + slot_references k (option_flatten (slice_get (table_in tables p) fd)) ≡ count tables k + slot_references k slot
 count-set tables p fd slot k there within =
     let table = table_in tables p in
-    let all = total-insert nat_cmp_total (sum_by (refers k)) tables p (slice_set table fd slot) in
-    let found = ap (weight (sum_by (refers k))) (there_is (get tables p) [] there) in
-    let one = sum_by-set (refers k) table fd slot None within in
-    let old = ap (refers k) (flat (slice_get table fd) ∙ unwrap_or-slice_get table fd None) in
+    let all = total-insert nat_cmp_total (sum_by (slot_references k)) tables p (slice_set table fd slot) in
+    let found = ap (weight (sum_by (slot_references k))) (there_is (get tables p) [] there) in
+    let one = sum_by-set (slot_references k) table fd slot None within in
+    let old = ap (slot_references k) (flat (slice_get table fd) ∙ unwrap_or-slice_get table fd None) in
     omega arith
 
 -- a slot refers to its own number once, and to no other
-pub refers_own : (slot : Slot) → refers slot.number (Some slot) ≡ 1
+pub refers_own : (slot : Slot) → slot_references slot.number (Some slot) ≡ 1
 refers_own slot = grind (arith, nat_tests)
 
-pub refers_other : (slot : Slot) (k : ℕ) → k ≢ slot.number → refers k (Some slot) ≡ 0
+pub refers_other : (slot : Slot) (k : ℕ) → k ≢ slot.number → slot_references k (Some slot) ≡ 0
 refers_other slot k apart = grind (arith, nat_tests)
 
 sized-set : (tables : Tables) (p fd : ℕ) (slot : Option Slot) → ((q : ℕ) → IfSome (get tables q) (λ table. length table ≡ DESCRIPTOR_LIMIT)) → IsSome (get tables p)
@@ -74,9 +74,9 @@ pub counts-with_slot : (descs : FinMap nat_cmp Desc) (counts : FinMap nat_cmp �
 counts-with_slot descs counts tables next p fd slot h there within free living = record {
   counted = λ k.
       let moved = count-set tables p fd (Some slot) k there (omega (arith, length_in tables p h.sized there)) in
-      let none = ap (refers k) free in
+      let none = ap (slot_references k) free in
       at_insert nat_cmp_total nat_cmp-IsAntisymmetric (λ found. unwrap_or found 0 ≡ count (insert tables p (slice_set (table_in tables p) fd (Some slot))) k) counts slot.number _ k
-      (λ is. let own = ap (λ n. refers n (Some slot)) is ∙ refers_own slot in let was = ap (λ n. unwrap_or (get counts n) 0) is in omega (arith, h.counted k))
+      (λ is. let own = ap (λ n. slot_references n (Some slot)) is ∙ refers_own slot in let was = ap (λ n. unwrap_or (get counts n) 0) is in omega (arith, h.counted k))
       (λ apart. omega (arith, h.counted k, refers_other slot k apart));
   alive = λ k.
       at_insert nat_cmp_total nat_cmp-IsAntisymmetric (λ found. IfSome found (λ count. 0 < count)) counts slot.number _ k (λ is. omega arith) (λ apart. h.alive k);
@@ -117,10 +117,10 @@ open-limit tables p fd slot sized is = omega (arith, open-within (table_in table
 -- how the count of a slot's description falls with it
 pub count-freed : (tables : Tables) (p fd : ℕ) (slot : Slot) → ((q : ℕ) → IfSome (get tables q) (λ table. length table ≡ DESCRIPTOR_LIMIT))
     → option_flatten (slice_get (table_in tables p) fd) ≡ Some slot → (k : ℕ)
-    → count (insert tables p (slice_set (table_in tables p) fd None)) k + refers k (Some slot) ≡ count tables k
+    → count (insert tables p (slice_set (table_in tables p) fd None)) k + slot_references k (Some slot) ≡ count tables k
 count-freed tables p fd slot sized here k =
     let moved = count-set tables p fd None k (open-there tables p fd slot here) (open-within (table_in tables p) fd slot here) in
-    let was = ap (refers k) here in
+    let was = ap (slot_references k) here in
     omega arith
 
 -- a descriptor is freed
@@ -137,7 +137,7 @@ counts-freed descs counts tables next p fd slot h here =
     elim (c == 1) as (λ b. (c == 1) ≡ b → Counts (cond b (remove descs n) descs) (cond b (remove counts n) (insert counts n (c - 1))) new next) [
       | true ↦ λ e. record {
         counted = λ k. at_remove nat_cmp_total nat_cmp-IsAntisymmetric (λ found. unwrap_or found 0 ≡ count new k) counts n k
-            (λ is. let own = ap (λ n. refers n (Some slot)) is ∙ refers_own slot in let was = ap (λ n. unwrap_or (get counts n) 0) is in omega (arith, fell k, h.counted k, is_one c e))
+            (λ is. let own = ap (λ n. slot_references n (Some slot)) is ∙ refers_own slot in let was = ap (λ n. unwrap_or (get counts n) 0) is in omega (arith, fell k, h.counted k, is_one c e))
             (λ apart. omega (arith, fell k, h.counted k, refers_other slot k apart));
         alive = λ k. at_remove nat_cmp_total nat_cmp-IsAntisymmetric (λ found. IfSome found (λ count. 0 < count)) counts n k (λ is. tt) (λ apart. h.alive k);
         same = λ k. at_remove nat_cmp_total nat_cmp-IsAntisymmetric (λ found. is_some found ≡ is_some (get (remove descs n) k)) counts n k
@@ -149,7 +149,7 @@ counts-freed descs counts tables next p fd slot h here =
       }
       | false ↦ λ e. record {
         counted = λ k. at_insert nat_cmp_total nat_cmp-IsAntisymmetric (λ found. unwrap_or found 0 ≡ count new k) counts n (c - 1) k
-            (λ is. let own = ap (λ n. refers n (Some slot)) is ∙ refers_own slot in let was = ap (λ n. unwrap_or (get counts n) 0) is in omega (arith, fell k, h.counted k))
+            (λ is. let own = ap (λ n. slot_references n (Some slot)) is ∙ refers_own slot in let was = ap (λ n. unwrap_or (get counts n) 0) is in omega (arith, fell k, h.counted k))
             (λ apart. omega (arith, fell k, h.counted k, refers_other slot k apart));
         alive = λ k. at_insert nat_cmp_total nat_cmp-IsAntisymmetric (λ found. IfSome found (λ count. 0 < count)) counts n (c - 1) k
             (λ is. omega (arith, fell n, h.counted n, refers_own slot, is_not_one c e)) (λ apart. h.alive k);
@@ -194,9 +194,9 @@ counts-entered descs counts tables next p fd desc slot h there within free new g
     record {
       counted = λ k.
           let more = count-set tables p fd (Some slot) k there (omega (arith, length_in tables p h.sized there)) in
-          let none = ap (refers k) free in
+          let none = ap (slot_references k) free in
           at_insert nat_cmp_total nat_cmp-IsAntisymmetric (λ found. unwrap_or found 0 ≡ count (insert tables p (slice_set (table_in tables p) fd (Some slot))) k) counts next 1 k
-          (λ is. let own = ap (λ n. refers n (Some slot)) (is ∙ sym new) ∙ refers_own slot in let was = ap (λ n. unwrap_or (get counts n) 0) is in omega (arith, h.counted k))
+          (λ is. let own = ap (λ n. slot_references n (Some slot)) (is ∙ sym new) ∙ refers_own slot in let was = ap (λ n. unwrap_or (get counts n) 0) is in omega (arith, h.counted k))
           (λ apart. omega (arith, h.counted k, refers_other slot k (λ is. apart (is ∙ new))));
       alive = λ k. at_insert nat_cmp_total nat_cmp-IsAntisymmetric (λ found. IfSome found (λ count. 0 < count)) counts next 1 k (λ is. omega arith) (λ apart. h.alive k);
       same = λ k. at_insert nat_cmp_total nat_cmp-IsAntisymmetric (λ found. is_some found ≡ is_some (get (insert descs next desc) k)) counts next 1 k
@@ -209,8 +209,8 @@ counts-entered descs counts tables next p fd desc slot h there within free new g
 
 -- the code's way to sweep is the definition's
 pub freed-is : (f : Descriptions) (p fd n c : ℕ) → (c == 1) ≡ (descriptors_of (with_slot f p fd None) n == 0)
-    → ◌≡◌ {A = Descriptions} (record { descs = cond (c == 1) (remove f.descs n) f.descs; tables = insert f.tables p (slice_set (table_at f p) fd None); next = f.next }) (freed f p fd n)
-unfolding freed with_slot swept
+    → ◌≡◌ {A = Descriptions} (record { descs = cond (c == 1) (remove f.descs n) f.descs; tables = insert f.tables p (slice_set (table_at f p) fd None); next = f.next }) (without_slot f p fd n)
+unfolding without_slot with_slot without_unreferenced
 freed-is f p fd n c e =
     let new = insert f.tables p (slice_set (table_at f p) fd None) in
     by_test (c == 1) ∙ ap (λ b. cond b (record { descs = remove f.descs n; tables = new; next = f.next }) (record { descs = f.descs; tables = new; next = f.next })) e
@@ -264,7 +264,7 @@ pub counts-marked : (descs : FinMap nat_cmp Desc) (counts : FinMap nat_cmp ℕ) 
 counts-marked descs counts tables next p fd slot new h here e = record {
   counted = λ k.
       let moved = count-set tables p fd (Some new) k (open-there tables p fd slot here) (open-within (table_in tables p) fd slot here) in
-      let was = ap (refers k) here in
+      let was = ap (slot_references k) here in
       let same = ap (λ n. one_for n k) e in
       omega (arith, h.counted k);
   alive = h.alive;
@@ -275,7 +275,7 @@ counts-marked descs counts tables next p fd slot new h here e = record {
 }
 
 -- a table whose descriptors are free refers to nothing
-none-counted : (table : Table) → ((fd : ℕ) → fd < length table → option_flatten (slice_get table fd) ≡ None) → (k : ℕ) → sum_by (refers k) table ≡ 0
+none-counted : (table : Table) → ((fd : ℕ) → fd < length table → option_flatten (slice_get table fd) ≡ None) → (k : ℕ) → sum_by (slot_references k) table ≡ 0
 none-counted [] none k = refl
 none-counted (None ∷ table) none k = none-counted table (λ fd less. none (suc fd) (omega arith)) k
 none-counted (Some slot ∷ table) none k = let is : Some slot ≡ None = none 0 (omega arith) in cc
@@ -286,7 +286,7 @@ pub counts-forgotten : (descs : FinMap nat_cmp Desc) (counts : FinMap nat_cmp �
     → Counts descs counts (remove tables p) next
 counts-forgotten descs counts tables next p h none = record {
   counted = λ k.
-      let sum = total-remove nat_cmp_total (sum_by (refers k)) nat_cmp-IsAntisymmetric tables p in
+      let sum = total-remove nat_cmp_total (sum_by (slot_references k)) nat_cmp-IsAntisymmetric tables p in
       let zero_now = by_found k (get tables p) (h.sized p) none in
       omega (arith, h.counted k);
   alive = h.alive;
@@ -296,7 +296,7 @@ counts-forgotten descs counts tables next p h none = record {
   sized = λ q. at_remove nat_cmp_total nat_cmp-IsAntisymmetric (λ found. IfSome found (λ table. length table ≡ DESCRIPTOR_LIMIT)) tables p q (λ is. tt) (λ apart. h.sized q);
 }
   where
-    by_found : (k : ℕ) (found : Option Table) → IfSome found (λ table. length table ≡ DESCRIPTOR_LIMIT) → ((fd : ℕ) → fd < DESCRIPTOR_LIMIT → option_flatten (slice_get (unwrap_or found []) fd) ≡ None) → weight (sum_by (refers k)) found ≡ 0
+    by_found : (k : ℕ) (found : Option Table) → IfSome found (λ table. length table ≡ DESCRIPTOR_LIMIT) → ((fd : ℕ) → fd < DESCRIPTOR_LIMIT → option_flatten (slice_get (unwrap_or found []) fd) ≡ None) → weight (sum_by (slot_references k)) found ≡ 0
     by_found k None size none = refl
     by_found k (Some table) size none = none-counted table (λ fd less. none fd (omega (arith, size))) k
 

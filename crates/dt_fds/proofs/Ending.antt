@@ -6,47 +6,47 @@ use Rattle.std.specs.Option.{option_and_then}
 use Rattle.std.specs.Ordering.{nat_cmp}
 use Rattle.std.specs.Cmp.{nat_cmp_total}
 use Rattle.std.specs.FinMap.{FinMap, get, remove, nat_cmp-IsAntisymmetric}
-use Rattle.dt_host.specs.Total.{total}
-use Rattle.dt_host.specs.inner.Weight.{weight}
-use Rattle.dt_host.proofs.Totals.{total-insert, total-remove}
+use Rattle.dt_tables.specs.Total.{total}
+use Rattle.dt_tables.specs.inner.Weight.{weight}
+use Rattle.dt_tables.proofs.Totals.{total-insert, total-remove}
 use Rattle.dt_fds.specs.declared.desc.Desc.{Desc}
 use Rattle.dt_fds.specs.declared.desc.DescKind.{DescKind}
 use Rattle.dt_fds.specs.declared.ends.Ends.{Ends}
-use Rattle.dt_host.specs.World.{Pipes as HostPipes}
+use Rattle.dt_host.specs.World.{PipeContents}
 use Rattle.dt_pipes.specs.Table as pipes
 use Rattle.dt_pipes.specs.Table.{pipes_of, has_pipe}
 use Rattle.dt_pipes.proofs.Held.{has-pipes_of}
 use Rattle.dt_fds.specs.Pipes.{PipesView, pipe_content, without_pipe, pipe_at}
-use Rattle.dt_fds.specs.Descriptions.{Descriptions, pipe_of, read_pipe, write_pipe, named_by, readers, writers, descriptors_of, with_slot, swept, freed, gone}
+use Rattle.dt_fds.specs.Descriptions.{Descriptions, pipe_of, read_pipe, write_pipe, one_if_named, readers, writers, descriptors_of, with_slot, without_unreferenced, without_slot, unreferenced}
 use Rattle.dt_fds.specs.declared.desc.Slot.{Slot}
 use Rattle.dt_fds.specs.Descriptions.{description_at, slot_description, slot_at}
-use Rattle.dt_fds.specs.Holding.{Holding, without_end, pipes_after_end, left, read_of, read_from, read_by, held_by, write_to, write_by}
+use Rattle.dt_fds.specs.Holding.{Holding, without_end, pipes_after_end, pipes_without_description, read_of_content, read_from_pipe, read_by_description, pipe_content_by, write_to_pipe, write_by_description}
 use Rattle.dt_fds.specs.Ends.{AreCounted, is_read, is_written, one_if}
-use Rattle.dt_fds.specs.inner.Ends.{named_end, without_ends, last_end, without_last, end_by}
+use Rattle.dt_fds.specs.inner.Ends.{one_if_end, without_ends, last_end, without_last, pipe_end_by}
 use Rattle.dt_fds.specs.declared.desc.DescKind.TheVariants.{File, Dir, PipeRead, PipeWrite, Input, Stream}
-use Rattle.dt_fds.specs.Descriptions.{with_new_description, opened}
+use Rattle.dt_fds.specs.Descriptions.{with_new_description, with_opened}
 use Rattle.dt_fds.specs.Backs.{AllEnds, KeepsNodes}
 use Rattle.dt_fds.proofs.Backing.{names_read, names_written, KeepsNodes-with_slot}
 
 -- a description that goes is counted no more
-swept-total : (g : Desc → ℕ) (f : Descriptions) (k : ℕ) → (let new = swept f k in total g new.descs + weight g (gone f k) ≡ total g f.descs)
-unfolding swept gone
+swept-total : (g : Desc → ℕ) (f : Descriptions) (k : ℕ) → (let new = without_unreferenced f k in total g new.descs + weight g (unreferenced f k) ≡ total g f.descs)
+unfolding without_unreferenced unreferenced
 swept-total g f k =
     elim (descriptors_of f k == 0) as (λ b. total g (cond b (record f { descs = remove f.descs k }) f).descs + weight g (cond b (get f.descs k) None) ≡ total g f.descs) [
       | true ↦ total-remove nat_cmp_total g nat_cmp-IsAntisymmetric f.descs k
       | false ↦ omega arith
     ]
 
-reading-freed : (f : Descriptions) (p fd k q : ℕ) → readers (freed f p fd k) q + weight (names_read q) (gone (with_slot f p fd None) k) ≡ readers f q
-unfolding readers freed with_slot
+reading-freed : (f : Descriptions) (p fd k q : ℕ) → readers (without_slot f p fd k) q + weight (names_read q) (unreferenced (with_slot f p fd None) k) ≡ readers f q
+unfolding readers without_slot with_slot
 reading-freed f p fd k q = swept-total (names_read q) (with_slot f p fd None) k
 
-writing-freed : (f : Descriptions) (p fd k q : ℕ) → writers (freed f p fd k) q + weight (names_written q) (gone (with_slot f p fd None) k) ≡ writers f q
-unfolding writers freed with_slot
+writing-freed : (f : Descriptions) (p fd k q : ℕ) → writers (without_slot f p fd k) q + weight (names_written q) (unreferenced (with_slot f p fd None) k) ≡ writers f q
+unfolding writers without_slot with_slot
 writing-freed f p fd k q = swept-total (names_written q) (with_slot f p fd None) k
 
 -- what went, as its kind counts
-kind-weight : (number : DescKind → Option ℕ) (q : ℕ) (lost : Option Desc) → weight (λ (desc : Desc). named_by q (number desc.kind)) lost ≡ named_end q number (option_map (λ (desc : Desc). desc.kind) lost)
+kind-weight : (number : DescKind → Option ℕ) (q : ℕ) (lost : Option Desc) → weight (λ (desc : Desc). one_if_named q (number desc.kind)) lost ≡ one_if_end q number (option_map (λ (desc : Desc). desc.kind) lost)
 kind-weight number q None = refl
 kind-weight number q (Some desc) = refl
 
@@ -55,21 +55,21 @@ noted : (b : Bool) → 1 ≤ one_if b → b ≡ true
 noted true h = refl
 noted false h = absurd (let never : 1 ≤ 0 = h in omega arith)
 
-one_here : (n : ℕ) → named_by n (Some n) ≡ 1
+one_here : (n : ℕ) → one_if_named n (Some n) ≡ 1
 one_here n = grind (arith, nat_tests)
 
-open-end : (number : DescKind → Option ℕ) (open_at : ℕ → Bool) (lost : Option Desc) → ((q : ℕ) → weight (λ (desc : Desc). named_by q (number desc.kind)) lost ≤ one_if (open_at q))
+open-end : (number : DescKind → Option ℕ) (open_at : ℕ → Bool) (lost : Option Desc) → ((q : ℕ) → weight (λ (desc : Desc). one_if_named q (number desc.kind)) lost ≤ one_if (open_at q))
     → IfSome (option_map (λ (desc : Desc). desc.kind) lost) (λ kind. IfSome (number kind) (λ q. open_at q ≡ true))
 open-end number open_at None h = tt
 open-end number open_at (Some desc) h = by_number (number desc.kind) h
   where
-    by_number : (found : Option ℕ) → ((q : ℕ) → named_by q found ≤ one_if (open_at q)) → IfSome found (λ q. open_at q ≡ true)
+    by_number : (found : Option ℕ) → ((q : ℕ) → one_if_named q found ≤ one_if (open_at q)) → IfSome found (λ q. open_at q ≡ true)
     by_number None h = tt
     by_number (Some q) h = noted (open_at q) (let one = one_here q in omega (arith, h q))
 
 module _ (f : Descriptions) (ends : FinMap nat_cmp Ends) (p fd k : ℕ) (counted : AreCounted f ends) where
   abbrev pub lost : Option Desc
-  lost = gone (with_slot f p fd None) k
+  lost = unreferenced (with_slot f p fd None) k
 
   pub gone-read : IfSome (option_map (λ (desc : Desc). desc.kind) lost) (λ kind. IfSome (read_pipe kind) (λ q. is_read (get ends q) ≡ true))
   gone-read = open-end read_pipe (λ q. is_read (get ends q)) lost (λ q. omega (arith, counted.reading q, reading-freed f p fd k q))
@@ -79,12 +79,12 @@ module _ (f : Descriptions) (ends : FinMap nat_cmp Ends) (p fd k : ℕ) (counted
 
   -- the ends are counted also then
   pub counted-freed : (now : FinMap nat_cmp Ends) (kind : Option DescKind) → kind ≡ option_map (λ (desc : Desc). desc.kind) lost
-      → ((q : ℕ) → one_if (is_read (get now q)) + named_end q read_pipe kind ≡ one_if (is_read (get ends q)))
-      → ((q : ℕ) → one_if (is_written (get now q)) + named_end q write_pipe kind ≡ one_if (is_written (get ends q)))
-      → AreCounted (freed f p fd k) now
+      → ((q : ℕ) → one_if (is_read (get now q)) + one_if_end q read_pipe kind ≡ one_if (is_read (get ends q)))
+      → ((q : ℕ) → one_if (is_written (get now q)) + one_if_end q write_pipe kind ≡ one_if (is_written (get ends q)))
+      → AreCounted (without_slot f p fd k) now
   counted-freed now kind is reading writing = record {
-    reading = λ q. let same = kind-weight read_pipe q lost ∙ ap (named_end q read_pipe) (sym is) in omega (arith, counted.reading q, reading-freed f p fd k q, reading q);
-    writing = λ q. let same = kind-weight write_pipe q lost ∙ ap (named_end q write_pipe) (sym is) in omega (arith, counted.writing q, writing-freed f p fd k q, writing q);
+    reading = λ q. let same = kind-weight read_pipe q lost ∙ ap (one_if_end q read_pipe) (sym is) in omega (arith, counted.reading q, reading-freed f p fd k q, reading q);
+    writing = λ q. let same = kind-weight write_pipe q lost ∙ ap (one_if_end q write_pipe) (sym is) in omega (arith, counted.writing q, writing-freed f p fd k q, writing q);
   }
 
 -- the pipes without the one that goes, if one does
@@ -93,7 +93,7 @@ without_gone pipes None = pipes
 without_gone pipes (Some q) = without_pipe pipes q
 
 -- what a description that went leaves of the pipes
-pub left-last : (f : Descriptions) (ends : FinMap nat_cmp Ends) (m : PipesView) (lost : Option Desc) → AreCounted f ends → left f m lost ≡ without_gone m (last_end ends (option_map (λ (desc : Desc). desc.kind) lost))
+pub left-last : (f : Descriptions) (ends : FinMap nat_cmp Ends) (m : PipesView) (lost : Option Desc) → AreCounted f ends → pipes_without_description f m lost ≡ without_gone m (last_end ends (option_map (λ (desc : Desc). desc.kind) lost))
 unfolding without_end
 left-last f ends m None counted = refl
 left-last f ends m (Some desc) counted = by_pipe (pipe_of desc.kind)
@@ -108,7 +108,7 @@ left-last f ends m (Some desc) counted = by_pipe (pipe_of desc.kind)
     by_pipe (Some q) = by_test q (is_read (get ends q)) (is_written (get ends q)) (counted.reading q) (counted.writing q)
 
 -- what is no end of a pipe is neither end
-no-end : (kind : DescKind) (q : ℕ) → pipe_of kind ≡ None → (named_by q (read_pipe kind) ≡ 0) × (named_by q (write_pipe kind) ≡ 0)
+no-end : (kind : DescKind) (q : ℕ) → pipe_of kind ≡ None → (one_if_named q (read_pipe kind) ≡ 0) × (one_if_named q (write_pipe kind) ≡ 0)
 no-end (File n) q e = (refl, refl)
 no-end (Dir n) q e = (refl, refl)
 no-end (PipeRead r) q e = cc
@@ -117,32 +117,32 @@ no-end Input q e = (refl, refl)
 no-end (Stream stream) q e = (refl, refl)
 
 -- a new description is counted
-reading-new : (f : Descriptions) (desc : Desc) (q : ℕ) → get f.descs f.next ≡ None → readers (with_new_description f desc) q ≡ readers f q + named_by q (read_pipe desc.kind)
+reading-new : (f : Descriptions) (desc : Desc) (q : ℕ) → get f.descs f.next ≡ None → readers (with_new_description f desc) q ≡ readers f q + one_if_named q (read_pipe desc.kind)
 unfolding with_new_description readers
 reading-new f desc q fresh =
     let sum = total-insert nat_cmp_total (names_read q) f.descs f.next desc in
     let none = ap (weight (names_read q)) fresh in
     omega arith
 
-writing-new : (f : Descriptions) (desc : Desc) (q : ℕ) → get f.descs f.next ≡ None → writers (with_new_description f desc) q ≡ writers f q + named_by q (write_pipe desc.kind)
+writing-new : (f : Descriptions) (desc : Desc) (q : ℕ) → get f.descs f.next ≡ None → writers (with_new_description f desc) q ≡ writers f q + one_if_named q (write_pipe desc.kind)
 unfolding with_new_description writers
 writing-new f desc q fresh =
     let sum = total-insert nat_cmp_total (names_written q) f.descs f.next desc in
     let none = ap (weight (names_written q)) fresh in
     omega arith
 
-pub reading-opened : (f : Descriptions) (p fd : ℕ) (desc : Desc) (cloexec : Bool) (q : ℕ) → get f.descs f.next ≡ None → readers (opened f p fd desc cloexec) q ≡ readers f q + named_by q (read_pipe desc.kind)
+pub reading-opened : (f : Descriptions) (p fd : ℕ) (desc : Desc) (cloexec : Bool) (q : ℕ) → get f.descs f.next ≡ None → readers (with_opened f p fd desc cloexec) q ≡ readers f q + one_if_named q (read_pipe desc.kind)
 reading-opened f p fd desc cloexec q fresh =
     let kept = KeepsNodes-with_slot (with_new_description f desc) p fd (Some (record { number = f.next; cloexec = cloexec })) in
     kept.reading q ∙ reading-new f desc q fresh
 
-pub writing-opened : (f : Descriptions) (p fd : ℕ) (desc : Desc) (cloexec : Bool) (q : ℕ) → get f.descs f.next ≡ None → writers (opened f p fd desc cloexec) q ≡ writers f q + named_by q (write_pipe desc.kind)
+pub writing-opened : (f : Descriptions) (p fd : ℕ) (desc : Desc) (cloexec : Bool) (q : ℕ) → get f.descs f.next ≡ None → writers (with_opened f p fd desc cloexec) q ≡ writers f q + one_if_named q (write_pipe desc.kind)
 writing-opened f p fd desc cloexec q fresh =
     let kept = KeepsNodes-with_slot (with_new_description f desc) p fd (Some (record { number = f.next; cloexec = cloexec })) in
     kept.writing q ∙ writing-new f desc q fresh
 
 -- the ends are counted also with a new description that is none
-pub counted-opened : (f : Descriptions) (ends : FinMap nat_cmp Ends) (p fd : ℕ) (desc : Desc) (cloexec : Bool) → get f.descs f.next ≡ None → pipe_of desc.kind ≡ None → AreCounted f ends → AreCounted (opened f p fd desc cloexec) ends
+pub counted-opened : (f : Descriptions) (ends : FinMap nat_cmp Ends) (p fd : ℕ) (desc : Desc) (cloexec : Bool) → get f.descs f.next ≡ None → pipe_of desc.kind ≡ None → AreCounted f ends → AreCounted (with_opened f p fd desc cloexec) ends
 counted-opened f ends p fd desc cloexec fresh none counted = record {
   reading = λ q. let zero = no-end desc.kind q none in omega (arith, counted.reading q, reading-opened f p fd desc cloexec q fresh, zero.0);
   writing = λ q. let zero = no-end desc.kind q none in omega (arith, counted.writing q, writing-opened f p fd desc cloexec q fresh, zero.1);
@@ -156,8 +156,8 @@ counted-kept p f g ends kept counted = record {
 }
 
 -- the pipe of a description that goes is there
-pub gone-ends : (m : PipesView) (f : Descriptions) (k : ℕ) → AllEnds m f → IfSome (gone f k) (λ desc. IfSome (pipe_of desc.kind) (λ q. IsSome (get m.contents q)))
-unfolding gone
+pub gone-ends : (m : PipesView) (f : Descriptions) (k : ℕ) → AllEnds m f → IfSome (unreferenced f k) (λ desc. IfSome (pipe_of desc.kind) (λ q. IsSome (get m.contents q)))
+unfolding unreferenced
 gone-ends m f k h =
     elim (descriptors_of f k == 0) as (λ b. IfSome (cond b (get f.descs k) None) (λ desc. IfSome (pipe_of desc.kind) (λ q. IsSome (get m.contents q)))) [
       | true ↦ h k
@@ -183,7 +183,7 @@ gone-pipes m contents next None is same = λ i. record { contents = is i; next =
 gone-pipes m contents next (Some q) is same = λ i. record { contents = is i; next = same i }
 
 -- a pipe that holds something known is one of the table
-pub in-table : (t : pipes.Table) (host : HostPipes) (lost : Option Desc) → IfSome lost (λ desc. IfSome (pipe_of desc.kind) (λ q. IsSome (get (pipes_of t host) q))) → IfSome lost (λ desc. IfSome (pipe_of desc.kind) (λ q. IsSome (get t.pipes q)))
+pub in-table : (t : pipes.Table) (host : PipeContents) (lost : Option Desc) → IfSome lost (λ desc. IfSome (pipe_of desc.kind) (λ q. IsSome (get (pipes_of t host) q))) → IfSome lost (λ desc. IfSome (pipe_of desc.kind) (λ q. IsSome (get t.pipes q)))
 in-table t host None h = tt
 in-table t host (Some desc) h = by_pipe (pipe_of desc.kind) h
   where
@@ -224,7 +224,7 @@ pub record IsEnd (number : DescKind → Option ℕ) (found : Option Desc) (q : �
   pub pipe : number desc.kind ≡ Some q
   pub waits : desc.nonblock ≡ nonblock
 
-pub end-found : (number : DescKind → Option ℕ) (found : Option Desc) (q : ℕ) (nonblock : Bool) → end_by number found ≡ Some (q, nonblock) → IsEnd number found q nonblock
+pub end-found : (number : DescKind → Option ℕ) (found : Option Desc) (q : ℕ) (nonblock : Bool) → pipe_end_by number found ≡ Some (q, nonblock) → IsEnd number found q nonblock
 end-found number None q nonblock e = cc
 end-found number (Some desc) q nonblock e = by_number (number desc.kind) refl e
   where
@@ -236,36 +236,36 @@ end-found number (Some desc) q nonblock e = by_number (number desc.kind) refl e
         let waits : desc.nonblock ≡ nonblock = ap (λ found. (unwrap_or found none).1) e in
         record { desc = desc; is = refl; pipe = is ∙ ap Some same; waits = waits }
 
-pub read-there : (found : Option Desc) (q : ℕ) (nonblock : Bool) (P : ℕ → Type 0) → IfSome found (λ desc. IfSome (pipe_of desc.kind) P) → end_by read_pipe found ≡ Some (q, nonblock) → P q
+pub read-there : (found : Option Desc) (q : ℕ) (nonblock : Bool) (P : ℕ → Type 0) → IfSome found (λ desc. IfSome (pipe_of desc.kind) P) → pipe_end_by read_pipe found ≡ Some (q, nonblock) → P q
 read-there found q nonblock P h e =
     let end = end-found read_pipe found q nonblock e in
     read-named end.desc.kind q P (subst (λ found. IfSome found (λ desc. IfSome (pipe_of desc.kind) P)) end.is h) end.pipe
 
-pub write-there : (found : Option Desc) (q : ℕ) (nonblock : Bool) (P : ℕ → Type 0) → IfSome found (λ desc. IfSome (pipe_of desc.kind) P) → end_by write_pipe found ≡ Some (q, nonblock) → P q
+pub write-there : (found : Option Desc) (q : ℕ) (nonblock : Bool) (P : ℕ → Type 0) → IfSome found (λ desc. IfSome (pipe_of desc.kind) P) → pipe_end_by write_pipe found ≡ Some (q, nonblock) → P q
 write-there found q nonblock P h e =
     let end = end-found write_pipe found q nonblock e in
     write-named end.desc.kind q P (subst (λ found. IfSome found (λ desc. IfSome (pipe_of desc.kind) P)) end.is h) end.pipe
 
 -- the calls by what was looked up
-pub read-by : (h : Holding) (most : ℕ) (found : Option Desc) (q : ℕ) (nonblock : Bool) → end_by read_pipe found ≡ Some (q, nonblock) → read_by h most found ≡ read_of h q nonblock most (pipe_content h.pipes q)
+pub read-by : (h : Holding) (most : ℕ) (found : Option Desc) (q : ℕ) (nonblock : Bool) → pipe_end_by read_pipe found ≡ Some (q, nonblock) → read_by_description h most found ≡ read_of_content h q nonblock most (pipe_content h.pipes q)
 read-by h most found q nonblock e =
     let end = end-found read_pipe found q nonblock e in
-    ap (read_by h most) end.is
-    ∙ ap (read_from h end.desc.nonblock most) end.pipe
-    ∙ ap (λ b. read_of h q b most (pipe_content h.pipes q)) end.waits
+    ap (read_by_description h most) end.is
+    ∙ ap (read_from_pipe h end.desc.nonblock most) end.pipe
+    ∙ ap (λ b. read_of_content h q b most (pipe_content h.pipes q)) end.waits
 
-pub held-by : (h : Holding) (found : Option Desc) (q : ℕ) (nonblock : Bool) → end_by read_pipe found ≡ Some (q, nonblock) → held_by h found ≡ pipe_content h.pipes q
+pub held-by : (h : Holding) (found : Option Desc) (q : ℕ) (nonblock : Bool) → pipe_end_by read_pipe found ≡ Some (q, nonblock) → pipe_content_by h found ≡ pipe_content h.pipes q
 held-by h found q nonblock e =
     let end = end-found read_pipe found q nonblock e in
-    ap (held_by h) end.is ∙ ap (λ named. unwrap_or (option_map (pipe_content h.pipes) named) []) end.pipe
+    ap (pipe_content_by h) end.is ∙ ap (λ named. unwrap_or (option_map (pipe_content h.pipes) named) []) end.pipe
 
-pub write-by : (h : Holding) (bytes : List ℕ) (count : ℕ) (found : Option Desc) (q : ℕ) (nonblock : Bool) → end_by write_pipe found ≡ Some (q, nonblock)
-    → write_by h bytes count found ≡ write_to h nonblock bytes count (Some q)
+pub write-by : (h : Holding) (bytes : List ℕ) (count : ℕ) (found : Option Desc) (q : ℕ) (nonblock : Bool) → pipe_end_by write_pipe found ≡ Some (q, nonblock)
+    → write_by_description h bytes count found ≡ write_to_pipe h nonblock bytes count (Some q)
 write-by h bytes count found q nonblock e =
     let end = end-found write_pipe found q nonblock e in
-    ap (write_by h bytes count) end.is
-    ∙ ap (write_to h end.desc.nonblock bytes count) end.pipe
-    ∙ ap (λ b. write_to h b bytes count (Some q)) end.waits
+    ap (write_by_description h bytes count) end.is
+    ∙ ap (write_to_pipe h end.desc.nonblock bytes count) end.pipe
+    ∙ ap (λ b. write_to_pipe h b bytes count (Some q)) end.waits
 
 -- nobody reads a pipe, or writes to it, exactly where that is noted
 pub none-if : (count : ℕ) (noted : Bool) → count ≡ one_if noted → (count == 0) ≡ not noted
@@ -282,7 +282,7 @@ pipe-there (Some desc) q P h e = by_pipe (pipe_of desc.kind) h e
     by_pipe (Some r) h e = let same : r ≡ q = cc in subst P same h
 
 -- what is there after a transfer at a pipe: the same pipes
-pub ends-same : (t u : pipes.Table) (host now : HostPipes) (f : Descriptions) → ((r : ℕ) → has_pipe u r ≡ has_pipe t r)
+pub ends-same : (t u : pipes.Table) (host now : PipeContents) (f : Descriptions) → ((r : ℕ) → has_pipe u r ≡ has_pipe t r)
     → AllEnds (record { contents = pipes_of t host; next = t.next }) f → AllEnds (record { contents = pipes_of u now; next = u.next }) f
 ends-same t u host now f same h = λ k. by_found (get f.descs k) (h k)
   where

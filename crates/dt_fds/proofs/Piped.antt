@@ -16,8 +16,8 @@ use Rattle.dt_base.specs.declared.errno.Errno.{Errno}
 use Rattle.dt_host.specs.declared.error.CallErr.{CallErr}
 use Rattle.dt_tree.specs.Calls.{UnlessFailed}
 use Rattle.dt_fds.specs.inner.Ends.{as_call}
-use Rattle.dt_fds.specs.Holding.{Holding, Outcome, over}
-use Rattle.dt_fds.specs.Backs.{IsBacked, AllIn, KeepsOthers, Does, HasFailed, descriptions_of, at, holding_at}
+use Rattle.dt_fds.specs.Holding.{Holding, FilesAnswer, holding_of}
+use Rattle.dt_fds.specs.Backs.{IsBacked, AllIn, KeepsOthers, IsFilesAnswer, HasFailed, descriptions_of, at, holding_at}
 use Rattle.dt_fds.proofs.Backing.{KeepsNodes-same, others-kept}
 use Rattle.dt_fds.proofs.Ending.{ends-same}
 
@@ -40,12 +40,12 @@ module _ (f : Files) (t : pipes.Table) (w v : World) (table : Table) (backed : I
 
   pub others-piped : (p : ℕ) → KeepsOthers p (holding_at (at f table w)) (holding_at (at (with_pipes f t) table v))
   others-piped p =
-      subst (λ (u : FileTree). KeepsOthers p (holding_at (at f table w)) (over u (pipes_at (with_pipes f t) v.pipes) f.descriptors)) (ap (tree_of table) (sym rest.forest))
+      subst (λ (u : FileTree). KeepsOthers p (holding_at (at f table w)) (holding_of u (pipes_at (with_pipes f t) v.pipes) f.descriptors)) (ap (tree_of table) (sym rest.forest))
       (others-kept p f.descriptors f.descriptors (tree_of table w.forest) (KeepsNodes-same p f.descriptors))
 
-  pub does-piped : {A : Type 0} (result : Result A CallErr) (defined : Outcome A) → Does result (over (tree_of table w.forest) (pipes_at (with_pipes f t) v.pipes) f.descriptors) defined
-      → Does result (holding_at (at (with_pipes f t) table v)) defined
-  does-piped result defined = subst (λ forest. Does result (over (tree_of table forest) (pipes_at (with_pipes f t) v.pipes) f.descriptors) defined) (sym rest.forest)
+  pub does-piped : {A : Type 0} (result : Result A CallErr) (defined : FilesAnswer A) → IsFilesAnswer result (holding_of (tree_of table w.forest) (pipes_at (with_pipes f t) v.pipes) f.descriptors) defined
+      → IsFilesAnswer result (holding_at (at (with_pipes f t) table v)) defined
+  does-piped result defined = subst (λ forest. IsFilesAnswer result (holding_of (tree_of table forest) (pipes_at (with_pipes f t) v.pipes) f.descriptors) defined) (sym rest.forest)
 
 -- what is said of no answer in particular
 pub if_ok : {A E P : Type 0} (r : Result A E) → P → IfOk r (λ _. P)
@@ -70,9 +70,9 @@ no_zero zero h = absurd (h refl)
 no_zero (suc n) h = grind (arith, nat_tests)
 
 -- a call that answers as it is defined, by an answer that came from that
-pub does-as : {A : Type 0} (answer : Result A Errno) (result : Result A CallErr) (new : Holding) (defined : Outcome A) → result ≡ as_call answer → defined ≡ record { answer = answer; next = new } → Does result new defined
-does-as (Ok value) result new defined e is = subst (λ r. Does r new defined) (sym e) is
-does-as (Err errno) result new defined e is = subst (λ r. Does r new defined) (sym e) is
+pub does-as : {A : Type 0} (answer : Result A Errno) (result : Result A CallErr) (new : Holding) (defined : FilesAnswer A) → result ≡ as_call answer → defined ≡ record { answer = answer; next = new } → IsFilesAnswer result new defined
+does-as (Ok value) result new defined e is = subst (λ r. IsFilesAnswer r new defined) (sym e) is
+does-as (Err errno) result new defined e is = subst (λ r. IsFilesAnswer r new defined) (sym e) is
 
 pub unless-as : {A : Type 0} (answer : Result A Errno) (result : Result A CallErr) (P : Type 0) → result ≡ as_call answer → P → UnlessFailed result P
 unless-as (Ok value) result P e p = subst (λ r. UnlessFailed r P) (sym e) p

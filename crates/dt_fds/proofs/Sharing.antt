@@ -4,10 +4,10 @@ use Rattle.std.specs.Prelude.{slice_set, slice_get, unwrap_or, is_some, IsSome, 
 use Rattle.std.specs.Option.{option_flatten}
 use Rattle.std.specs.Cmp.{nat_cmp_total}
 use Rattle.std.specs.FinMap.{get, insert, nat_cmp-IsAntisymmetric}
-use Rattle.dt_host.proofs.Maps.{get-insert_same, get-insert_other, insert_same}
+use Rattle.dt_tables.proofs.Maps.{get-insert_same, get-insert_other, insert_same}
 use Rattle.dt_fds.specs.declared.desc.TheConstants.{DESCRIPTOR_LIMIT}
 use Rattle.dt_fds.specs.declared.desc.Slot.{Slot}
-use Rattle.dt_fds.specs.Descriptions.{Descriptions, Table, table_at, slot_at, with_slot, with_copy, with_table, given_table, shared_all}
+use Rattle.dt_fds.specs.Descriptions.{Descriptions, Table, table_at, slot_at, with_slot, with_copy, with_table, with_table_if_any, with_shared_table}
 
 -- a table with the slots below a descriptor of another, and the rest free
 abbrev pub partial : Table → ℕ → Table
@@ -96,17 +96,17 @@ there_is None h = cc
 there_is (Some table) h = refl
 
 -- the child has its parent's table
-pub shared_all-there : (parent child : ℕ) (f : Descriptions) → IsSome (get f.tables parent) → shared_all parent child f ≡ with_table f child (table_at f parent)
-unfolding shared_all
-shared_all-there parent child f there = ap (given_table f child) (there_is (get f.tables parent) there)
+pub shared_all-there : (parent child : ℕ) (f : Descriptions) → IsSome (get f.tables parent) → with_shared_table parent child f ≡ with_table f child (table_at f parent)
+unfolding with_shared_table
+shared_all-there parent child f there = ap (with_table_if_any f child) (there_is (get f.tables parent) there)
 
 not_there : (found : Option Table) → is_some found ≡ false → found ≡ None
 not_there None h = refl
 not_there (Some table) h = cc
 
 -- or none, where that has none
-pub shared_all-none : (parent child : ℕ) (f : Descriptions) → is_some (get f.tables parent) ≡ false → shared_all parent child f ≡ f
-unfolding shared_all
-shared_all-none parent child f none = ap (given_table f child) (not_there (get f.tables parent) none)
+pub shared_all-none : (parent child : ℕ) (f : Descriptions) → is_some (get f.tables parent) ≡ false → with_shared_table parent child f ≡ f
+unfolding with_shared_table
+shared_all-none parent child f none = ap (with_table_if_any f child) (not_there (get f.tables parent) none)
 
 pub ruleset sharing = (shared_all-there, shared_all-none)

@@ -8,15 +8,15 @@ use Rattle.std.specs.Ordering.{is_eq, ordering_reverse}
 use Rattle.std.specs.Cmp.{IsTotalOrder, nat_cmp_total}
 use Rattle.std.specs.FinMap.{FinMap, entries, entries_sorted, get, get-entries}
 use Rattle.std.specs.FinMap.Entries.{find, below_all, is_sorted}
-use Rattle.dt_host.proofs.Conjuncts.{first, second}
-use Rattle.dt_host.proofs.Sorted.{below-tie, not_found}
-use Rattle.dt_host.specs.Total.{total_in, total}
-use Rattle.dt_host.specs.inner.Weight.{weight}
+use Rattle.dt_tables.proofs.Conjuncts.{first, second}
+use Rattle.dt_tables.proofs.Sorted.{below-tie, not_found}
+use Rattle.dt_tables.specs.Total.{total_in, total}
+use Rattle.dt_tables.specs.inner.Weight.{weight}
 use Rattle.dt_fds.specs.declared.desc.Desc.{Desc}
 use Rattle.dt_fds.specs.declared.desc.DescKind.{DescKind}
 use Rattle.dt_fds.specs.declared.desc.DescKind.TheVariants.{File, Dir, PipeRead, PipeWrite, Input, Stream}
 use Rattle.dt_fds.specs.Pipes.{PipesView}
-use Rattle.dt_fds.specs.Descriptions.{Descriptions, pipe_of, read_pipe, write_pipe, named_by, readers, writers}
+use Rattle.dt_fds.specs.Descriptions.{Descriptions, pipe_of, read_pipe, write_pipe, one_if_named, readers, writers}
 use Rattle.dt_fds.specs.Backs.{AllEnds}
 
 module _ {K X : Type 0} {R : K → K → Ordering} (o : IsTotalOrder R) (g : X → ℕ) where
@@ -43,14 +43,14 @@ module _ {K X : Type 0} {R : K → K → Ordering} (o : IsTotalOrder R) (g : X �
 
 -- where a pipe is not there, no open description is of an end of it
 unnamed : (number : DescKind → Option ℕ) → ((kind : DescKind) (q : ℕ) → number kind ≡ Some q → pipe_of kind ≡ Some q) → (m : PipesView) (f : Descriptions) (q : ℕ) → AllEnds m f → get m.contents q ≡ None
-    → total (λ (desc : Desc). named_by q (number desc.kind)) f.descs ≡ 0
-unnamed number its m f q h none = total-none nat_cmp_total (λ (desc : Desc). named_by q (number desc.kind)) f.descs (λ k. by_found (get f.descs k) (h k))
+    → total (λ (desc : Desc). one_if_named q (number desc.kind)) f.descs ≡ 0
+unnamed number its m f q h none = total-none nat_cmp_total (λ (desc : Desc). one_if_named q (number desc.kind)) f.descs (λ k. by_found (get f.descs k) (h k))
   where
-    by_test : (r : ℕ) (b : Bool) → (r == q) ≡ b → (b ≡ true → ⊥) → named_by q (Some r) ≡ 0
+    by_test : (r : ℕ) (b : Bool) → (r == q) ≡ b → (b ≡ true → ⊥) → one_if_named q (Some r) ≡ 0
     by_test r true e h = absurd (h refl)
     by_test r false e h = ap (λ b. cond b 1 0) e
 
-    by_number : (kind : DescKind) (found : Option ℕ) → number kind ≡ found → IfSome (pipe_of kind) (λ r. IsSome (get m.contents r)) → named_by q found ≡ 0
+    by_number : (kind : DescKind) (found : Option ℕ) → number kind ≡ found → IfSome (pipe_of kind) (λ r. IsSome (get m.contents r)) → one_if_named q found ≡ 0
     by_number kind None e there = refl
     by_number kind (Some r) e there = by_test r (r == q) refl (λ is.
         let same : r ≡ q = grind (arith, nat_tests) in
@@ -58,7 +58,7 @@ unnamed number its m f q h none = total-none nat_cmp_total (λ (desc : Desc). na
         let gone = ap is_some (ap (get m.contents) same ∙ none) in
         cc)
 
-    by_found : (found : Option Desc) → IfSome found (λ desc. IfSome (pipe_of desc.kind) (λ r. IsSome (get m.contents r))) → weight (λ (desc : Desc). named_by q (number desc.kind)) found ≡ 0
+    by_found : (found : Option Desc) → IfSome found (λ desc. IfSome (pipe_of desc.kind) (λ r. IsSome (get m.contents r))) → weight (λ (desc : Desc). one_if_named q (number desc.kind)) found ≡ 0
     by_found None there = refl
     by_found (Some desc) there = by_number desc.kind (number desc.kind) refl there
 

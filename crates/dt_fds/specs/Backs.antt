@@ -2,7 +2,7 @@
 use Rattle.std.specs.Prelude.{◌≡◌, ◌≢◌, ℕ, ◌+◌, ◌<◌, ◌≤◌, IfSome, IsSome, Result, Ok, Err, OnOk, IsErrOf}
 use Rattle.std.specs.FinMap.{get}
 use Rattle.dt_host.specs.Cause.{HasCause}
-use Rattle.dt_host.specs.Total.{total}
+use Rattle.dt_tables.specs.Total.{total}
 use Rattle.dt_host.specs.World as host
 use Rattle.dt_host.specs.World.{World, Forest, IsFile, IsDir}
 use Rattle.dt_host.specs.declared.error.HostErr.{HostErr}
@@ -14,17 +14,17 @@ use Rattle.dt_tree.specs.Calls.{UnlessFailed}
 use Rattle.dt_tree.specs.Table.{Table, Stands, tree_of}
 use Rattle.dt_fds.specs.declared.desc.DescKind.{DescKind}
 use Rattle.dt_fds.specs.declared.desc.DescKind.TheVariants.{File, Dir, PipeRead, PipeWrite, Input, Stream}
-use Rattle.dt_fds.specs.Descriptions.{Descriptions, inode_of, pipe_of, named_by, readers, writers}
+use Rattle.dt_fds.specs.Descriptions.{Descriptions, inode_of, pipe_of, one_if_named, readers, writers}
 use Rattle.dt_fds.specs.declared.files.Files.{Files}
 use Rattle.dt_fds.specs.Ends.{AreCounted}
 use Rattle.dt_fds.specs.OpenFiles.{pipes_at}
 use Rattle.dt_fds.specs.Pipes.{PipesView}
-use Rattle.dt_fds.specs.Holding.{Holding, Outcome, over}
+use Rattle.dt_fds.specs.Holding.{Holding, FilesAnswer, holding_of}
 use Rattle.dt_pipes.specs.Table as pipes
 
 -- how many open descriptions are of a node
 unfoldable pub descriptions_of : Descriptions → ℕ → ℕ
-descriptions_of f n = total (λ desc. named_by n (inode_of desc.kind)) f.descs
+descriptions_of f n = total (λ desc. one_if_named n (inode_of desc.kind)) f.descs
 
 -- the node of a description is there, and of its kind
 abbrev pub IsIn : Forest → DescKind → Type 0
@@ -84,7 +84,7 @@ at files table world = record { files = files; table = table; world = world }
 
 -- the descriptions, the pipes and the tree of code that stands there
 abbrev pub holding_at : At → Holding
-holding_at a = over (tree_of a.table a.world.forest) (pipes_at a.files a.world.pipes) a.files.descriptors
+holding_at a = holding_of (tree_of a.table a.world.forest) (pipes_at a.files a.world.pipes) a.files.descriptors
 
 -- nothing but nodes and pipes may have changed
 abbrev pub OnlyFiles : World → World → Type 0
@@ -95,7 +95,7 @@ abbrev pub HasEnds : Files → Type 0
 HasEnds f = (k : ℕ) → IfSome (get f.descriptors.descs k) (λ desc. IfSome (pipe_of desc.kind) (λ q. IsSome (get f.pipes.pipes q)))
 
 -- the table of the pipes stands for those of the host, its ends are counted, and the pipe of each is there
-pub record IsPiped (f : Files) (host : host.Pipes) : Type 0 where
+pub record IsPiped (f : Files) (host : host.PipeContents) : Type 0 where
   pub stands : pipes.Stands f.pipes host
   pub counted : AreCounted f.descriptors f.ends
   pub there : AllEnds (pipes_at f host) f.descriptors
@@ -108,7 +108,7 @@ pub record IsBacked (a : At) : Type 0 where
   pub backs : Backs (holding_at a)
 
 -- descriptions, pipes and tree came to this, unless the host failed or memory was wanting
-pub record Leaves {A : Type 0} (p : ℕ) (defined : Holding) (old new : At) (result : Result A HostErr) (before now : ℕ) : Type 0 where
+pub record HasHolding {A : Type 0} (p : ℕ) (defined : Holding) (old new : At) (result : Result A HostErr) (before now : ℕ) : Type 0 where
   pub made : OnOk result (holding_at new ≡ defined)
   pub backed : OnOk result (IsBacked new)
   pub others : OnOk result (KeepsOthers p (holding_at old) (holding_at new))
@@ -123,14 +123,14 @@ HasFailed (Err (has_failed Failed)) = Unit {0}
 HasFailed (Err (has_failed NoMemory)) = ⊥
 
 -- a call answered and left what is defined, unless the host failed or memory was wanting
-abbrev pub Does : {A : Type 0} → Result A CallErr → Holding → Outcome A → Type 0
-Does (Ok value) new defined = defined ≡ record { answer = Ok value; next = new }
-Does (Err (is_refused errno)) new defined = defined ≡ record { answer = Err errno; next = new }
-Does (Err (has_failed error)) new defined = Unit {0}
+abbrev pub IsFilesAnswer : {A : Type 0} → Result A CallErr → Holding → FilesAnswer A → Type 0
+IsFilesAnswer (Ok value) new defined = defined ≡ record { answer = Ok value; next = new }
+IsFilesAnswer (Err (is_refused errno)) new defined = defined ≡ record { answer = Err errno; next = new }
+IsFilesAnswer (Err (has_failed error)) new defined = Unit {0}
 
 -- a call is made as it is defined
-pub record MakesCall {A : Type 0} (p : ℕ) (call : Holding → Outcome A) (old new : At) (result : Result A CallErr) (before now : ℕ) : Type 0 where
-  pub made : Does result (holding_at new) (call (holding_at old))
+pub record HasFilesAnswer {A : Type 0} (p : ℕ) (call : Holding → FilesAnswer A) (old new : At) (result : Result A CallErr) (before now : ℕ) : Type 0 where
+  pub made : IsFilesAnswer result (holding_at new) (call (holding_at old))
   pub backed : UnlessFailed result (IsBacked new)
   pub others : UnlessFailed result (KeepsOthers p (holding_at old) (holding_at new))
   pub rest : OnlyFiles old.world new.world

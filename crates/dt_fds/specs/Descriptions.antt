@@ -5,8 +5,8 @@ use Rattle.std.specs.List.{position, sum_by}
 use Rattle.std.specs.Ordering.{nat_cmp}
 use Rattle.std.specs.FinMap.{FinMap, empty, get, insert, remove}
 use Rattle.dt_base.specs.declared.abi.TheConstants.{O_RDONLY, O_WRONLY, O_RDWR}
-use Rattle.dt_host.specs.Total.{total}
-use Rattle.dt_tree.specs.Changes.{put_back}
+use Rattle.dt_tables.specs.Total.{total}
+use Rattle.dt_tree.specs.Changes.{with_some}
 use Rattle.dt_tree.specs.Shape.{one_for}
 use Rattle.dt_fds.specs.declared.desc.TheConstants.{DESCRIPTOR_LIMIT}
 use Rattle.dt_fds.specs.declared.desc.Desc.{Desc}
@@ -53,9 +53,9 @@ write_pipe Input = None
 write_pipe (Stream stream) = None
 
 -- whether a number is the one that is named, if one is: 1 or 0
-abbrev pub named_by : ℕ → Option ℕ → ℕ
-named_by n None = 0
-named_by n (Some m) = one_for m n
+abbrev pub one_if_named : ℕ → Option ℕ → ℕ
+one_if_named n None = 0
+one_if_named n (Some m) = one_for m n
 
 -- it is of a directory
 abbrev pub is_of_dir : DescKind → Bool
@@ -126,20 +126,20 @@ unfoldable pub two_free : Table → Option (ℕ × ℕ)
 two_free table = option_and_then (with_next table) (lowest_free table 0)
 
 -- how often a slot refers to a description
-abbrev pub refers : ℕ → Option Slot → ℕ
-refers k None = 0
-refers k (Some slot) = one_for slot.number k
+abbrev pub slot_references : ℕ → Option Slot → ℕ
+slot_references k None = 0
+slot_references k (Some slot) = one_for slot.number k
 
 -- how many descriptors refer to a description, in all tables
 unfoldable pub descriptors_of : Descriptions → ℕ → ℕ
-descriptors_of f k = total (sum_by (refers k)) f.tables
+descriptors_of f k = total (sum_by (slot_references k)) f.tables
 
 -- how many open descriptions read from a pipe, and how many write to it
 unfoldable pub readers : Descriptions → ℕ → ℕ
-readers f q = total (λ desc. named_by q (read_pipe desc.kind)) f.descs
+readers f q = total (λ desc. one_if_named q (read_pipe desc.kind)) f.descs
 
 unfoldable pub writers : Descriptions → ℕ → ℕ
-writers f q = total (λ desc. named_by q (write_pipe desc.kind)) f.descs
+writers f q = total (λ desc. one_if_named q (write_pipe desc.kind)) f.descs
 
 -- with this at a descriptor of a process
 unfoldable pub with_slot : Descriptions → ℕ → ℕ → Option Slot → Descriptions
@@ -150,29 +150,29 @@ unfoldable pub with_new_description : Descriptions → Desc → Descriptions
 with_new_description f desc = record f { descs = insert f.descs f.next desc; next = f.next + 1 }
 
 -- a new description, to which a descriptor refers
-abbrev pub opened : Descriptions → ℕ → ℕ → Desc → Bool → Descriptions
-opened f p fd desc cloexec =
+abbrev pub with_opened : Descriptions → ℕ → ℕ → Desc → Bool → Descriptions
+with_opened f p fd desc cloexec =
     with_slot (with_new_description f desc) p fd (Some (record { number = f.next; cloexec = cloexec }))
 
 -- a descriptor refers to what that slot refers to
-abbrev pub duplicated : Descriptions → ℕ → ℕ → Slot → Bool → Descriptions
-duplicated f p fd slot cloexec = with_slot f p fd (Some (record { number = slot.number; cloexec = cloexec }))
+abbrev pub with_duplicate : Descriptions → ℕ → ℕ → Slot → Bool → Descriptions
+with_duplicate f p fd slot cloexec = with_slot f p fd (Some (record { number = slot.number; cloexec = cloexec }))
 
 -- a description goes where no descriptor refers to it
-unfoldable pub swept : Descriptions → ℕ → Descriptions
-swept f k = if descriptors_of f k == 0 then record f { descs = remove f.descs k } else f
+unfoldable pub without_unreferenced : Descriptions → ℕ → Descriptions
+without_unreferenced f k = if descriptors_of f k == 0 then record f { descs = remove f.descs k } else f
 
 -- that description, where it goes
-unfoldable pub gone : Descriptions → ℕ → Option Desc
-gone f k = if descriptors_of f k == 0 then get f.descs k else None
+unfoldable pub unreferenced : Descriptions → ℕ → Option Desc
+unreferenced f k = if descriptors_of f k == 0 then get f.descs k else None
 
 -- a descriptor, which referred to that description, is free, and the description goes if it was the last
-unfoldable pub freed : Descriptions → ℕ → ℕ → ℕ → Descriptions
-freed f p fd k = swept (with_slot f p fd None) k
+unfoldable pub without_slot : Descriptions → ℕ → ℕ → ℕ → Descriptions
+without_slot f p fd k = without_unreferenced (with_slot f p fd None) k
 
 -- another value for a description
 unfoldable pub with_description : Descriptions → ℕ → (Desc → Desc) → Descriptions
-with_description f k change = record f { descs = put_back f.descs k (option_map change (get f.descs k)) }
+with_description f k change = record f { descs = with_some f.descs k (option_map change (get f.descs k)) }
 
 -- another value for the description that a slot refers to, if there is one
 abbrev pub with_slot_description : Descriptions → (Desc → Desc) → Option Slot → Descriptions
@@ -192,13 +192,13 @@ abbrev pub cloexec_at : Descriptions → ℕ → ℕ → Option Bool
 cloexec_at f p fd = option_map (λ slot. slot.cloexec) (slot_at f p fd)
 
 -- with another close-on-exec bit, if the descriptor is open (F_SETFD)
-abbrev pub marked : Descriptions → ℕ → ℕ → Bool → Option Slot → Descriptions
-marked f p fd cloexec None = f
-marked f p fd cloexec (Some slot) = duplicated f p fd slot cloexec
+abbrev pub with_cloexec : Descriptions → ℕ → ℕ → Bool → Option Slot → Descriptions
+with_cloexec f p fd cloexec None = f
+with_cloexec f p fd cloexec (Some slot) = with_duplicate f p fd slot cloexec
 
 -- without the table of a process
-abbrev pub forgotten : Descriptions → ℕ → Descriptions
-forgotten f p = record f { tables = remove f.tables p }
+abbrev pub without_table : Descriptions → ℕ → Descriptions
+without_table f p = record f { tables = remove f.tables p }
 
 -- a descriptor refers to what that slot refers to, if there is one, with the same close-on-exec bit
 abbrev pub with_copy : Descriptions → ℕ → ℕ → Option Slot → Descriptions
@@ -210,27 +210,27 @@ abbrev pub with_table : Descriptions → ℕ → Table → Descriptions
 with_table f p table = record f { tables = insert f.tables p table }
 
 -- with this table for a process, if there is one
-abbrev pub given_table : Descriptions → ℕ → Option Table → Descriptions
-given_table f p None = f
-given_table f p (Some table) = with_table f p table
+abbrev pub with_table_if_any : Descriptions → ℕ → Option Table → Descriptions
+with_table_if_any f p None = f
+with_table_if_any f p (Some table) = with_table f p table
 
 -- the child has a table like its parent's: the same descriptors refer to the same descriptions, under the same close-on-exec
 -- bits (fork(2)); a parent that has none gives none
-unfoldable pub shared_all : ℕ → ℕ → Descriptions → Descriptions
-shared_all parent child f = given_table f child (get f.tables parent)
+unfoldable pub with_shared_table : ℕ → ℕ → Descriptions → Descriptions
+with_shared_table parent child f = with_table_if_any f child (get f.tables parent)
 
 -- nothing is open: a process has a table whose descriptors are free
-abbrev pub none_open : ℕ → Descriptions
-none_open p = record { descs = empty; tables = insert empty p (replicate DESCRIPTOR_LIMIT None); next = 1 }
+abbrev pub empty_descriptions : ℕ → Descriptions
+empty_descriptions p = record { descs = empty; tables = insert empty p (replicate DESCRIPTOR_LIMIT None); next = 1 }
 
 -- a new description under this descriptor, if there is one
-abbrev pub opened_at : Descriptions → ℕ → Desc → Option ℕ → Descriptions
-opened_at f p desc None = f
-opened_at f p desc (Some fd) = opened f p fd desc false
+abbrev pub with_opened_at : Descriptions → ℕ → Desc → Option ℕ → Descriptions
+with_opened_at f p desc None = f
+with_opened_at f p desc (Some fd) = with_opened f p fd desc false
 
 -- a new description under the lowest free descriptor
-unfoldable pub opened_lowest : ℕ → Desc → Descriptions → Descriptions
-opened_lowest p desc f = opened_at f p desc (lowest_free (table_at f p) 0)
+unfoldable pub with_opened_lowest : ℕ → Desc → Descriptions → Descriptions
+with_opened_lowest p desc f = with_opened_at f p desc (lowest_free (table_at f p) 0)
 
 -- a description of the input or of a stream, as a process begins with it
 abbrev pub first_desc : DescKind → ℕ → Desc
@@ -239,5 +239,5 @@ first_desc kind access = record { kind = kind; spot = At 0; access = access; app
 -- the first process has the input and the streams 1 and 2 under its lowest descriptors, in this order
 unfoldable pub first_files : ℕ → Descriptions
 first_files p =
-    opened_lowest p (first_desc (Stream 2) O_WRONLY)
-    (opened_lowest p (first_desc (Stream 1) O_WRONLY) (opened_lowest p (first_desc Input O_RDONLY) (none_open p)))
+    with_opened_lowest p (first_desc (Stream 2) O_WRONLY)
+    (with_opened_lowest p (first_desc (Stream 1) O_WRONLY) (with_opened_lowest p (first_desc Input O_RDONLY) (empty_descriptions p)))

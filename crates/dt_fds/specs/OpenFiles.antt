@@ -10,5 +10,5 @@ abbrev pub with_descriptors : Files → Descriptions → Files
 with_descriptors f descriptors = record f { descriptors = descriptors }
 
 -- the pipes that they stand for, where what the host's pipes hold is known
-abbrev pub pipes_at : Files → host.Pipes → PipesView
+abbrev pub pipes_at : Files → host.PipeContents → PipesView
 pipes_at f pipes = record { contents = pipes_of f.pipes pipes; next = f.pipes.next }

@@ -25,8 +25,8 @@ pipe_at None = None
 pipe_at (Some desc) = pipe_of desc.kind
 
 -- what that pipe holds; nothing where there is none
-abbrev pub held_at : PipesView → Option Desc → List ℕ
-held_at pipes found = unwrap_or (option_map (pipe_content pipes) (pipe_at found)) []
+abbrev pub pipe_content_at : PipesView → Option Desc → List ℕ
+pipe_content_at pipes found = unwrap_or (option_map (pipe_content pipes) (pipe_at found)) []
 
 -- a pipe holds these bytes
 abbrev pub with_pipe_content : PipesView → ℕ → List ℕ → PipesView
@@ -41,8 +41,8 @@ abbrev pub without_pipe : PipesView → ℕ → PipesView
 without_pipe pipes q = record pipes { contents = remove pipes.contents q }
 
 -- a read of a pipe that holds nothing is at the end where nobody writes; else it is refused where calls don't wait, and waits
-abbrev pub none_held : ℕ → Bool → Result Flow Errno
-none_held writers nonblock = if writers == 0 then Ok (Moved 0) else if nonblock then Err Again else Ok Wait
+abbrev pub empty_read_flow : ℕ → Bool → Result Flow Errno
+empty_read_flow writers nonblock = if writers == 0 then Ok (Moved 0) else if nonblock then Err Again else Ok Wait
 
 -- how many bytes have room in a pipe that holds so many
 abbrev pub room : ℕ → ℕ
@@ -50,16 +50,16 @@ room count = PIPE_LIMIT - count
 
 -- how many bytes a write moves now, of so many of which some are done: all where they are few enough to go at once and have
 -- room, none where these have not, and as many as have room where they are more
-abbrev pub goes : ℕ → ℕ → ℕ → ℕ
-goes count whole done =
+abbrev pub transfer_count : ℕ → ℕ → ℕ → ℕ
+transfer_count count whole done =
     if nat_le whole PIPE_BUF
     then (if nat_le (whole - done) (room count) then whole - done else 0)
     else min (whole - done) (room count)
 
 -- what a write that isn't done answers: where calls don't wait it is refused, or answers what it has moved if that is some;
 -- else it waits where it moved nothing now, and where it moved some it goes on
-abbrev pub unfinished : ℕ → ℕ → Bool → Result Flow Errno
-unfinished done moved nonblock =
+abbrev pub unfinished_flow : ℕ → ℕ → Bool → Result Flow Errno
+unfinished_flow done moved nonblock =
     if nonblock
     then (if done + moved == 0 then Err Again else Ok (Moved (done + moved)))
     else (if moved == 0 then Ok Wait else Ok (Part (done + moved)))
@@ -67,4 +67,4 @@ unfinished done moved nonblock =
 -- what a write answers that moved so many bytes now
 abbrev pub write_flow : ℕ → ℕ → ℕ → Bool → Result Flow Errno
 write_flow whole done moved nonblock =
-    if done + moved == whole then Ok (Moved whole) else unfinished done moved nonblock
+    if done + moved == whole then Ok (Moved whole) else unfinished_flow done moved nonblock

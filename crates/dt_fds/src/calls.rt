@@ -6,12 +6,14 @@ ghost use Rattle.dt_host.specs.World.{IsLive, OnlyForest};
 ghost use Rattle.dt_tree.specs.FileTree.{holds_of};
 ghost use Rattle.dt_tree.specs.Table.{Stands, shape_of, tree_of};
 ghost use Rattle.dt_fds.specs.declared.desc.TheConstants.{DESCRIPTOR_LIMIT};
-ghost use Rattle.dt_fds.specs.Descriptions.{IsDesc, inode_of, pipe_of, slot_at, opened};
+ghost use Rattle.dt_fds.specs.Descriptions.{IsDesc, inode_of, pipe_of, slot_at, with_opened};
 ghost use Rattle.dt_fds.specs.OpenFiles.{pipes_at};
-ghost use Rattle.dt_fds.specs.Holding.{over, with_hold, without_hold, let_go, without_descriptor, add_call, close_call};
-ghost use Rattle.dt_fds.specs.Holding.{dup_within, dup_at_call, closed_below, without_process, without_marked};
-ghost use Rattle.dt_fds.specs.Holding.{marked_closed_below, closed_on_exec};
-ghost use Rattle.dt_fds.specs.Backs.{IsIn, IsBacked, at, holding_at, Leaves, MakesCall};
+ghost use Rattle.dt_fds.specs.Holding.{holding_of, with_hold, without_hold, tree_without_description};
+ghost use Rattle.dt_fds.specs.Holding.{without_descriptor, add_call, close_call};
+ghost use Rattle.dt_fds.specs.Holding.{dup_within_limit, dup_at_call, without_descriptors_below, without_process};
+ghost use Rattle.dt_fds.specs.Holding.{without_cloexec_descriptor};
+ghost use Rattle.dt_fds.specs.Holding.{without_cloexec_below, without_cloexec};
+ghost use Rattle.dt_fds.specs.Backs.{IsIn, IsBacked, at, holding_at, HasHolding, HasFilesAnswer};
 
 use crate::desc::{DESCRIPTOR_LIMIT, Desc, Slot};
 use crate::ends::{close_end, kind_of, remove_pipe};
@@ -35,7 +37,7 @@ impl Files {
         requires good { IsDesc desc }
         requires there { IsIn (shape_of tree.old (H.view host.now).forest) desc.kind }
         requires no_end { pipe_of desc.kind ≡ None }
-        ensures { MakesCall pid (add_call pid desc cloexec) (at self.old tree.old (H.view host.now))
+        ensures { HasFilesAnswer pid (add_call pid desc cloexec) (at self.old tree.old (H.view host.now))
             (at self.new tree.new (H.view host.now)) result (H.count host.now) (H.count host.now) }
     {
         match self.descriptors.free(pid, 0) {
@@ -59,7 +61,7 @@ impl Files {
         fd: u32,
     ) -> Result<(), CallErr>
         requires { IsBacked (at self.old tree.old (H.view host.old)) }
-        ensures { MakesCall pid (close_call pid fd) (at self.old tree.old (H.view host.old))
+        ensures { HasFilesAnswer pid (close_call pid fd) (at self.old tree.old (H.view host.old))
             (at self.new tree.new (H.view host.new)) result (H.count host.old) (H.count host.new) }
     {
         let _before = host.faults();
@@ -83,19 +85,19 @@ impl Files {
     ) -> Result<(), CallErr>
         requires backed { IsBacked (at self.old tree.old (H.view host.old)) }
         requires apart { old ≢ new }
-        ensures { MakesCall pid (dup_at_call pid old new cloexec) (at self.old tree.old (H.view host.old))
+        ensures { HasFilesAnswer pid (dup_at_call pid old new cloexec) (at self.old tree.old (H.view host.old))
             (at self.new tree.new (H.view host.new)) result (H.count host.old) (H.count host.new) }
     {
         let _before = host.faults();
         if new as usize >= DESCRIPTOR_LIMIT {
             return Err(CallErr::Errno(Errno::BadF));
         }
-        self.dup_within(host, tree, pid, old, new, cloexec)
+        self.dup_within_limit(host, tree, pid, old, new, cloexec)
     }
 
     // The same for a new descriptor within the limit.
-    #[tactic(auto, unfolding(crate::specs::Holding::dup_within))]
-    fn dup_within<H: Host>(
+    #[tactic(auto, unfolding(crate::specs::Holding::dup_within_limit))]
+    fn dup_within_limit<H: Host>(
         &mut self,
         host: &mut H,
         tree: &mut Tree,
@@ -107,7 +109,7 @@ impl Files {
         requires backed { IsBacked (at self.old tree.old (H.view host.old)) }
         requires apart { old ≢ new }
         requires within { new < DESCRIPTOR_LIMIT }
-        ensures { MakesCall pid (dup_within pid old new cloexec) (at self.old tree.old (H.view host.old))
+        ensures { HasFilesAnswer pid (dup_within_limit pid old new cloexec) (at self.old tree.old (H.view host.old))
             (at self.new tree.new (H.view host.new)) result (H.count host.old) (H.count host.new) }
     {
         let _before = host.faults();
@@ -131,7 +133,7 @@ impl Files {
         pid: u32,
     ) -> Result<(), HostErr>
         requires { IsBacked (at self.old tree.old (H.view host.old)) }
-        ensures { Leaves pid (without_process pid (holding_at (at self.old tree.old (H.view host.old))))
+        ensures { HasHolding pid (without_process pid (holding_at (at self.old tree.old (H.view host.old))))
             (at self.old tree.old (H.view host.old)) (at self.new tree.new (H.view host.new))
             result (H.count host.old) (H.count host.new) }
     {
@@ -141,7 +143,7 @@ impl Files {
     }
 
     /// Closes those descriptors of a process, in order, whose close-on-exec bit is set (execve(2)).
-    #[tactic(auto, unfolding(crate::specs::Holding::marked_closed_below))]
+    #[tactic(auto, unfolding(crate::specs::Holding::without_cloexec_below))]
     pub fn close_exec<H: Host>(
         &mut self,
         host: &mut H,
@@ -149,7 +151,7 @@ impl Files {
         pid: u32,
     ) -> Result<(), HostErr>
         requires { IsBacked (at self.old tree.old (H.view host.old)) }
-        ensures { Leaves pid (closed_on_exec pid (holding_at (at self.old tree.old (H.view host.old))))
+        ensures { HasHolding pid (without_cloexec pid (holding_at (at self.old tree.old (H.view host.old))))
             (at self.old tree.old (H.view host.old)) (at self.new tree.new (H.view host.new))
             result (H.count host.old) (H.count host.new) }
     {
@@ -161,10 +163,10 @@ impl Files {
     }
 
     // Closes all descriptors of a process.
-    #[tactic(auto, unfolding(crate::specs::Holding::closed_below))]
+    #[tactic(auto, unfolding(crate::specs::Holding::without_descriptors_below))]
     fn close_all<H: Host>(&mut self, host: &mut H, tree: &mut Tree, pid: u32) -> Result<(), HostErr>
         requires { IsBacked (at self.old tree.old (H.view host.old)) }
-        ensures { Leaves pid (closed_below pid DESCRIPTOR_LIMIT
+        ensures { HasHolding pid (without_descriptors_below pid DESCRIPTOR_LIMIT
             (holding_at (at self.old tree.old (H.view host.old))))
             (at self.old tree.old (H.view host.old)) (at self.new tree.new (H.view host.new))
             result (H.count host.old) (H.count host.new) }
@@ -193,8 +195,9 @@ impl Files {
         requires table { IsSome (get self.old.descriptors.tables pid) }
         requires within { fd < DESCRIPTOR_LIMIT }
         requires free { slot_at self.old.descriptors pid fd ≡ None }
-        ensures { Leaves pid (over (with_hold (tree_of tree.old (H.view host.now).forest) (inode_of desc.kind))
-            (pipes_at self.old (H.view host.now).pipes) (opened self.old.descriptors pid fd desc cloexec))
+        ensures { HasHolding pid (holding_of
+            (with_hold (tree_of tree.old (H.view host.now).forest) (inode_of desc.kind))
+            (pipes_at self.old (H.view host.now).pipes) (with_opened self.old.descriptors pid fd desc cloexec))
             (at self.old tree.old (H.view host.now)) (at self.new tree.new (H.view host.now))
             result (H.count host.now) (H.count host.now) }
     {
@@ -212,7 +215,7 @@ impl Files {
         fd: u32,
     ) -> Result<(), HostErr>
         requires { IsBacked (at self.old tree.old (H.view host.old)) }
-        ensures { Leaves pid (without_descriptor (holding_at (at self.old tree.old (H.view host.old))) pid fd
+        ensures { HasHolding pid (without_descriptor (holding_at (at self.old tree.old (H.view host.old))) pid fd
             (slot_at self.old.descriptors pid fd))
             (at self.old tree.old (H.view host.old)) (at self.new tree.new (H.view host.new))
             result (H.count host.old) (H.count host.new) }
@@ -233,7 +236,8 @@ impl Files {
         fd: u32,
     ) -> Result<(), HostErr>
         requires { IsBacked (at self.old tree.old (H.view host.old)) }
-        ensures { Leaves pid (without_marked (holding_at (at self.old tree.old (H.view host.old))) pid fd
+        ensures { HasHolding pid (without_cloexec_descriptor
+            (holding_at (at self.old tree.old (H.view host.old))) pid fd
             (slot_at self.old.descriptors pid fd))
             (at self.old tree.old (H.view host.old)) (at self.new tree.new (H.view host.new))
             result (H.count host.old) (H.count host.new) }
@@ -256,7 +260,7 @@ impl Files {
     ) -> Result<(), HostErr>
         requires backed { IsBacked (at self.old tree.old (H.view host.old)) }
         requires here { slot_at self.old.descriptors pid fd ≡ Some slot }
-        ensures { Leaves pid (without_descriptor (holding_at (at self.old tree.old (H.view host.old))) pid fd
+        ensures { HasHolding pid (without_descriptor (holding_at (at self.old tree.old (H.view host.old))) pid fd
             (Some slot))
             (at self.old tree.old (H.view host.old)) (at self.new tree.new (H.view host.new))
             result (H.count host.old) (H.count host.new) }
@@ -264,7 +268,7 @@ impl Files {
         let gone = self.descriptors.clear(pid, fd, slot);
         let last = close_end(&mut self.ends, kind_of(&gone));
         remove_pipe(&mut self.pipes, host, last)?;
-        let_go(host, tree, gone)?;
+        release_node(host, tree, gone)?;
         Ok(())
     }
 }
@@ -284,12 +288,12 @@ fn hold<H: Host>(host: &H, tree: &mut Tree, inode: Option<u64>) -> Result<(), No
 }
 
 // Lets the node of a description go that went, if one did.
-fn let_go<H: Host>(host: &mut H, tree: &mut Tree, gone: Option<Desc>) -> Result<(), HostErr>
+fn release_node<H: Host>(host: &mut H, tree: &mut Tree, gone: Option<Desc>) -> Result<(), HostErr>
     requires stands { Stands tree.old (H.view host.old).forest }
     requires held { IfSome gone (λ desc. IfSome (inode_of desc.kind)
         (λ n. 0 < holds_of (tree_of tree.old (H.view host.old).forest) n)) }
     ensures tree { OnOk result (tree_of tree.new (H.view host.new).forest
-        ≡ let_go (tree_of tree.old (H.view host.old).forest) gone) }
+        ≡ tree_without_description (tree_of tree.old (H.view host.old).forest) gone) }
     ensures stands { OnOk result (Stands tree.new (H.view host.new).forest) }
     ensures rest { OnlyForest (H.view host.old) (H.view host.new) }
     ensures cause { HasCause (H.count host.old) (H.count host.new)

@@ -6,11 +6,11 @@ ghost use Rattle.dt_tree.specs.Calls.{UnlessFailed};
 ghost use Rattle.dt_fds.specs.declared.desc.TheConstants.{DESCRIPTOR_LIMIT};
 ghost use Rattle.dt_fds.specs.Descriptions.{slot_at, description_at, is_after, is_of_dir, with_slot_description};
 ghost use Rattle.dt_fds.specs.Descriptions.{at_spot};
-ghost use Rattle.dt_fds.specs.Descriptions.{with_flags, marked, duplicated, with_copy, table_at, with_table};
-ghost use Rattle.dt_fds.specs.Descriptions.{shared_all};
+ghost use Rattle.dt_fds.specs.Descriptions.{with_flags, with_cloexec, with_duplicate, with_copy, table_at, with_table};
+ghost use Rattle.dt_fds.specs.Descriptions.{with_shared_table};
 ghost use Rattle.dt_fds.specs.Pipes.{PipesView};
-ghost use Rattle.dt_fds.specs.Holding.{over, dup_call};
-ghost use Rattle.dt_fds.specs.Backs.{KeepsNodes, Does, HasFailed};
+ghost use Rattle.dt_fds.specs.Holding.{holding_of, dup_call};
+ghost use Rattle.dt_fds.specs.Backs.{KeepsNodes, IsFilesAnswer, HasFailed};
 
 use crate::desc::{DESCRIPTOR_LIMIT, Slot, Spot};
 use crate::descriptors::Descriptors;
@@ -28,9 +28,8 @@ impl Descriptors {
         from: u32,
         cloexec: bool,
     ) -> Result<u32, CallErr>
-        requires { from ≤ DESCRIPTOR_LIMIT }
-        ensures call { (t : FileTree) (pipes : PipesView) → Does result (over t pipes self.new)
-            (dup_call pid fd from cloexec (over t pipes self.old)) }
+        ensures call { (t : FileTree) (pipes : PipesView) → IsFilesAnswer result (holding_of t pipes self.new)
+            (dup_call pid fd from cloexec (holding_of t pipes self.old)) }
         ensures nodes { UnlessFailed result (KeepsNodes pid self.old self.new) }
         ensures quiet { HasFailed result → ⊥ }
     {
@@ -83,7 +82,7 @@ impl Descriptors {
     /// Gives a descriptor another close-on-exec bit, which is its own (fcntl(2), F_SETFD). Nothing is done where it is
     /// not open.
     pub(crate) fn set_cloexec(&mut self, pid: u32, fd: u32, cloexec: bool)
-        ensures files { self.new ≡ marked self.old pid fd cloexec (slot_at self.old pid fd) }
+        ensures files { self.new ≡ with_cloexec self.old pid fd cloexec (slot_at self.old pid fd) }
         ensures nodes { KeepsNodes pid self.old self.new }
     {
         match self.slot(pid, fd) {
@@ -98,7 +97,7 @@ impl Descriptors {
     #[tactic(auto, using(crate::proofs::Sharing::sharing))]
     pub(crate) fn share_all(&mut self, parent: u32, child: u32) -> Result<(), NoMemory>
         requires { get self.old.tables child ≡ None }
-        ensures files { OnOk result (self.new ≡ shared_all parent child self.old) }
+        ensures files { OnOk result (self.new ≡ with_shared_table parent child self.old) }
         ensures nodes { KeepsNodes child self.old self.new }
     {
         if self.has_table(parent) {
@@ -152,7 +151,7 @@ impl Descriptors {
         requires within { new < DESCRIPTOR_LIMIT }
         requires free { slot_at self.old pid new ≡ None }
         requires living { IsSome (get self.old.descs slot.number) }
-        ensures files { OnOk result (self.new ≡ duplicated self.old pid new slot cloexec) }
+        ensures files { OnOk result (self.new ≡ with_duplicate self.old pid new slot cloexec) }
         ensures quiet { IsErrOf result HostErr.Failed → ⊥ }
     {
         let number = slot.number;

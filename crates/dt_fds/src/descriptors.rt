@@ -6,16 +6,17 @@ ghost use Rattle.std.specs.List.{position};
 ghost use Rattle.std.specs.FinMap.{get, insert, remove};
 ghost use Rattle.dt_fds.specs.Backs.{KeepsNodes};
 ghost use Rattle.dt_fds.specs.declared.desc.TheConstants.{DESCRIPTOR_LIMIT};
-ghost use Rattle.dt_fds.specs.Descriptions.{IsDesc, none_open, table_at, slot_at, description_at, cloexec_at};
-ghost use Rattle.dt_fds.specs.Descriptions.{lowest_free, with_slot, with_table, with_new_description, opened};
-ghost use Rattle.dt_fds.specs.Descriptions.{duplicated, freed};
-ghost use Rattle.dt_fds.specs.Descriptions.{swept, gone, with_description, at_spot, with_flags, is_after, is_of_dir};
-ghost use Rattle.dt_fds.specs.Descriptions.{forgotten};
+ghost use Rattle.dt_fds.specs.Descriptions.{IsDesc, empty_descriptions, table_at, slot_at, description_at, cloexec_at};
+ghost use Rattle.dt_fds.specs.Descriptions.{lowest_free, with_slot, with_table, with_new_description, with_opened};
+ghost use Rattle.dt_fds.specs.Descriptions.{with_duplicate, without_slot};
+ghost use Rattle.dt_fds.specs.Descriptions.{without_unreferenced, unreferenced, with_description, at_spot, with_flags};
+ghost use Rattle.dt_fds.specs.Descriptions.{is_after, is_of_dir};
+ghost use Rattle.dt_fds.specs.Descriptions.{without_table};
 
 use crate::desc::{DESCRIPTOR_LIMIT, Desc, DescKind, Slot, Spot};
 use dt_base::NoMemory;
 use dt_base::abi::O_RDONLY;
-use dt_numbered::Numbered;
+use dt_tables::Numbered;
 use std::alloc::Global;
 use std::marker::Model;
 
@@ -127,7 +128,6 @@ impl Descriptors {
     // The lowest free descriptor from a given one on, if there is one.
     #[tactic(auto, unfolding(crate::specs::Descriptions::lowest_free))]
     pub(crate) fn free(&self, pid: u32, from: u32) -> Option<u32>
-        requires { from ≤ DESCRIPTOR_LIMIT }
         ensures value { result ≡ lowest_free (table_at self.now pid) from }
         ensures there { IfSome result (λ _. IsSome (get self.now.tables pid)) }
         ensures within { IfSome result (λ fd. fd < DESCRIPTOR_LIMIT) }
@@ -142,7 +142,7 @@ impl Descriptors {
 
     // The tables of one process that has nothing open.
     pub(crate) fn none(alloc: Global, pid: u32) -> Result<Descriptors, NoMemory>
-        ensures { IfOk result (λ files. files ≡ none_open pid) }
+        ensures { IfOk result (λ files. files ≡ empty_descriptions pid) }
     {
         let mut tables = Numbered::new(alloc);
         tables.put(u64::from(pid), [None; DESCRIPTOR_LIMIT])?;
@@ -170,11 +170,11 @@ impl Descriptors {
     }
 
     // Frees a descriptor, and gives the description that goes with it if it was the last that referred to it.
-    #[tactic(auto, unfolding(crate::specs::Descriptions::freed, crate::specs::Descriptions::with_slot, crate::specs::Descriptions::swept, crate::specs::Descriptions::gone))]
+    #[tactic(auto, unfolding(crate::specs::Descriptions::without_slot, crate::specs::Descriptions::with_slot, crate::specs::Descriptions::without_unreferenced, crate::specs::Descriptions::unreferenced))]
     pub(crate) fn clear(&mut self, pid: u32, fd: u32, slot: Slot) -> Option<Desc>
         requires here { slot_at self.old pid fd ≡ Some slot }
-        ensures files { self.new ≡ freed self.old pid fd slot.number }
-        ensures gone { result ≡ gone (with_slot self.old pid fd None) slot.number }
+        ensures files { self.new ≡ without_slot self.old pid fd slot.number }
+        ensures gone { result ≡ unreferenced (with_slot self.old pid fd None) slot.number }
     {
         put_slot(&mut self.tables, pid, fd, None);
         lower(&mut self.counts, &mut self.descs, slot.number)
@@ -194,7 +194,7 @@ impl Descriptors {
         requires free { slot_at self.old pid fd ≡ None }
         requires good { IsDesc desc }
         ensures fresh { get self.old.descs self.old.next ≡ None }
-        ensures ok { OnOk result (self.new ≡ opened self.old pid fd desc cloexec) }
+        ensures ok { OnOk result (self.new ≡ with_opened self.old pid fd desc cloexec) }
     {
         let number = self.next;
         if number == u64::MAX {
@@ -240,7 +240,7 @@ impl Descriptors {
     #[tactic(auto, unfolding(crate::specs::Descriptions::with_slot))]
     pub(crate) fn mark(&mut self, pid: u32, fd: u32, slot: Slot, cloexec: bool)
         requires here { slot_at self.old pid fd ≡ Some slot }
-        ensures files { self.new ≡ duplicated self.old pid fd slot cloexec }
+        ensures files { self.new ≡ with_duplicate self.old pid fd slot cloexec }
         ensures nodes { KeepsNodes pid self.old self.new }
     {
         let number = slot.number;
@@ -261,7 +261,7 @@ impl Descriptors {
     // Takes away the table of a process that has nothing open.
     pub(crate) fn forget(&mut self, pid: u32)
         requires { (fd : ℕ) → fd < DESCRIPTOR_LIMIT → slot_at self.old pid fd ≡ None }
-        ensures files { self.new ≡ forgotten self.old pid }
+        ensures files { self.new ≡ without_table self.old pid }
         ensures nodes { KeepsNodes pid self.old self.new }
     {
         self.tables.take(u64::from(pid));
@@ -365,12 +365,14 @@ fn lower(counts: &mut Numbered<u64>, descs: &mut Numbered<Desc>, n: u64) -> Opti
 }
 
 // The lowest free index of a table from a given one on.
-#[tactic(auto, unfolding(crate::specs::Descriptions::lowest_free))]
+#[tactic(auto, unfolding(crate::specs::Descriptions::lowest_free), using(crate::proofs::Slots::behind_all))]
 fn first_free(table: &[Option<Slot>; DESCRIPTOR_LIMIT], from: u32) -> Option<u32>
-    requires { from ≤ DESCRIPTOR_LIMIT }
     ensures value { result ≡ lowest_free table.now from }
     ensures within { IfSome result (λ fd. fd < DESCRIPTOR_LIMIT) }
 {
+    if from as usize >= DESCRIPTOR_LIMIT {
+        return None;
+    }
     let (_, rest) = table.split_at(from as usize);
     match first_none(rest) {
         Some(i) => Some(from + i as u32),

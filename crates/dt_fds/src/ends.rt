@@ -8,12 +8,12 @@ ghost use Rattle.dt_pipes.specs.Table.{Stands, pipes_of};
 ghost use Rattle.dt_pipes.specs.Changes.{OnlyPipes};
 ghost use Rattle.dt_fds.specs.Descriptions.{read_pipe, write_pipe};
 ghost use Rattle.dt_fds.specs.Ends.{is_read, is_written, one_if};
-ghost use Rattle.dt_fds.specs.inner.Ends.{named_end, last_end, without_last};
+ghost use Rattle.dt_fds.specs.inner.Ends.{one_if_end, last_end, without_last};
 
 use crate::desc::{Desc, DescKind};
 use dt_host::{Host, HostErr};
-use dt_numbered::Numbered;
 use dt_pipes::Pipes;
+use dt_tables::Numbered;
 
 /// Which ends of a pipe are open: each by the one description that pipe(2) made of it.
 #[derive(Clone, Copy, Debug)]
@@ -45,9 +45,9 @@ pub(crate) fn kind_of(gone: &Option<Desc>) -> Option<DescKind>
 pub(crate) fn close_end(ends: &mut Numbered<Ends>, kind: Option<DescKind>) -> Option<u32>
     requires reading { IfSome kind (λ k. IfSome (read_pipe k) (λ q. is_read (get ends.old q) ≡ true)) }
     requires writing { IfSome kind (λ k. IfSome (write_pipe k) (λ q. is_written (get ends.old q) ≡ true)) }
-    ensures reading { (q : ℕ) → one_if (is_read (get ends.new q)) + named_end q read_pipe kind
+    ensures reading { (q : ℕ) → one_if (is_read (get ends.new q)) + one_if_end q read_pipe kind
         ≡ one_if (is_read (get ends.old q)) }
-    ensures writing { (q : ℕ) → one_if (is_written (get ends.new q)) + named_end q write_pipe kind
+    ensures writing { (q : ℕ) → one_if (is_written (get ends.new q)) + one_if_end q write_pipe kind
         ≡ one_if (is_written (get ends.old q)) }
     ensures last { result ≡ last_end ends.new kind }
 {

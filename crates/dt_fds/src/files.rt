@@ -6,11 +6,12 @@ ghost use Rattle.dt_tree.specs.FileTree.{FileTree};
 ghost use Rattle.dt_tree.specs.Calls.{UnlessFailed};
 ghost use Rattle.dt_fds.specs.declared.desc.TheConstants.{DESCRIPTOR_LIMIT};
 ghost use Rattle.dt_fds.specs.Descriptions.{IsDesc, table_at, slot_at, description_at, cloexec_at, lowest_free};
-ghost use Rattle.dt_fds.specs.Descriptions.{with_slot_description, at_spot, with_flags, marked, is_after, is_of_dir};
-ghost use Rattle.dt_fds.specs.Descriptions.{shared_all};
+ghost use Rattle.dt_fds.specs.Descriptions.{with_slot_description, at_spot, with_flags, with_cloexec, is_after};
+ghost use Rattle.dt_fds.specs.Descriptions.{is_of_dir};
+ghost use Rattle.dt_fds.specs.Descriptions.{with_shared_table};
 ghost use Rattle.dt_fds.specs.Pipes.{PipesView};
-ghost use Rattle.dt_fds.specs.Holding.{over, dup_call};
-ghost use Rattle.dt_fds.specs.Backs.{KeepsNodes, Does, HasFailed};
+ghost use Rattle.dt_fds.specs.Holding.{holding_of, dup_call};
+ghost use Rattle.dt_fds.specs.Backs.{KeepsNodes, IsFilesAnswer, HasFailed};
 ghost use Rattle.dt_fds.specs.OpenFiles.{with_descriptors};
 
 use crate::desc::{DESCRIPTOR_LIMIT, Desc, Spot};
@@ -18,8 +19,8 @@ use crate::descriptors::Descriptors;
 use crate::ends::Ends;
 use dt_base::NoMemory;
 use dt_host::CallErr;
-use dt_numbered::Numbered;
 use dt_pipes::Pipes;
+use dt_tables::Numbered;
 
 /// The open files of processes: the open file descriptions, for each process by its pid a table of descriptors that
 /// refer to them, and the pipes of which some are ends. Processes share a description after fork(2), and descriptors
@@ -57,11 +58,11 @@ impl Files {
     }
 
     /// Lets the lowest free descriptor from a given one on refer to the description of an open one (dup(2); fcntl(2),
-    /// F_DUPFD). EBADF where that is not open, then EMFILE where none is free.
+    /// F_DUPFD). EBADF where that is not open, then EMFILE where none is free, as from 64 on.
     pub fn dup(&mut self, pid: u32, fd: u32, from: u32, cloexec: bool) -> Result<u32, CallErr>
-        requires { from ≤ DESCRIPTOR_LIMIT }
-        ensures call { (t : FileTree) (pipes : PipesView) → Does result (over t pipes self.new.descriptors)
-            (dup_call pid fd from cloexec (over t pipes self.old.descriptors)) }
+        ensures call { (t : FileTree) (pipes : PipesView) → IsFilesAnswer result
+            (holding_of t pipes self.new.descriptors)
+            (dup_call pid fd from cloexec (holding_of t pipes self.old.descriptors)) }
         ensures nodes { UnlessFailed result (KeepsNodes pid self.old.descriptors self.new.descriptors) }
         ensures pipes { self.new.pipes ≡ self.old.pipes }
         ensures ends { self.new.ends ≡ self.old.ends }
@@ -97,7 +98,7 @@ impl Files {
     /// not open.
     pub fn set_cloexec(&mut self, pid: u32, fd: u32, cloexec: bool)
         ensures files { self.new ≡ with_descriptors self.old
-            (marked self.old.descriptors pid fd cloexec (slot_at self.old.descriptors pid fd)) }
+            (with_cloexec self.old.descriptors pid fd cloexec (slot_at self.old.descriptors pid fd)) }
         ensures nodes { KeepsNodes pid self.old.descriptors self.new.descriptors }
     {
         self.descriptors.set_cloexec(pid, fd, cloexec);
@@ -108,7 +109,7 @@ impl Files {
     /// that has no table gives none.
     pub fn share_all(&mut self, parent: u32, child: u32) -> Result<(), NoMemory>
         requires { get self.old.descriptors.tables child ≡ None }
-        ensures files { OnOk result (self.new.descriptors ≡ shared_all parent child self.old.descriptors) }
+        ensures files { OnOk result (self.new.descriptors ≡ with_shared_table parent child self.old.descriptors) }
         ensures nodes { KeepsNodes child self.old.descriptors self.new.descriptors }
         ensures pipes { self.new.pipes ≡ self.old.pipes }
         ensures ends { self.new.ends ≡ self.old.ends }

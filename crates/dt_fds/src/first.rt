@@ -2,21 +2,21 @@
 ghost use Rattle.std.specs.Prelude.{◌≡◌, ℕ, IfOk, OnOk};
 ghost use Rattle.std.specs.FinMap.{empty};
 ghost use Rattle.dt_host.specs.World.{Forest};
-ghost use Rattle.dt_host.specs.World.{Pipes as HostPipes};
+ghost use Rattle.dt_host.specs.World.{PipeContents};
 ghost use Rattle.dt_pipes.specs.Table.{Stands};
 ghost use Rattle.dt_pipes.specs.declared.pipe.TheConstants.{FIRST_PIPE};
 ghost use Rattle.dt_fds.specs.Ends.{AreCounted};
 ghost use Rattle.dt_fds.specs.Pipes.{PipesView};
 ghost use Rattle.dt_fds.specs.Backs.{AllIn, AllEnds, descriptions_of};
-ghost use Rattle.dt_fds.specs.Descriptions.{IsDesc, first_desc, first_files, opened_lowest, readers, writers};
+ghost use Rattle.dt_fds.specs.Descriptions.{IsDesc, first_desc, first_files, with_opened_lowest, readers, writers};
 
 use crate::desc::{Desc, DescKind, Spot};
 use crate::descriptors::Descriptors;
 use crate::files::Files;
 use dt_base::NoMemory;
 use dt_base::abi::{O_RDONLY, O_WRONLY};
-use dt_numbered::Numbered;
 use dt_pipes::Pipes;
+use dt_tables::Numbered;
 use std::alloc::Global;
 
 impl Files {
@@ -30,7 +30,7 @@ impl Files {
         ensures no_pipes { IfOk result (λ files. files.pipes.pipes ≡ empty) }
         ensures next { IfOk result (λ files. files.pipes.next ≡ FIRST_PIPE) }
         ensures counted { IfOk result (λ files. AreCounted files.descriptors files.ends) }
-        ensures stands { IfOk result (λ files. (host : HostPipes) → host ≡ empty → Stands files.pipes host) }
+        ensures stands { IfOk result (λ files. (host : PipeContents) → host ≡ empty → Stands files.pipes host) }
     {
         let descriptors = Descriptors::first(alloc, pid)?;
         Ok(Files {
@@ -60,10 +60,10 @@ impl Descriptors {
     }
 
     // Opens a description under the lowest free descriptor, if there is one.
-    #[tactic(auto, unfolding(crate::specs::Descriptions::opened_lowest))]
+    #[tactic(auto, unfolding(crate::specs::Descriptions::with_opened_lowest))]
     fn enter_lowest(&mut self, pid: u32, desc: Desc) -> Result<(), NoMemory>
         requires { IsDesc desc }
-        ensures { OnOk result (self.new ≡ opened_lowest pid desc self.old) }
+        ensures { OnOk result (self.new ≡ with_opened_lowest pid desc self.old) }
     {
         match self.free(pid, 0) {
             Some(fd) => self.enter(pid, fd, desc, false),

@@ -10,22 +10,23 @@ ghost use Rattle.dt_tree.specs.FileTree.{FileTree};
 ghost use Rattle.dt_tree.specs.Table.{Table};
 ghost use Rattle.dt_pipes.specs.Changes.{OnlyPipes};
 ghost use Rattle.dt_pipes.specs.declared.pipe.TheConstants.{PIPE_NUMBER_LIMIT};
-ghost use Rattle.dt_host.specs.World.{Pipes as HostPipes};
+ghost use Rattle.dt_host.specs.World.{PipeContents};
 ghost use Rattle.dt_fds.specs.declared.desc.TheConstants.{DESCRIPTOR_LIMIT};
 ghost use Rattle.dt_fds.specs.Descriptions.{description_at, slot_at, table_at, two_free, read_pipe, write_pipe};
 ghost use Rattle.dt_fds.specs.Ends.{is_read, is_written, one_if};
 ghost use Rattle.dt_fds.specs.OpenFiles.{pipes_at};
-ghost use Rattle.dt_fds.specs.Pipes.{none_held, goes, write_flow, pipe_at, held_at};
-ghost use Rattle.dt_fds.specs.Holding.{pipe_call, pipe_read_call, pipe_write_call, bytes_read, with_pipe_opened};
-ghost use Rattle.dt_fds.specs.Holding.{over, pipe_moves, read_end, write_end};
-ghost use Rattle.dt_fds.specs.Backs.{Does, HasEnds, HasFailed, IsBacked, IsPiped, Leaves, MakesCall, at, holding_at};
-ghost use Rattle.dt_fds.specs.inner.Ends.{end_by, as_call};
+ghost use Rattle.dt_fds.specs.Pipes.{empty_read_flow, transfer_count, write_flow, pipe_at, pipe_content_at};
+ghost use Rattle.dt_fds.specs.Holding.{pipe_call, pipe_read_call, pipe_write_call, bytes_read, with_pipe_ends};
+ghost use Rattle.dt_fds.specs.Holding.{holding_of, pipe_transfer_count, read_end, write_end};
+ghost use Rattle.dt_fds.specs.Backs.{IsFilesAnswer, HasEnds, HasFailed, IsBacked, IsPiped, HasHolding, HasFilesAnswer};
+ghost use Rattle.dt_fds.specs.Backs.{at, holding_at};
+ghost use Rattle.dt_fds.specs.inner.Ends.{pipe_end_by, as_call};
 
 use crate::desc::{DESCRIPTOR_LIMIT, Desc, DescKind, Spot};
 use crate::ends::Ends;
 use crate::files::Files;
 use crate::flow::Flow;
-use dt_base::abi::{O_CLOEXEC, O_NONBLOCK, O_RDONLY, O_WRONLY, has};
+use dt_base::abi::{O_CLOEXEC, O_NONBLOCK, O_RDONLY, O_WRONLY, has_flag};
 use dt_base::{Errno, PIPE_BUF, PIPE_LIMIT};
 use dt_host::{CallErr, Host, HostErr};
 
@@ -42,12 +43,12 @@ impl Files {
         requires piped { IsPiped self.old (H.view host.old).pipes }
         requires fits { self.old.pipes.next < PIPE_NUMBER_LIMIT }
         ensures makes { (table : Table) → IsBacked (at self.old table (H.view host.old))
-            → MakesCall pid (pipe_call pid flags) (at self.old table (H.view host.old))
+            → HasFilesAnswer pid (pipe_call pid flags) (at self.old table (H.view host.old))
             (at self.new table (H.view host.new)) result (H.count host.old) (H.count host.new) }
         ensures call { (t : FileTree)
-            → Does result (over t (pipes_at self.new (H.view host.new).pipes) self.new.descriptors)
+            → IsFilesAnswer result (holding_of t (pipes_at self.new (H.view host.new).pipes) self.new.descriptors)
             (pipe_call pid flags
-            (over t (pipes_at self.old (H.view host.old).pipes) self.old.descriptors)) }
+            (holding_of t (pipes_at self.old (H.view host.old).pipes) self.old.descriptors)) }
         ensures only { OnlyPipes (H.view host.old) (H.view host.new) }
         ensures cause { HasCause (H.count host.old) (H.count host.new) (HasFailed result) }
     {
@@ -97,18 +98,18 @@ impl Files {
         requires free_too { slot_at self.old.descriptors pid write ≡ None }
         requires apart { read < write }
         ensures leaves { (table : Table) → IsBacked (at self.old table (H.view host.old))
-            → Leaves pid (with_pipe_opened (holding_at (at self.old table (H.view host.old))) pid flags read write)
+            → HasHolding pid (with_pipe_ends (holding_at (at self.old table (H.view host.old))) pid flags read write)
             (at self.old table (H.view host.old)) (at self.new table (H.view host.new)) result
             (H.count host.old) (H.count host.new) }
         ensures opened { (t : FileTree) → OnOk result
-            (over t (pipes_at self.new (H.view host.new).pipes) self.new.descriptors
-            ≡ with_pipe_opened
-            (over t (pipes_at self.old (H.view host.old).pipes) self.old.descriptors)
+            (holding_of t (pipes_at self.new (H.view host.new).pipes) self.new.descriptors
+            ≡ with_pipe_ends
+            (holding_of t (pipes_at self.old (H.view host.old).pipes) self.old.descriptors)
             pid flags read write) }
         ensures only { OnlyPipes (H.view host.old) (H.view host.new) }
         ensures cause { HasCause (H.count host.old) (H.count host.new) (IsErrOf result Failed) }
     {
-        let cloexec = has(flags, O_CLOEXEC);
+        let cloexec = has_flag(flags, O_CLOEXEC);
         let q = self.pipes.make(host)?;
         self.descriptors
             .enter(pid, read, read_end(q, flags), cloexec)?;
@@ -135,12 +136,12 @@ impl Files {
     ) -> Result<Flow, CallErr>
         requires { IsPiped self.old (H.view host.old).pipes }
         ensures makes { (table : Table) → IsBacked (at self.old table (H.view host.old))
-            → MakesCall pid (pipe_read_call pid fd (length buf.old)) (at self.old table (H.view host.old))
+            → HasFilesAnswer pid (pipe_read_call pid fd (length buf.old)) (at self.old table (H.view host.old))
             (at self.new table (H.view host.new)) result (H.count host.old) (H.count host.new) }
         ensures call { (t : FileTree)
-            → Does result (over t (pipes_at self.new (H.view host.new).pipes) self.new.descriptors)
+            → IsFilesAnswer result (holding_of t (pipes_at self.new (H.view host.new).pipes) self.new.descriptors)
             (pipe_read_call pid fd (length buf.old)
-            (over t (pipes_at self.old (H.view host.old).pipes) self.old.descriptors)) }
+            (holding_of t (pipes_at self.old (H.view host.old).pipes) self.old.descriptors)) }
         ensures bytes { (table : Table) → IfOk result (λ _.
             let came = bytes_read pid fd (length buf.old) (holding_at (at self.old table (H.view host.old))) in
             buf.new ≡ came ++ drop (length came) buf.old) }
@@ -153,7 +154,7 @@ impl Files {
             return Err(CallErr::Errno(Errno::BadF));
         };
         if self.pipes.held(q) == 0 {
-            return none_held(self.is_written(q), nonblock);
+            return empty_read_flow(self.is_written(q), nonblock);
         }
         let count = self.pipes.take(host, q, buf)?;
         Ok(Flow::Moved(count as u64))
@@ -174,17 +175,17 @@ impl Files {
         requires piped { IsPiped self.old (H.view host.old).pipes }
         requires within { done ≤ length bytes.now }
         ensures makes { (table : Table) → IsBacked (at self.old table (H.view host.old))
-            → MakesCall pid (pipe_write_call pid fd bytes.now done) (at self.old table (H.view host.old))
+            → HasFilesAnswer pid (pipe_write_call pid fd bytes.now done) (at self.old table (H.view host.old))
             (at self.new table (H.view host.new)) result (H.count host.old) (H.count host.new) }
         ensures call { (t : FileTree)
-            → Does result (over t (pipes_at self.new (H.view host.new).pipes) self.new.descriptors)
+            → IsFilesAnswer result (holding_of t (pipes_at self.new (H.view host.new).pipes) self.new.descriptors)
             (pipe_write_call pid fd bytes.now done
-            (over t (pipes_at self.old (H.view host.old).pipes) self.old.descriptors)) }
+            (holding_of t (pipes_at self.old (H.view host.old).pipes) self.old.descriptors)) }
         ensures only { OnlyPipes (H.view host.old) (H.view host.new) }
         ensures cause { HasCause (H.count host.old) (H.count host.new) (HasFailed result) }
     {
         let whole = bytes.len() as u64;
-        let moved = self.pipe_moves(pid, fd, whole, done);
+        let moved = self.pipe_transfer_count(pid, fd, whole, done);
         let (_, rest) = bytes.split_at(done as usize);
         let (piece, _) = rest.split_at(moved as usize);
         self.pipe_write_part(host, pid, fd, whole, done, piece)
@@ -192,11 +193,11 @@ impl Files {
 
     /// How many bytes `pipe_write` of `whole` bytes would move now, of which `done` were moved before (pipe(7)). None
     /// where the descriptor is not of an end that is written to, or nobody reads.
-    pub fn pipe_moves(&self, pid: u32, fd: u32, whole: u64, done: u64) -> u64
+    pub fn pipe_transfer_count(&self, pid: u32, fd: u32, whole: u64, done: u64) -> u64
         requires ends { HasEnds self.now }
         requires within { done ≤ whole }
-        ensures value { (pipes : HostPipes) → IsPiped self.now pipes
-            → result ≡ pipe_moves pid fd whole done self.now.descriptors (pipes_at self.now pipes) }
+        ensures value { (pipes : PipeContents) → IsPiped self.now pipes
+            → result ≡ pipe_transfer_count pid fd whole done self.now.descriptors (pipes_at self.now pipes) }
         ensures left { done + result ≤ whole }
         ensures few { result ≤ PIPE_LIMIT }
     {
@@ -206,10 +207,11 @@ impl Files {
         if !self.is_read(q) {
             return 0;
         }
-        goes(self.pipes.held(q) as u64, whole, done)
+        transfer_count(self.pipes.held(q) as u64, whole, done)
     }
 
-    /// As `pipe_write` of `whole` bytes, of which only the piece is handed in that moves now: as many as `pipe_moves`
+    /// As `pipe_write` of `whole` bytes, of which only the piece is handed in that moves now: as many as
+    /// `pipe_transfer_count`
     /// tells, from the offset `done` on. So a write that waits or goes on needs no copy of all its bytes. The errors
     /// are those of `pipe_write` (write(2)).
     #[tactic(auto, unfolding(crate::specs::Holding::pipe_write_call))]
@@ -224,17 +226,17 @@ impl Files {
     ) -> Result<Flow, CallErr>
         requires piped { IsPiped self.old (H.view host.old).pipes }
         requires within { done ≤ whole }
-        requires moves { length piece.now ≡ pipe_moves pid fd whole done self.old.descriptors
+        requires moves { length piece.now ≡ pipe_transfer_count pid fd whole done self.old.descriptors
             (pipes_at self.old (H.view host.old).pipes) }
         ensures makes { (table : Table) → (bytes : List ℕ) → IsBacked (at self.old table (H.view host.old))
             → length bytes ≡ whole → take (length piece.now) (drop done bytes) ≡ piece.now
-            → MakesCall pid (pipe_write_call pid fd bytes done) (at self.old table (H.view host.old))
+            → HasFilesAnswer pid (pipe_write_call pid fd bytes done) (at self.old table (H.view host.old))
             (at self.new table (H.view host.new)) result (H.count host.old) (H.count host.new) }
         ensures call { (t : FileTree) (bytes : List ℕ) → length bytes ≡ whole
             → take (length piece.now) (drop done bytes) ≡ piece.now
-            → Does result (over t (pipes_at self.new (H.view host.new).pipes) self.new.descriptors)
+            → IsFilesAnswer result (holding_of t (pipes_at self.new (H.view host.new).pipes) self.new.descriptors)
             (pipe_write_call pid fd bytes done
-            (over t (pipes_at self.old (H.view host.old).pipes) self.old.descriptors)) }
+            (holding_of t (pipes_at self.old (H.view host.old).pipes) self.old.descriptors)) }
         ensures only { OnlyPipes (H.view host.old) (H.view host.new) }
         ensures cause { HasCause (H.count host.old) (H.count host.new) (HasFailed result) }
     {
@@ -252,8 +254,8 @@ impl Files {
     /// How many bytes the pipe holds of which a descriptor is an end; 0 where it is of none.
     pub fn held(&self, pid: u32, fd: u32) -> usize
         requires { HasEnds self.now }
-        ensures { (pipes : HostPipes) → IsPiped self.now pipes
-            → result ≡ length (held_at (pipes_at self.now pipes) (description_at self.now.descriptors pid fd)) }
+        ensures { (pipes : PipeContents) → IsPiped self.now pipes
+            → result ≡ length (pipe_content_at (pipes_at self.now pipes) (description_at self.now.descriptors pid fd)) }
     {
         match self.end_of(pid, fd) {
             Some(q) => self.pipes.held(q),
@@ -273,7 +275,7 @@ impl Files {
 
     // The pipe that a descriptor reads from, and whether its calls don't wait.
     fn reads_from(&self, pid: u32, fd: u32) -> Option<(u32, bool)>
-        ensures { result ≡ end_by read_pipe (description_at self.now.descriptors pid fd) }
+        ensures { result ≡ pipe_end_by read_pipe (description_at self.now.descriptors pid fd) }
     {
         match self.look(pid, fd) {
             Some(desc) => match desc.kind.read_pipe() {
@@ -286,7 +288,7 @@ impl Files {
 
     // The pipe that a descriptor writes to, and whether its calls don't wait.
     fn writes_to(&self, pid: u32, fd: u32) -> Option<(u32, bool)>
-        ensures { result ≡ end_by write_pipe (description_at self.now.descriptors pid fd) }
+        ensures { result ≡ pipe_end_by write_pipe (description_at self.now.descriptors pid fd) }
     {
         match self.look(pid, fd) {
             Some(desc) => match desc.kind.write_pipe() {
@@ -327,7 +329,7 @@ fn read_end(q: u32, flags: u32) -> Desc
         spot: Spot::At(0),
         access: O_RDONLY as u8,
         append: false,
-        nonblock: has(flags, O_NONBLOCK),
+        nonblock: has_flag(flags, O_NONBLOCK),
     }
 }
 
@@ -340,13 +342,13 @@ fn write_end(q: u32, flags: u32) -> Desc
         spot: Spot::At(0),
         access: O_WRONLY as u8,
         append: false,
-        nonblock: has(flags, O_NONBLOCK),
+        nonblock: has_flag(flags, O_NONBLOCK),
     }
 }
 
 // What a read answers where nothing is held.
-fn none_held(written: bool, nonblock: bool) -> Result<Flow, CallErr>
-    ensures { result ≡ as_call (none_held (one_if written) nonblock) }
+fn empty_read_flow(written: bool, nonblock: bool) -> Result<Flow, CallErr>
+    ensures { result ≡ as_call (empty_read_flow (one_if written) nonblock) }
 {
     if !written {
         Ok(Flow::Moved(0))
@@ -358,9 +360,9 @@ fn none_held(written: bool, nonblock: bool) -> Result<Flow, CallErr>
 }
 
 // How many bytes a write moves now.
-fn goes(count: u64, whole: u64, done: u64) -> u64
+fn transfer_count(count: u64, whole: u64, done: u64) -> u64
     requires { done ≤ whole }
-    ensures value { result ≡ goes count whole done }
+    ensures value { result ≡ transfer_count count whole done }
     ensures within { done + result ≤ whole }
     ensures room { result ≤ PIPE_LIMIT }
 {

@@ -7,7 +7,7 @@ use Rattle.std.specs.Cmp.Lexicographic.{slice_cmp, nat_list_cmp_total}
 use Rattle.std.specs.Ordering.{nat_cmp}
 use Rattle.std.specs.FinMap.{empty, same_map, len, get, insert, remove, get-empty, nat_cmp-IsAntisymmetric}
 use Rattle.dt_host.specs.World.{Forest, Node, Names, file, dir, link, node_at, file_bytes, dir_names, names_at, entry, with_node, with_entry, without_entry, without_node, IsDir, IsFile, IsLive, IsBare}
-use Rattle.dt_host.proofs.Maps.{at_insert, at_remove, names_tie, remove_none, put_back, insert_same, get-insert_same, get-insert_other, get-remove_other, get-remove_same}
+use Rattle.dt_tables.proofs.Maps.{at_insert, at_remove, names_tie, remove_none, put_back, insert_same, get-insert_same, get-insert_other, get-remove_other, get-remove_same}
 use Rattle.dt_host.proofs.Worlds.{node_at-with_node}
 use Rattle.dt_host.proofs.Changes.{entry_alike, apart_from_file}
 use Rattle.dt_host.proofs.Spots.{at_node, entry_here, entry_other, IsLive-IsDir, is_some-with_node, len-with_node}

@@ -9,7 +9,7 @@ use Rattle.dt_host.specs.World.{World, IsLive, IsPipe, ArePipes, OnlyForest, pip
 use Rattle.dt_host.specs.Sink.{MovesSome}
 use Rattle.dt_host.specs.Legal.{with_put, PutsPart, NodeMayGo, MayGo, without}
 use Rattle.dt_host.proofs.Transfers.{read_more}
-use Rattle.dt_host.proofs.Maps.{get-insert_same, insert_same, put_back}
+use Rattle.dt_tables.proofs.Maps.{get-insert_same, insert_same, put_back}
 
 pub get-with_pipe : (w : World) (n : ℕ) (bytes : List ℕ) → get (with_pipe w n bytes).pipes n ≡ Some bytes
 get-with_pipe w n bytes = get-insert_same nat_cmp_total nat_cmp-IsAntisymmetric w.pipes n bytes

@@ -6,10 +6,10 @@ use Rattle.std.specs.Cmp.{nat_cmp_total}
 use Rattle.std.specs.FinMap.{empty, get-empty, nat_cmp-IsAntisymmetric}
 use Rattle.std.specs.Ordering.{nat_cmp}
 use Rattle.dt_host.specs.World.{Forest, Node, dir, file_bytes, content, with_node, without_node, with_entry, without_entry, with_bytes, empty_forest, IsDir, IsFile, IsSized}
-use Rattle.dt_host.proofs.Found.{none_there}
-use Rattle.dt_host.proofs.Maps.{at_insert, at_remove}
+use Rattle.dt_tables.proofs.Found.{none_there}
+use Rattle.dt_tables.proofs.Maps.{at_insert, at_remove}
 use Rattle.dt_host.proofs.Spots.{at_node, IsLive-IsDir, IsLive-IsFile}
-use Rattle.dt_base.specs.Bytes.{overwritten, padded, resized}
+use Rattle.dt_base.specs.Bytes.{with_bytes_at, with_trailing_zeros, with_length}
 
 -- one node more, under a number of 64 bits
 pub IsSized-with_node : (v : Forest) (n : ℕ) (node : Node) → IsSized v → n < 2 ^ 64 → length (unwrap_or (file_bytes node) []) < 2 ^ 64 → IsSized (with_node v n node)
@@ -45,13 +45,13 @@ unfolding with_bytes
 IsSized-with_bytes v n bytes kept is short = IsSized-with_node v n _ kept (kept.numbers n (IsLive-IsFile v n is)) short
 
 -- bytes written over a file that end within 64 bits
-pub short_overwritten : (old : List ℕ) (off : ℕ) (bytes : List ℕ) → off ≤ length old → length old < 2 ^ 64 → off + length bytes < 2 ^ 64 → length (overwritten old off bytes) < 2 ^ 64
+pub short_overwritten : (old : List ℕ) (off : ℕ) (bytes : List ℕ) → off ≤ length old → length old < 2 ^ 64 → off + length bytes < 2 ^ 64 → length (with_bytes_at old off bytes) < 2 ^ 64
 short_overwritten old off bytes joined short fits =
     omega (arith, length-take-le off old joined, length-append (take off old) bytes, length-append (take off old ++ bytes) (drop (off + length bytes) old), length-drop (off + length bytes) old)
 
 -- bytes cut to a length of 64 bits, or with zeros up to it
-pub short_resized : (old : List ℕ) (len : ℕ) → len < 2 ^ 64 → length (resized old len) < 2 ^ 64
-short_resized old len fits = omega (arith, length-take len (padded old len))
+pub short_resized : (old : List ℕ) (len : ℕ) → len < 2 ^ 64 → length (with_length old len) < 2 ^ 64
+short_resized old len fits = omega (arith, length-take len (with_trailing_zeros old len))
 
 -- nothing but a root without entries
 pub IsSized-empty_forest : (root : ℕ) → root < 2 ^ 64 → IsSized (empty_forest root)

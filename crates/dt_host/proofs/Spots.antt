@@ -7,8 +7,8 @@ use Rattle.std.specs.Cmp.Lexicographic.{slice_cmp, nat_list_cmp_total}
 use Rattle.std.specs.Ordering.{nat_cmp}
 use Rattle.std.specs.FinMap.{empty, len, len-insert, get, insert, get-empty, nat_cmp-IsAntisymmetric}
 use Rattle.dt_host.specs.World.{Forest, Node, file, dir, link, node_at, file_bytes, dir_names, names_at, entry, with_node, with_entry, IsDir, IsFile, IsLive}
-use Rattle.dt_host.proofs.Found.{none_within, not_both, some_true}
-use Rattle.dt_host.proofs.Maps.{at_insert, names_tie}
+use Rattle.dt_tables.proofs.Found.{none_within, not_both, some_true}
+use Rattle.dt_tables.proofs.Maps.{at_insert, names_tie}
 use Rattle.dt_host.proofs.Worlds.{node_at-with_node, node_at-with_node_other}
 use Rattle.dt_host.proofs.Changes.{entry_alike}
 

@@ -11,7 +11,7 @@ use Rattle.dt_host.specs.Sink.{MovesSome}
 use Rattle.dt_host.specs.World.{World, Forest, file, dir, link, node_at, with_node, with_forest, with_pids, with_pipe}
 use Rattle.dt_host.specs.World.{without_pipe, with_entry, without_entry, without_node, with_bytes, content, pipe_bytes}
 use Rattle.dt_host.specs.World.{IsLive, IsNameless, IsBare}
-use Rattle.dt_base.specs.Bytes.{overwritten, resized}
+use Rattle.dt_base.specs.Bytes.{with_bytes_at, with_length}
 
 -- the world with something new of that kind, under this number: an empty file, a directory without entries, an empty pipe,
 -- or a link
@@ -75,8 +75,8 @@ abbrev pub DropsPid : {A E : Type 0} → World → ℕ → Result A E → World 
 DropsPid old p result new = MatchResult result (λ _. new ≡ with_pids old (remove old.pids p)) (λ _. new ≡ old)
 
 -- an entry that `names` found, as its name and its number
-abbrev pub named : HostEntry → List ℕ × ℕ
-named found = (found.name, found.ino)
+abbrev pub pair_of : HostEntry → List ℕ × ℕ
+pair_of found = (found.name, found.ino)
 
 -- so many bytes of a file, from an offset on, came into the start of a buffer
 pub record Reads (bytes : List ℕ) (off : ℕ) (old new : List ℕ) (count : ℕ) : Type 0 where
@@ -85,7 +85,7 @@ pub record Reads (bytes : List ℕ) (off : ℕ) (old new : List ℕ) (count : �
 
 -- the world with bytes written over a file from an offset on
 abbrev pub with_write : World → ℕ → ℕ → List ℕ → World
-with_write w n off bytes = with_forest w (with_bytes w.forest n (overwritten (content w.forest n) off bytes))
+with_write w n off bytes = with_forest w (with_bytes w.forest n (with_bytes_at (content w.forest n) off bytes))
 
 -- so many of the bytes were written
 pub record WritesSome (old : World) (n off : ℕ) (bytes : List ℕ) (new : World) (count : ℕ) : Type 0 where
@@ -110,7 +110,7 @@ WritesAll old n off bytes result new =
 
 -- the world with a file of another size: cut, or with zeros behind its bytes
 abbrev pub with_size : World → ℕ → ℕ → World
-with_size w n len = with_forest w (with_bytes w.forest n (resized (content w.forest n) len))
+with_size w n len = with_forest w (with_bytes w.forest n (with_length (content w.forest n) len))
 
 -- so many of the oldest bytes that a pipe holds came into the start of a buffer, and are gone from it
 pub record TakesSome (old : World) (n : ℕ) (before after : List ℕ) (new : World) (count : ℕ) : Type 0 where

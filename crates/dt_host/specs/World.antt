@@ -22,18 +22,18 @@ pub record Forest : Type 0 where
   pub root : ℕ
 
 -- the bytes that each pipe holds (pipe(7)), the oldest first, by the pipe's number
-abbrev pub Pipes : Type 0
-Pipes = FinMap nat_cmp (List ℕ)
+abbrev pub PipeContents : Type 0
+PipeContents = FinMap nat_cmp (List ℕ)
 
 -- the pids of live processes
-abbrev pub Pids : Type 0
-Pids = FinSet nat_cmp
+abbrev pub HostPids : Type 0
+HostPids = FinSet nat_cmp
 
 -- all that a host keeps
 pub record World : Type 0 where
   pub forest : Forest
-  pub pipes : Pipes
-  pub pids : Pids
+  pub pipes : PipeContents
+  pub pids : HostPids
 
 -- the node of that number
 abbrev pub node_at : Forest → ℕ → Option Node
@@ -109,7 +109,7 @@ pub record ArePipes (w : World) : Type 0 where
   pub apart : (n : ℕ) → IsLive w.forest n → get w.pipes n ≡ None
 
 -- the live pids have 64 bits
-abbrev pub ArePids : Pids → Type 0
+abbrev pub ArePids : HostPids → Type 0
 ArePids pids = (p : ℕ) → contains pids p ≡ true → p < 2 ^ 64
 
 -- the entries of a directory; none where there is no directory
@@ -153,7 +153,7 @@ abbrev pub with_forest : World → Forest → World
 with_forest w v = record w { forest = v }
 
 -- the world with these pids
-abbrev pub with_pids : World → Pids → World
+abbrev pub with_pids : World → HostPids → World
 with_pids w pids = record w { pids = pids }
 
 -- the world with a pipe of that number that holds these bytes

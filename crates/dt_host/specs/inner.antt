@@ -1,3 +1,2 @@
 -- Inner words: no public clause cites these.
 pub mod Codes
-pub mod Weight

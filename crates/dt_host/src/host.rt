@@ -7,7 +7,7 @@ ghost use Rattle.std.specs.FinSet.{contains};
 ghost use Rattle.dt_host.specs.Cause.{HasCause};
 ghost use Rattle.dt_host.specs.World.{World, IsLive, IsFile, IsDir, IsLink, IsPipe, IsSized, ArePipes, ArePids};
 ghost use Rattle.dt_host.specs.World.{file_at, target_at, names_at, entry, content, pipe_bytes};
-ghost use Rattle.dt_host.specs.Legal.{Makes, Binds, Unbinds, MayGo, Forgets, named, Reads, Writes, Cuts, Takes, Puts};
+ghost use Rattle.dt_host.specs.Legal.{Makes, Binds, Unbinds, MayGo, Forgets, pair_of, Reads, Writes, Cuts, Takes, Puts};
 ghost use Rattle.dt_host.specs.Legal.{MakesPid, DropsPid};
 
 use crate::entry::HostEntry;
@@ -81,7 +81,7 @@ pub trait Host {
         requires { IsDir (view self.old).forest dir }
         ensures ok { IfOk result
             (λ found. IsPermutation
-            (entries (names_at (view self.old).forest dir)) (map named found.items)) }
+            (entries (names_at (view self.old).forest dir)) (map pair_of found.items)) }
         ensures stays { view self.new ≡ view self.old }
         ensures cause { HasCause (count self.old) (count self.new)
             (IsErrOf result HostErr.Failed) };

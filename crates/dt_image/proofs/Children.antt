@@ -13,18 +13,18 @@ use Rattle.std.proofs.lemmas.List.Elements.{All-nil, All-cons, All-head, All-tai
 use Rattle.std.proofs.lemmas.Bool.{and_parts, not-true}
 use Rattle.dt_base.specs.Path.{is_name, has_no_nul}
 use Rattle.dt_host.specs.World.{Forest, Names, Node, file, dir, link, node_at, dir_at, dir_names, names_at, entry, IsLive}
-use Rattle.dt_host.proofs.Maps.{at_insert, names_tie}
+use Rattle.dt_tables.proofs.Maps.{at_insert, names_tie}
 use Rattle.dt_tree.specs.declared.limits.TheConstants.{NAMES_LIMIT}
-use Rattle.dt_tree.specs.Shape.{names_of, IsShaped}
+use Rattle.dt_tree.specs.Shape.{name_count_of, IsShaped}
 use Rattle.dt_tree.specs.FileTree.{FileTree, Attributes, IsTree, is_entry_name}
-use Rattle.dt_tree.specs.Listing.{rank, comes_after, is_left, listed, listing, next_of}
+use Rattle.dt_tree.specs.Listing.{rank, is_listed_after, is_left, listed_entry, listing, next_of}
 use Rattle.dt_tree.proofs.Namings.{named, len-names_at}
 use Rattle.dt_tree.proofs.Pathed.{each_got}
-use Rattle.dt_image.specs.Paths.{below, level, with_path, paths_to, paths_of}
-use Rattle.dt_image.specs.inner.PathView.{listed_below, IsPlaced}
+use Rattle.dt_image.specs.Paths.{paths_below, level, with_path, paths_to, paths_of}
+use Rattle.dt_image.specs.inner.PathView.{listed_path, IsPlaced}
 
 -- a good name comes after `..`
-after_dots : (name : List ℕ) → is_entry_name name ≡ true → comes_after (codes "..") name ≡ true
+after_dots : (name : List ℕ) → is_entry_name name ≡ true → is_listed_after (codes "..") name ≡ true
 after_dots name good =
     let named = (and_parts (is_name name) (has_no_nul name) (and_parts (is_name name && has_no_nul name) _ good).0).0 in
     let two = not-true (bytes_eq name (codes "..")) (and_parts _ (not (bytes_eq name (codes ".."))) named).1 in
@@ -45,11 +45,11 @@ names_good t d s name there = by_node (node_at t.shape d) (get t.attributes d) r
     by_node (Some (dir names)) (Some a) at with_a here = (s.good d (dir names) a at with_a).0 name here
 
 module _ (v : Forest) where
-  all_left : (es : List (List ℕ × ℕ)) → AllByRecursion (λ e. comes_after (codes "..") e.0 ≡ true) es → filter (λ l. is_left (Some (codes "..")) l.name) (map (listed v) es) ≡ map (listed v) es
+  all_left : (es : List (List ℕ × ℕ)) → AllByRecursion (λ e. is_listed_after (codes "..") e.0 ≡ true) es → filter (λ l. is_left (Some (codes "..")) l.name) (map (listed_entry v) es) ≡ map (listed_entry v) es
   all_left [] h = refl
   all_left (e ∷ es) h =
-      ap (λ b. cond b (listed v e ∷ filter (λ l. is_left (Some (codes "..")) l.name) (map (listed v) es)) (filter (λ l. is_left (Some (codes "..")) l.name) (map (listed v) es))) h.0
-      ∙ ap (λ rest. listed v e ∷ rest) (all_left es h.1)
+      ap (λ b. cond b (listed_entry v e ∷ filter (λ l. is_left (Some (codes "..")) l.name) (map (listed_entry v) es)) (filter (λ l. is_left (Some (codes "..")) l.name) (map (listed_entry v) es))) h.0
+      ∙ ap (λ rest. listed_entry v e ∷ rest) (all_left es h.1)
 
 take_whole : {X : Type 0} (n : ℕ) (xs : List X) → length xs ≤ n → take n xs ≡ xs
 take_whole {X = X} n [] short = by_number n
@@ -61,28 +61,28 @@ take_whole zero (x ∷ xs) short = absurd (omega arith)
 take_whole (suc n) (x ∷ xs) short = ap (λ rest. x ∷ rest) (take_whole n xs (omega arith))
 
 -- what is listed after `..` are the entries
-pub listed_after : (t : FileTree) (d most : ℕ) → IsTree t → NAMES_LIMIT ≤ most → next_of (Some (codes "..")) most (listing t.shape d) ≡ map (listed t.shape) (entries (names_at t.shape d))
+pub listed_after : (t : FileTree) (d most : ℕ) → IsTree t → NAMES_LIMIT ≤ most → next_of (Some (codes "..")) most (listing t.shape d) ≡ map (listed_entry t.shape) (entries (names_at t.shape d))
 listed_after t d most s room =
     let names = names_at t.shape d in
     let after = each (entries names) (each_got nat_list_cmp_total names) in
-    let few : length (map (listed t.shape) (entries names)) ≤ most = omega (arith, length-map (entries names) (listed t.shape), sym (len-entries names), len-names_at t.shape d, s.few_names) in
-    ap (take most) (all_left t.shape (entries names) after) ∙ take_whole most (map (listed t.shape) (entries names)) few
+    let few : length (map (listed_entry t.shape) (entries names)) ≤ most = omega (arith, length-map (entries names) (listed_entry t.shape), sym (len-entries names), len-names_at t.shape d, s.few_names) in
+    ap (take most) (all_left t.shape (entries names) after) ∙ take_whole most (map (listed_entry t.shape) (entries names)) few
   where
-    each : (es : List (List ℕ × ℕ)) → AllByRecursion (λ (e : List ℕ × ℕ). get (names_at t.shape d) e.0 ≡ Some e.1) es → AllByRecursion (λ (e : List ℕ × ℕ). comes_after (codes "..") e.0 ≡ true) es
+    each : (es : List (List ℕ × ℕ)) → AllByRecursion (λ (e : List ℕ × ℕ). get (names_at t.shape d) e.0 ≡ Some e.1) es → AllByRecursion (λ (e : List ℕ × ℕ). is_listed_after (codes "..") e.0 ≡ true) es
     each [] h = tt
     each (e ∷ es) h = (after_dots e.0 (names_good t d s e.0 (ap is_some h.0)), each es h.1)
 
-pub below_listed : (v : Forest) (path : List ℕ) (d : ℕ) → map (listed_below path) (map (listed v) (entries (names_at v d))) ≡ below v (path, d)
-unfolding below
+pub below_listed : (v : Forest) (path : List ℕ) (d : ℕ) → map (listed_path path) (map (listed_entry v) (entries (names_at v d))) ≡ paths_below v (path, d)
+unfolding paths_below
 below_listed v path d = by_list (entries (names_at v d))
   where
-    by_list : (es : List (List ℕ × ℕ)) → map (listed_below path) (map (listed v) es) ≡ map (λ e. (path ++ (codes "/" ++ e.0), e.1)) es
+    by_list : (es : List (List ℕ × ℕ)) → map (listed_path path) (map (listed_entry v) es) ≡ map (λ e. (path ++ (codes "/" ++ e.0), e.1)) es
     by_list [] = refl
     by_list (e ∷ es) = ap (λ rest. (path ++ (codes "/" ++ e.0), e.1) ∷ rest) (by_list es)
 
 -- what is no directory has no entries
-pub none_below : (v : Forest) (path : List ℕ) (d : ℕ) → is_some (dir_at v d) ≡ false → below v (path, d) ≡ []
-unfolding below names_at
+pub none_below : (v : Forest) (path : List ℕ) (d : ℕ) → is_some (dir_at v d) ≡ false → paths_below v (path, d) ≡ []
+unfolding paths_below names_at
 none_below v path d other = ap (map (λ e. (path ++ (codes "/" ++ e.0), e.1))) (by_found (dir_at v d) other)
   where
     by_found : (found : Option Names) → is_some found ≡ false → entries (unwrap_or found empty) ≡ []
@@ -91,28 +91,28 @@ none_below v path d other = ap (map (λ e. (path ++ (codes "/" ++ e.0), e.1))) (
 
 -- the node that a path leads to has a name
 abbrev IsNamed : Forest → List ℕ × ℕ → Type 0
-IsNamed v at = 1 ≤ names_of v at.1
+IsNamed v at = 1 ≤ name_count_of v at.1
 
 module _ (v : Forest) where
-  named_below : (at : List ℕ × ℕ) → All (IsNamed v) (below v at)
-  unfolding below entry
+  named_below : (at : List ℕ × ℕ) → All (IsNamed v) (paths_below v at)
+  unfolding paths_below entry
   named_below at = by_list (entries (names_at v at.1)) (each_got nat_list_cmp_total (names_at v at.1))
     where
       by_list : (es : List (List ℕ × ℕ)) → AllByRecursion (λ (e : List ℕ × ℕ). get (names_at v at.1) e.0 ≡ Some e.1) es → All (IsNamed v) (map (λ e. (at.0 ++ (codes "/" ++ e.0), e.1)) es)
       by_list [] h = All-nil (IsNamed v)
       by_list (e ∷ es) h = All-cons (IsNamed v) (at.0 ++ (codes "/" ++ e.0), e.1) _ (named v at.1 e.1 e.0 h.0) (by_list es h.1)
 
-  named_all : (ats : List (List ℕ × ℕ)) → All (IsNamed v) (flat_map (below v) ats)
+  named_all : (ats : List (List ℕ × ℕ)) → All (IsNamed v) (flat_map (paths_below v) ats)
   named_all [] = All-nil (IsNamed v)
-  named_all (at ∷ ats) = All-append (IsNamed v) (below v at) (flat_map (below v) ats) (named_below at) (named_all ats)
+  named_all (at ∷ ats) = All-append (IsNamed v) (paths_below v at) (flat_map (paths_below v) ats) (named_below at) (named_all ats)
 
   all_placed : (ats : List (List ℕ × ℕ)) → All (IsNamed v) ats → All (IsPlaced v) ats
   all_placed [] h = All-nil (IsPlaced v)
   all_placed (at ∷ ats) h = All-cons (IsPlaced v) at ats (placed (All-head (IsNamed v) at ats h)) (all_placed ats (All-tail (IsNamed v) at ats h))
     where
-      placed : 1 ≤ names_of v at.1 → (not (at.1 == v.root) && (names_of v at.1 == 0)) ≡ false
+      placed : 1 ≤ name_count_of v at.1 → (not (at.1 == v.root) && (name_count_of v at.1 == 0)) ≡ false
       placed some =
-          let more : (names_of v at.1 == 0) ≡ false = grind (arith, nat_tests) in
+          let more : (name_count_of v at.1 == 0) ≡ false = grind (arith, nat_tests) in
           ap (λ b. not (at.1 == v.root) && b) more ∙ and-false (not (at.1 == v.root))
 
   -- no path leads to a removed directory
@@ -120,8 +120,8 @@ module _ (v : Forest) where
   unfolding level
   placed_level zero =
       let same : (v.root == v.root) ≡ true = grind (arith, nat_tests) in
-      All-cons (IsPlaced v) ([], v.root) [] (ap (λ b. not b && (names_of v v.root == 0)) same) (All-nil (IsPlaced v))
-  placed_level (suc depth) = all_placed (flat_map (below v) (level v depth)) (named_all (level v depth))
+      All-cons (IsPlaced v) ([], v.root) [] (ap (λ b. not b && (name_count_of v v.root == 0)) same) (All-nil (IsPlaced v))
+  placed_level (suc depth) = all_placed (flat_map (paths_below v) (level v depth)) (named_all (level v depth))
 
   -- what holds of the paths of each level holds of those of a map
   module _ (P : List ℕ × ℕ → Type 0) where
@@ -143,7 +143,7 @@ module _ (v : Forest) where
   unfolding level
   named_level depth = named_all (level v depth)
 
-  pub level_next : (depth : ℕ) → level v (depth + 1) ≡ flat_map (below v) (level v depth)
+  pub level_next : (depth : ℕ) → level v (depth + 1) ≡ flat_map (paths_below v) (level v depth)
   unfolding level
   level_next depth = ap (level v) (add-one depth)
 

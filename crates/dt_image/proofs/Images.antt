@@ -9,7 +9,7 @@ use Rattle.serde_json.specs.Read.{read}
 use Rattle.dt_base.specs.declared.limits.TheConstants.{INDEX_LIMIT}
 use Rattle.dt_base.specs.declared.refusal.Refusal.TheVariants.{BadIndex}
 use Rattle.dt_base.specs.declared.refusal.Refusal.{Refusal}
-use Rattle.dt_host.specs.Store.{Files, size_of}
+use Rattle.dt_host.specs.Store.{StoreFiles, size_of}
 use Rattle.dt_image.specs.ImageOf.{value_of, image_by, image_of, name_below}
 
 pub value_of_text : (bytes : List ℕ) → length bytes ≤ INDEX_LIMIT → IsUtf8 bytes → value_of bytes ≡ read bytes
@@ -28,18 +28,18 @@ pub value_of_long : (bytes : List ℕ) → INDEX_LIMIT < length bytes → value_
 unfolding value_of
 value_of_long bytes long = rw (lt-leb (length bytes) INDEX_LIMIT long)
 
-long_index : (files : Files) (folder : List ℕ) (found : Option (List ℕ)) (size : ℕ) → Some size ≡ option_map length found → INDEX_LIMIT < size → image_by files folder found ≡ Err BadIndex
+long_index : (files : StoreFiles) (folder : List ℕ) (found : Option (List ℕ)) (size : ℕ) → Some size ≡ option_map length found → INDEX_LIMIT < size → image_by files folder found ≡ Err BadIndex
 long_index files folder None size e long = absurd (cc)
 long_index files folder (Some bytes) size e long =
     let same : size ≡ length bytes = cc in
     rw (value_of_long bytes (omega arith))
 
-pub too_long : (told : Option Files) (name : List ℕ) (size : ℕ) → IfSome told (λ files. Some size ≡ size_of files name) → INDEX_LIMIT < size
+pub too_long : (told : Option StoreFiles) (name : List ℕ) (size : ℕ) → IfSome told (λ files. Some size ≡ size_of files name) → INDEX_LIMIT < size
     → IfSome told (λ files. (folder : List ℕ) → image_by files folder (get files name) ≡ Err BadIndex)
 too_long None name size h long = tt
 too_long (Some files) name size h long = λ folder. long_index files folder (get files name) size h long
 
-pub by_name : (told : Option Files) (name folder : List ℕ) (r : Refusal) → name ≡ name_below folder (codes "image.json")
+pub by_name : (told : Option StoreFiles) (name folder : List ℕ) (r : Refusal) → name ≡ name_below folder (codes "image.json")
     → IfSome told (λ files. (any : List ℕ) → image_by files any (get files name) ≡ Err r) → IfSome told (λ files. image_of files folder ≡ Err r)
 by_name None name folder r e h = tt
 by_name (Some files) name folder r e h = rw e at (h folder)

@@ -9,10 +9,10 @@ use Rattle.dt_base.specs.declared.image.Entry.{Entry}
 use Rattle.dt_base.specs.declared.refusal.Refusal.{Refusal}
 use Rattle.dt_base.specs.declared.refusal.Refusal.TheVariants.{BadPath, Twice, NoParent}
 use Rattle.dt_base.specs.Path.{is_path, is_top, parent_of}
-use Rattle.dt_host.specs.Store.{Files}
+use Rattle.dt_host.specs.Store.{StoreFiles}
 use Rattle.dt_image.specs.Index.{IndexEntry, is_good, is_good_source, index_of}
-use Rattle.dt_image.specs.ImageOf.{has_twice, lists_dir, lists_parent, sorted, with_blobs, image_from, image_listed, image_by, image_of, value_of, name_below}
-use Rattle.dt_image.specs.inner.IndexView.{has_mode, is_listed, is_sound, in_dirs}
+use Rattle.dt_image.specs.ImageOf.{has_twice, is_dir_of_path, has_listed_parent, sorted_entries, with_blobs, image_from, image_from_index, image_by, image_of, value_of, name_below}
+use Rattle.dt_image.specs.inner.IndexView.{has_mode, is_listed, is_sound, image_in_order}
 use Rattle.dt_image.proofs.Sorting.{list_any-sorted, list_all-sorted}
 
 sound_by : (path source mode : Bool) → mode ≡ true → (path && source) ≡ true → (path && (source && mode)) ≡ true
@@ -28,7 +28,7 @@ sound_listed (entry ∷ entries) listed good =
     (sound_listed entries (and_parts (is_listed entry) (list_all is_listed entries) listed).1 (and_parts (is_good entry) (list_all is_good entries) good).1)
 
 -- good entries of an index are good in any order
-pub sound_sorted : (entries order : List IndexEntry) → order ≡ sorted entries → list_all is_listed entries ≡ true → list_all is_good entries ≡ true → list_all is_sound order ≡ true
+pub sound_sorted : (entries order : List IndexEntry) → order ≡ sorted_entries entries → list_all is_listed entries ≡ true → list_all is_good entries ≡ true → list_all is_sound order ≡ true
 sound_sorted entries order is listed good = ap (list_all is_sound) is ∙ list_all-sorted is_sound entries ∙ sound_listed entries listed good
 
 same_all : (p q : IndexEntry → Bool) → ((entry : IndexEntry) → p entry ≡ q entry) → (entries : List IndexEntry) → list_all p entries ≡ list_all q entries
@@ -36,65 +36,65 @@ same_all p q same [] = refl
 same_all p q same (entry ∷ entries) = ap (λ b. b && list_all p entries) (same entry) ∙ ap (λ rest. q entry && rest) (same_all p q same entries)
 
 -- whether all stand in directories does not depend on their order
-parents_sorted : (entries : List IndexEntry) → list_all (lists_parent (sorted entries)) (sorted entries) ≡ list_all (lists_parent entries) entries
+parents_sorted : (entries : List IndexEntry) → list_all (has_listed_parent (sorted_entries entries)) (sorted_entries entries) ≡ list_all (has_listed_parent entries) entries
 parents_sorted entries =
-    list_all-sorted (lists_parent (sorted entries)) entries
-    ∙ same_all (lists_parent (sorted entries)) (lists_parent entries) (λ entry. ap (λ found. is_top entry.path || found) (list_any-sorted (lists_dir (parent_of entry.path)) entries)) entries
+    list_all-sorted (has_listed_parent (sorted_entries entries)) entries
+    ∙ same_all (has_listed_parent (sorted_entries entries)) (has_listed_parent entries) (λ entry. ap (λ found. is_top entry.path || found) (list_any-sorted (is_dir_of_path (parent_of entry.path)) entries)) entries
 
 -- the image of an index, from what the tests say
 abbrev indexed : Bool → Bool → Bool → Result (List Entry) Refusal → Result (List Entry) Refusal
 indexed good twice parents rest = cond (not good) (Err BadPath) (cond twice (Err Twice) (cond (not parents) (Err NoParent) rest))
 
-bad : (held : Files) (folder : List ℕ) (entries : List IndexEntry) → list_all is_good entries ≡ false → image_from held folder entries ≡ Err BadPath
+bad : (held : StoreFiles) (folder : List ℕ) (entries : List IndexEntry) → list_all is_good entries ≡ false → image_from held folder entries ≡ Err BadPath
 unfolding image_from
-bad held folder entries other = ap (λ good. indexed good (has_twice entries) (list_all (lists_parent entries) entries) (with_blobs held folder (sorted entries))) other
+bad held folder entries other = ap (λ good. indexed good (has_twice entries) (list_all (has_listed_parent entries) entries) (with_blobs held folder (sorted_entries entries))) other
 
-twice : (held : Files) (folder : List ℕ) (entries : List IndexEntry) → list_all is_good entries ≡ true → has_twice entries ≡ true → image_from held folder entries ≡ Err Twice
+twice : (held : StoreFiles) (folder : List ℕ) (entries : List IndexEntry) → list_all is_good entries ≡ true → has_twice entries ≡ true → image_from held folder entries ≡ Err Twice
 unfolding image_from
 twice held folder entries good again =
-    ap (λ b. indexed b (has_twice entries) (list_all (lists_parent entries) entries) (with_blobs held folder (sorted entries))) good
-    ∙ ap (λ b. indexed true b (list_all (lists_parent entries) entries) (with_blobs held folder (sorted entries))) again
+    ap (λ b. indexed b (has_twice entries) (list_all (has_listed_parent entries) entries) (with_blobs held folder (sorted_entries entries))) good
+    ∙ ap (λ b. indexed true b (list_all (has_listed_parent entries) entries) (with_blobs held folder (sorted_entries entries))) again
 
-once : (held : Files) (folder : List ℕ) (entries order : List IndexEntry) → list_all is_good entries ≡ true → has_twice entries ≡ false → order ≡ sorted entries → image_from held folder entries ≡ in_dirs held folder order
+once : (held : StoreFiles) (folder : List ℕ) (entries order : List IndexEntry) → list_all is_good entries ≡ true → has_twice entries ≡ false → order ≡ sorted_entries entries → image_from held folder entries ≡ image_in_order held folder order
 unfolding image_from
 once held folder entries order good other is =
-    ap (λ b. indexed b (has_twice entries) (list_all (lists_parent entries) entries) (with_blobs held folder (sorted entries))) good
-    ∙ ap (λ b. indexed true b (list_all (lists_parent entries) entries) (with_blobs held folder (sorted entries))) other
-    ∙ ap (λ b. cond (not b) (Err NoParent) (with_blobs held folder (sorted entries))) (sym (parents_sorted entries))
-    ∙ ap (in_dirs held folder) (sym is)
+    ap (λ b. indexed b (has_twice entries) (list_all (has_listed_parent entries) entries) (with_blobs held folder (sorted_entries entries))) good
+    ∙ ap (λ b. indexed true b (list_all (has_listed_parent entries) entries) (with_blobs held folder (sorted_entries entries))) other
+    ∙ ap (λ b. cond (not b) (Err NoParent) (with_blobs held folder (sorted_entries entries))) (sym (parents_sorted entries))
+    ∙ ap (image_in_order held folder) (sym is)
 
-pub told_bad : (told : Option Files) (folder : List ℕ) (entries : List IndexEntry) → list_all is_good entries ≡ false → IfSome told (λ held. image_from held folder entries ≡ Err BadPath)
+pub told_bad : (told : Option StoreFiles) (folder : List ℕ) (entries : List IndexEntry) → list_all is_good entries ≡ false → IfSome told (λ held. image_from held folder entries ≡ Err BadPath)
 told_bad None folder entries other = tt
 told_bad (Some held) folder entries other = bad held folder entries other
 
-pub told_twice : (told : Option Files) (folder : List ℕ) (entries : List IndexEntry) → list_all is_good entries ≡ true → has_twice entries ≡ true → IfSome told (λ held. image_from held folder entries ≡ Err Twice)
+pub told_twice : (told : Option StoreFiles) (folder : List ℕ) (entries : List IndexEntry) → list_all is_good entries ≡ true → has_twice entries ≡ true → IfSome told (λ held. image_from held folder entries ≡ Err Twice)
 told_twice None folder entries good again = tt
 told_twice (Some held) folder entries good again = twice held folder entries good again
 
-pub told_once : (told : Option Files) (folder : List ℕ) (entries order : List IndexEntry) (answer : Result (List Entry) Refusal) → list_all is_good entries ≡ true → has_twice entries ≡ false → order ≡ sorted entries
-    → IfSome told (λ held. in_dirs held folder order ≡ answer) → IfSome told (λ held. image_from held folder entries ≡ answer)
+pub told_once : (told : Option StoreFiles) (folder : List ℕ) (entries order : List IndexEntry) (answer : Result (List Entry) Refusal) → list_all is_good entries ≡ true → has_twice entries ≡ false → order ≡ sorted_entries entries
+    → IfSome told (λ held. image_in_order held folder order ≡ answer) → IfSome told (λ held. image_from held folder entries ≡ answer)
 told_once None folder entries order answer good other is made = tt
 told_once (Some held) folder entries order answer good other is made = once held folder entries order good other is ∙ made
 
-pub told_once_ok : {E : Type 0} (told : Option Files) (folder : List ℕ) (entries order : List IndexEntry) (answer : Result (List Entry) E) → list_all is_good entries ≡ true → has_twice entries ≡ false → order ≡ sorted entries
-    → IfSome told (λ held. IfOk answer (λ image. in_dirs held folder order ≡ Ok image)) → IfSome told (λ held. IfOk answer (λ image. image_from held folder entries ≡ Ok image))
+pub told_once_ok : {E : Type 0} (told : Option StoreFiles) (folder : List ℕ) (entries order : List IndexEntry) (answer : Result (List Entry) E) → list_all is_good entries ≡ true → has_twice entries ≡ false → order ≡ sorted_entries entries
+    → IfSome told (λ held. IfOk answer (λ image. image_in_order held folder order ≡ Ok image)) → IfSome told (λ held. IfOk answer (λ image. image_from held folder entries ≡ Ok image))
 told_once_ok None folder entries order answer good other is made = tt
 told_once_ok (Some held) folder entries order (Ok image) good other is made = once held folder entries order good other is ∙ made
 told_once_ok (Some held) folder entries order (Err e) good other is made = tt
 
 -- the image of entries in order, by whether all stand in directories
-pub told_dirs : (told : Option Files) (folder : List ℕ) (order : List IndexEntry) (answer : Result (List Entry) Refusal) → list_all (lists_parent order) order ≡ true
-    → IfSome told (λ held. with_blobs held folder order ≡ answer) → IfSome told (λ held. in_dirs held folder order ≡ answer)
+pub told_dirs : (told : Option StoreFiles) (folder : List ℕ) (order : List IndexEntry) (answer : Result (List Entry) Refusal) → list_all (has_listed_parent order) order ≡ true
+    → IfSome told (λ held. with_blobs held folder order ≡ answer) → IfSome told (λ held. image_in_order held folder order ≡ answer)
 told_dirs None folder order answer all made = tt
 told_dirs (Some held) folder order answer all made = ap (λ b. cond (not b) (Err NoParent) (with_blobs held folder order)) all ∙ made
 
-pub told_dirs_ok : {E : Type 0} (told : Option Files) (folder : List ℕ) (order : List IndexEntry) (answer : Result (List Entry) E) → list_all (lists_parent order) order ≡ true
-    → IfSome told (λ held. IfOk answer (λ image. with_blobs held folder order ≡ Ok image)) → IfSome told (λ held. IfOk answer (λ image. in_dirs held folder order ≡ Ok image))
+pub told_dirs_ok : {E : Type 0} (told : Option StoreFiles) (folder : List ℕ) (order : List IndexEntry) (answer : Result (List Entry) E) → list_all (has_listed_parent order) order ≡ true
+    → IfSome told (λ held. IfOk answer (λ image. with_blobs held folder order ≡ Ok image)) → IfSome told (λ held. IfOk answer (λ image. image_in_order held folder order ≡ Ok image))
 told_dirs_ok None folder order answer all made = tt
 told_dirs_ok (Some held) folder order (Ok image) all made = ap (λ b. cond (not b) (Err NoParent) (with_blobs held folder order)) all ∙ made
 told_dirs_ok (Some held) folder order (Err e) all made = tt
 
-pub told_no_dir : (told : Option Files) (folder : List ℕ) (order : List IndexEntry) → list_all (lists_parent order) order ≡ false → IfSome told (λ held. in_dirs held folder order ≡ Err NoParent)
+pub told_no_dir : (told : Option StoreFiles) (folder : List ℕ) (order : List IndexEntry) → list_all (has_listed_parent order) order ≡ false → IfSome told (λ held. image_in_order held folder order ≡ Err NoParent)
 told_no_dir None folder order other = tt
 told_no_dir (Some held) folder order other = ap (λ b. cond (not b) (Err NoParent) (with_blobs held folder order)) other
 
@@ -107,12 +107,12 @@ is_twice true e = refl
 is_twice false e = cc
 
 -- the image of a folder whose index lists these entries
-pub told_index : (told now : Option Files) (folder bytes : List ℕ) (value : Data) (entries : List IndexEntry) (answer : Result (List Entry) Refusal) → now ≡ told
+pub told_index : (told now : Option StoreFiles) (folder bytes : List ℕ) (value : Data) (entries : List IndexEntry) (answer : Result (List Entry) Refusal) → now ≡ told
     → IfSome told (λ held. get held (name_below folder (codes "image.json")) ≡ Some bytes) → value_of bytes ≡ Some value → Some entries ≡ index_of value
     → IfSome now (λ held. image_from held folder entries ≡ answer) → IfSome told (λ held. image_of held folder ≡ answer)
 told_index None now folder bytes value entries answer stays at read lists made = tt
 told_index (Some held) now folder bytes value entries answer stays at read lists made =
     ap (image_by held folder) at
-    ∙ ap (λ found. image_listed held folder (option_and_then index_of found)) read
-    ∙ ap (image_listed held folder) (sym lists)
+    ∙ ap (λ found. image_from_index held folder (option_and_then index_of found)) read
+    ∙ ap (image_from_index held folder) (sym lists)
     ∙ subst (λ told. IfSome told (λ held. image_from held folder entries ≡ answer)) stays made

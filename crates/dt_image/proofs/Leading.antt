@@ -11,31 +11,31 @@ use Rattle.std.specs.Cmp.Lexicographic.{slice_cmp, nat_list_cmp_total}
 use Rattle.std.specs.FinMap.{get, insert, entries, len, get-entries, find}
 use Rattle.dt_base.specs.Path.{is_slash, has_no_nul, is_name, components_of}
 use Rattle.dt_host.specs.World.{Forest, Names, names_at, entry}
-use Rattle.dt_host.proofs.MapOf.{equal_if}
-use Rattle.dt_host.proofs.Maps.{at_insert, names_tie}
+use Rattle.dt_tables.proofs.MapOf.{equal_if}
+use Rattle.dt_tables.proofs.Maps.{at_insert, names_tie}
 use Rattle.dt_host.proofs.Spots.{IsDir-entry}
 use Rattle.dt_tree.specs.Shape.{LeadsUp}
-use Rattle.dt_tree.specs.Above.{joined}
+use Rattle.dt_tree.specs.Above.{joined_names}
 use Rattle.dt_tree.specs.FileTree.{FileTree, IsTree}
 use Rattle.dt_tree.proofs.Aboves.{depth_bound}
 use Rattle.dt_tree.proofs.Pathed.{each_got}
 use Rattle.dt_tree.proofs.Paths.{components_of-append, one_component}
-use Rattle.dt_image.specs.Paths.{reached_from, reached, LeadsTo, below, level, with_path, paths_to, paths_of}
+use Rattle.dt_image.specs.Paths.{node_from, node_from_root, LeadsTo, paths_below, level, with_path, paths_to, paths_of}
 use Rattle.dt_image.proofs.Children.{names_good, of_paths}
 
-joined-append : (names : List (List ℕ)) (name : List ℕ) → joined (names ++ name ∷ []) ≡ joined names ++ (codes "/" ++ name)
+joined-append : (names : List (List ℕ)) (name : List ℕ) → joined_names (names ++ name ∷ []) ≡ joined_names names ++ (codes "/" ++ name)
 joined-append [] name = ap (λ rest. codes "/" ++ rest) (append-nil name)
 joined-append (first ∷ names) name =
     ap (λ rest. codes "/" ++ (first ++ rest)) (joined-append names name)
-    ∙ ap (λ rest. codes "/" ++ rest) (sym (append_assoc first (joined names) (codes "/" ++ name)))
+    ∙ ap (λ rest. codes "/" ++ rest) (sym (append_assoc first (joined_names names) (codes "/" ++ name)))
 
 -- a path gives its names back, if they have no `/`
-names_back : (names : List (List ℕ)) → AllByRecursion (λ name. list_any is_slash name ≡ false) names → components_of (joined names) ≡ [] ∷ names
+names_back : (names : List (List ℕ)) → AllByRecursion (λ name. list_any is_slash name ≡ false) names → components_of (joined_names names) ≡ [] ∷ names
 names_back [] h = refl
 names_back (name ∷ []) h = ap (λ rest. [] ∷ components_of rest) (append-nil name) ∙ ap (λ rest. [] ∷ rest) (one_component name h.0)
 names_back (name ∷ next ∷ names) h =
-    ap (λ rest. [] ∷ rest) (components_of-append name (next ++ joined names))
-    ∙ ap (λ first. [] ∷ (first ++ components_of (next ++ joined names))) (one_component name h.0)
+    ap (λ rest. [] ∷ rest) (components_of-append name (next ++ joined_names names))
+    ∙ ap (λ first. [] ∷ (first ++ components_of (next ++ joined_names names))) (one_component name h.0)
     ∙ ap (λ rest. [] ∷ name ∷ drop 1 rest) (names_back (next ∷ names) h.1)
 
 -- what a map has under a key is among its entries
@@ -57,7 +57,7 @@ among_all f (first ∷ xs) x y (suc k, within, is) there = Contains-append_right
 
 -- names that lead from the root to the node of a path
 abbrev IsLed : Forest → List ℕ × ℕ → Type 0
-IsLed v at = (names : List (List ℕ)) × (at.0 ≡ joined names) × (reached v names ≡ Some at.1)
+IsLed v at = (names : List (List ℕ)) × (at.0 ≡ joined_names names) × (node_from_root v names ≡ Some at.1)
 
 -- and there is at least one
 abbrev IsListed : Forest → List ℕ × ℕ → Type 0
@@ -72,15 +72,15 @@ not_empty [] some = absurd (some refl)
 not_empty (name ∷ names) some = omega arith
 
 module _ (v : Forest) where
-  reached-append : (names : List (List ℕ)) (d m n : ℕ) (name : List ℕ) → reached_from v d names ≡ Some m → entry v m name ≡ Some n → reached_from v d (names ++ name ∷ []) ≡ Some n
-  unfolding reached_from
+  reached-append : (names : List (List ℕ)) (d m n : ℕ) (name : List ℕ) → node_from v d names ≡ Some m → entry v m name ≡ Some n → node_from v d (names ++ name ∷ []) ≡ Some n
+  unfolding node_from
   reached-append [] d m n name led here = ap (option_and_then (λ n. Some n)) (ap (λ d. entry v d name) (same_Some d m led) ∙ here)
   reached-append (first ∷ names) d m n name led here =
-      option_and_then_some (λ d. reached_from v d names) (entry v d first) m led
-      (λ next at rest. ap (option_and_then (λ d. reached_from v d (names ++ name ∷ []))) at ∙ reached-append names next m n name rest here)
+      option_and_then_some (λ d. node_from v d names) (entry v d first) m led
+      (λ next at rest. ap (option_and_then (λ d. node_from v d (names ++ name ∷ []))) at ∙ reached-append names next m n name rest here)
 
-  listed_below : (at : List ℕ × ℕ) → IsLed v at → All (IsListed v) (below v at)
-  unfolding below entry
+  listed_below : (at : List ℕ × ℕ) → IsLed v at → All (IsListed v) (paths_below v at)
+  unfolding paths_below entry
   listed_below at led = by_list (entries (names_at v at.1)) (each_got nat_list_cmp_total (names_at v at.1))
     where
       by_list : (es : List (List ℕ × ℕ)) → AllByRecursion (λ (e : List ℕ × ℕ). get (names_at v at.1) e.0 ≡ Some e.1) es → All (IsListed v) (map (λ e. (at.0 ++ (codes "/" ++ e.0), e.1)) es)
@@ -89,14 +89,14 @@ module _ (v : Forest) where
           let path = ap (λ path. path ++ (codes "/" ++ e.0)) led.1 ∙ sym (joined-append led.0 e.0) in
           All-cons (IsListed v) (at.0 ++ (codes "/" ++ e.0), e.1) _ (led.0 ++ e.0 ∷ [], some_names led.0 e.0, path, reached-append led.0 v.root at.1 e.1 e.0 led.2 h.0) (by_list es h.1)
 
-  listed_all : (ats : List (List ℕ × ℕ)) → All (IsLed v) ats → All (IsListed v) (flat_map (below v) ats)
+  listed_all : (ats : List (List ℕ × ℕ)) → All (IsLed v) ats → All (IsListed v) (flat_map (paths_below v) ats)
   listed_all [] h = All-nil (IsListed v)
-  listed_all (at ∷ ats) h = All-append (IsListed v) (below v at) (flat_map (below v) ats) (listed_below at (All-head (IsLed v) at ats h)) (listed_all ats (All-tail (IsLed v) at ats h))
+  listed_all (at ∷ ats) h = All-append (IsListed v) (paths_below v at) (flat_map (paths_below v) ats) (listed_below at (All-head (IsLed v) at ats h)) (listed_all ats (All-tail (IsLed v) at ats h))
 
   led_level : (depth : ℕ) → All (IsLed v) (level v depth)
-  unfolding level reached_from
+  unfolding level node_from
   led_level zero = All-cons (IsLed v) ([], v.root) [] ([], refl, refl) (All-nil (IsLed v))
-  led_level (suc depth) = All-weaker (IsListed v) (IsLed v) (λ at led. (led.0, led.2, led.3)) (flat_map (below v) (level v depth)) (listed_all (level v depth) (led_level depth))
+  led_level (suc depth) = All-weaker (IsListed v) (IsLed v) (λ at led. (led.0, led.2, led.3)) (flat_map (paths_below v) (level v depth)) (listed_all (level v depth) (led_level depth))
 
   -- each path of a level is that of names which lead to its node
   listed_level : (depth : ℕ) → All (IsListed v) (level v (suc depth))
@@ -104,22 +104,22 @@ module _ (v : Forest) where
   listed_level depth = listed_all (level v depth) (led_level depth)
 
   -- and the path of so many names is in the level of that depth
-  in_level : (names : List (List ℕ)) (j k : ℕ) (path whole : List ℕ) (d n : ℕ) → k ≡ j + length names → whole ≡ path ++ joined names → Contains (level v j) (path, d) → reached_from v d names ≡ Some n → Contains (level v k) (whole, n)
-  unfolding level below reached_from entry
+  in_level : (names : List (List ℕ)) (j k : ℕ) (path whole : List ℕ) (d n : ℕ) → k ≡ j + length names → whole ≡ path ++ joined_names names → Contains (level v j) (path, d) → node_from v d names ≡ Some n → Contains (level v k) (whole, n)
+  unfolding level paths_below node_from entry
   in_level [] j k path whole d n depth is at led =
       let same : k ≡ j = omega (arith, depth) in
       let whole_path = is ∙ append-nil path in
       let node = same_Some d n led in
       subst (λ k. Contains (level v k) (whole, n)) (sym same) (subst (λ (at : List ℕ × ℕ). Contains (level v j) at) (λ i. (sym whole_path i, node i)) at)
   in_level (name ∷ names) j k path whole d n depth is at led =
-      option_and_then_some (λ d. reached_from v d names) (entry v d name) n led (λ m here rest.
+      option_and_then_some (λ d. node_from v d names) (entry v d name) n led (λ m here rest.
       let below_at = found_among (λ e. (path ++ (codes "/" ++ e.0), e.1)) (entries (names_at v d)) name m (sym (get-entries (names_at v d) name) ∙ here) in
-      in_level names (suc j) k (path ++ (codes "/" ++ name)) whole m n (omega (arith, depth)) (is ∙ sym (append_assoc path (codes "/" ++ name) (joined names)))
-      (among_all (below v) (level v j) (path, d) (path ++ (codes "/" ++ name), m) at below_at) rest)
+      in_level names (suc j) k (path ++ (codes "/" ++ name)) whole m n (omega (arith, depth)) (is ∙ sym (append_assoc path (codes "/" ++ name) (joined_names names)))
+      (among_all (paths_below v) (level v j) (path, d) (path ++ (codes "/" ++ name), m) at below_at) rest)
 
-  level_of : (names : List (List ℕ)) (n : ℕ) → reached v names ≡ Some n → Contains (level v (length names)) (joined names, n)
+  level_of : (names : List (List ℕ)) (n : ℕ) → node_from_root v names ≡ Some n → Contains (level v (length names)) (joined_names names, n)
   unfolding level
-  level_of names n led = in_level names 0 (length names) [] (joined names) v.root n (omega arith) refl (0, omega arith, refl) led
+  level_of names n led = in_level names 0 (length names) [] (joined_names names) v.root n (omega arith) refl (0, omega arith, refl) led
 
   -- a map of paths keeps what one of them leads to, where names lead from it to one node alone
   module _ (path : List ℕ) (n : ℕ) (only : (m : ℕ) → LeadsTo v path m → m ≡ n) where
@@ -147,11 +147,11 @@ module _ (v : Forest) where
 
 module _ (t : FileTree) (s : IsTree t) where
   -- names that lead to a node have no `/`
-  no_slashes : (names : List (List ℕ)) (d n : ℕ) → reached_from t.shape d names ≡ Some n → AllByRecursion (λ name. list_any is_slash name ≡ false) names
-  unfolding reached_from entry
+  no_slashes : (names : List (List ℕ)) (d n : ℕ) → node_from t.shape d names ≡ Some n → AllByRecursion (λ name. list_any is_slash name ≡ false) names
+  unfolding node_from entry
   no_slashes [] d n led = tt
   no_slashes (name ∷ names) d n led =
-      option_and_then_some (λ d. reached_from t.shape d names) (entry t.shape d name) n led (λ m here rest.
+      option_and_then_some (λ d. node_from t.shape d names) (entry t.shape d name) n led (λ m here rest.
       let good = names_good t d s name (ap is_some here) in
       (not-true (list_any is_slash name) (and_parts (is_name name && has_no_nul name) (not (list_any is_slash name)) good).1, no_slashes names m n rest))
 
@@ -161,19 +161,19 @@ module _ (t : FileTree) (s : IsTree t) where
       let first = names_back a.0 (no_slashes a.0 t.shape.root m a.3) in
       let second = names_back b.0 (no_slashes b.0 t.shape.root n b.3) in
       let same : a.0 ≡ b.0 = ap (drop 1) (sym first ∙ ap components_of (sym a.2 ∙ b.2) ∙ second) in
-      same_Some m n (sym a.3 ∙ ap (reached t.shape) same ∙ b.3)
+      same_Some m n (sym a.3 ∙ ap (node_from_root t.shape) same ∙ b.3)
 
   -- there are no more of them than nodes
-  within_nodes : (names : List (List ℕ)) (k d n : ℕ) → LeadsUp t.shape k d t.shape.root → k ≤ len t.shape.nodes → reached_from t.shape d names ≡ Some n → k + length names ≤ len t.shape.nodes
-  unfolding reached_from LeadsUp
+  within_nodes : (names : List (List ℕ)) (k d n : ℕ) → LeadsUp t.shape k d t.shape.root → k ≤ len t.shape.nodes → node_from t.shape d names ≡ Some n → k + length names ≤ len t.shape.nodes
+  unfolding node_from LeadsUp
   within_nodes [] k d n up h led = omega arith
   within_nodes (name ∷ names) k d n up h led =
-      option_and_then_some (λ d. reached_from t.shape d names) (entry t.shape d name) n led (λ m here rest.
+      option_and_then_some (λ d. node_from t.shape d names) (entry t.shape d name) n led (λ m here rest.
       let deep = depth_bound t.shape s.shaped k d (IsDir-entry t.shape d name m here) up in
       let more = within_nodes names (suc k) m n (d, name, here, up) (omega (arith, deep)) rest in
       omega (arith, more))
 
-  within_limit : (names : List (List ℕ)) (n : ℕ) → reached t.shape names ≡ Some n → length names ≤ 4096
+  within_limit : (names : List (List ℕ)) (n : ℕ) → node_from_root t.shape names ≡ Some n → length names ≤ 4096
   unfolding LeadsUp
   within_limit names n led = omega (arith, s.few, within_nodes names 0 t.shape.root n refl (omega arith) led)
 

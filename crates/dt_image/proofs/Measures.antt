@@ -10,11 +10,11 @@ use Rattle.dt_base.specs.declared.image.Entry.{Entry}
 use Rattle.dt_base.specs.declared.refusal.Refusal.{Refusal}
 use Rattle.dt_base.specs.declared.refusal.Refusal.TheVariants.{NoBlob, TooBig, TooMany}
 use Rattle.dt_base.specs.declared.limits.TheConstants.{FILE_LIMIT, ENTRY_LIMIT}
-use Rattle.dt_host.specs.Store.{Files}
+use Rattle.dt_host.specs.Store.{StoreFiles}
 use Rattle.dt_image.specs.declared.index.EntryRef.{EntryRef}
 use Rattle.dt_image.specs.declared.blobs.Measured.{Measured}
 use Rattle.dt_image.specs.Index.{Source, file, dir, link, IndexEntry}
-use Rattle.dt_image.specs.ImageOf.{has_blob, fits_limit, entry_with, with_blobs}
+use Rattle.dt_image.specs.ImageOf.{has_blob, is_within_limit, entry_with, with_blobs}
 use Rattle.dt_image.specs.inner.IndexView.{source_in, entry_in, blob_size, is_sound, HasSize}
 
 -- what the code counts of a blob
@@ -33,13 +33,13 @@ as_long : (found : Option (List ℕ)) (size : ℕ) → option_map length found �
 as_long None size e = absurd (cc)
 as_long (Some bytes) size e = cc
 
-module _ (held : Files) (folder : List ℕ) where
+module _ (held : StoreFiles) (folder : List ℕ) where
   has_by : (source : Source) (size : ℕ) → blob_size held folder source ≡ Some size → has_blob held folder source ≡ true
   has_by (file mode blob) size e = there _ size e
   has_by (dir mode) size e = refl
   has_by (link target) size e = refl
 
-  fits_by : (source : Source) (size : ℕ) → blob_size held folder source ≡ Some size → fits_limit held folder source ≡ nat_le size FILE_LIMIT
+  fits_by : (source : Source) (size : ℕ) → blob_size held folder source ≡ Some size → is_within_limit held folder source ≡ nat_le size FILE_LIMIT
   fits_by (file mode blob) size e = ap (λ n. nat_le n FILE_LIMIT) (as_long _ size e)
   fits_by (dir mode) size e = let same : 0 ≡ size = cc in ap (λ n. nat_le n FILE_LIMIT) same
   fits_by (link target) size e = let same : 0 ≡ size = cc in ap (λ n. nat_le n FILE_LIMIT) same
@@ -48,7 +48,7 @@ module _ (held : Files) (folder : List ℕ) where
   has entry = has_blob held folder entry.source
 
   abbrev fit : IndexEntry → Bool
-  fit entry = fits_limit held folder entry.source
+  fit entry = is_within_limit held folder entry.source
 
   all_there : (blobs : List Measured) → All (HasSize held folder) blobs → list_all has (map entry_in (entries_of blobs)) ≡ true
   all_there [] sizes = refl
@@ -89,19 +89,19 @@ module _ (held : Files) (folder : List ℕ) where
   with_blobs_missing order missing = ap (λ all. chosen all (list_all fit (map entry_in order)) (nat_le (length (map entry_in order)) ENTRY_LIMIT) (map (entry_with held folder) (map entry_in order))) missing
 
 -- a blob that an entry lacks
-pub missing_at : (told now : Option Files) (folder : List ℕ) (order : List EntryRef) (i : ℕ) (d : EntryRef) → i < length order → now ≡ told
+pub missing_at : (told now : Option StoreFiles) (folder : List ℕ) (order : List EntryRef) (i : ℕ) (d : EntryRef) → i < length order → now ≡ told
     → IfSome now (λ held. has_blob held folder (source_in (get_or order i d).source) ≡ false) → IfSome told (λ held. list_all (λ entry. has_blob held folder entry.source) (map entry_in order) ≡ false)
 missing_at None now folder order i d within same here = tt
 missing_at (Some held) now folder order i d within same here =
     let lacks = subst (λ told. IfSome told (λ held. has_blob held folder (source_in (get_or order i d).source) ≡ false)) same here in
     list_all-map (λ entry. has_blob held folder entry.source) entry_in order ∙ list_all_at (λ entry. has_blob held folder (source_in entry.source)) order i d within lacks
 
-pub told_missing : (told : Option Files) (folder : List ℕ) (order : List EntryRef) (r : Refusal) → r ≡ NoBlob
+pub told_missing : (told : Option StoreFiles) (folder : List ℕ) (order : List EntryRef) (r : Refusal) → r ≡ NoBlob
     → IfSome told (λ held. list_all (λ entry. has_blob held folder entry.source) (map entry_in order) ≡ false) → IfSome told (λ held. with_blobs held folder (map entry_in order) ≡ Err r)
 told_missing None folder order r is missing = tt
 told_missing (Some held) folder order r is missing = with_blobs_missing held folder order missing ∙ ap Err (sym is)
 
-pub told_big : (told : Option Files) (folder : List ℕ) (blobs : List Measured) (order : List EntryRef) → entries_of blobs ≡ order
+pub told_big : (told : Option StoreFiles) (folder : List ℕ) (blobs : List Measured) (order : List EntryRef) → entries_of blobs ≡ order
     → IfSome told (λ held. All (HasSize held folder) blobs) → list_all is_small blobs ≡ false → IfSome told (λ held. with_blobs held folder (map entry_in order) ≡ Err TooBig)
 told_big None folder blobs order same sizes big = tt
 told_big (Some held) folder blobs order same sizes big =
@@ -109,7 +109,7 @@ told_big (Some held) folder blobs order same sizes big =
     ∙ with_blobs_by held folder blobs sizes
     ∙ ap (λ small. chosen held folder true small (nat_le (length blobs) ENTRY_LIMIT) (map (λ blob. entry_with held folder (entry_in blob.entry)) blobs)) big
 
-pub told_many : (told : Option Files) (folder : List ℕ) (blobs : List Measured) (order : List EntryRef) → entries_of blobs ≡ order
+pub told_many : (told : Option StoreFiles) (folder : List ℕ) (blobs : List Measured) (order : List EntryRef) → entries_of blobs ≡ order
     → IfSome told (λ held. All (HasSize held folder) blobs) → list_all is_small blobs ≡ true → nat_le (length blobs) ENTRY_LIMIT ≡ false → IfSome told (λ held. with_blobs held folder (map entry_in order) ≡ Err TooMany)
 told_many None folder blobs order same sizes small many = tt
 told_many (Some held) folder blobs order same sizes small many =
@@ -118,7 +118,7 @@ told_many (Some held) folder blobs order same sizes small many =
     ∙ ap (λ b. chosen held folder true b (nat_le (length blobs) ENTRY_LIMIT) (map (λ blob. entry_with held folder (entry_in blob.entry)) blobs)) small
     ∙ ap (λ few. chosen held folder true true few (map (λ blob. entry_with held folder (entry_in blob.entry)) blobs)) many
 
-pub told_with_blobs : (told now : Option Files) (folder : List ℕ) (blobs read : List Measured) (order : List EntryRef) (image entries : List Entry) → entries_of blobs ≡ order
+pub told_with_blobs : (told now : Option StoreFiles) (folder : List ℕ) (blobs read : List Measured) (order : List EntryRef) (image entries : List Entry) → entries_of blobs ≡ order
     → IfSome told (λ held. All (HasSize held folder) blobs) → list_all is_small blobs ≡ true → nat_le (length blobs) ENTRY_LIMIT ≡ true
     → now ≡ told → read ≡ blobs → image ≡ entries → IfSome now (λ held. entries ≡ map (λ blob. entry_with held folder (entry_in blob.entry)) read)
     → IfSome told (λ held. with_blobs held folder (map entry_in order) ≡ Ok image)

@@ -6,9 +6,9 @@ use Rattle.std.specs.Cmp.Lexicographic.{slice_cmp, nat_list_cmp_total}
 use Rattle.std.specs.List.Sorted.{IsStrictlySortedBy}
 use Rattle.std.specs.Map.{keys_of}
 use Rattle.std.specs.FinMap.{from_entries, from_sorted, entries, entries-from_sorted, get-from_entries, get-from_sorted, same_map}
-use Rattle.dt_host.proofs.Sorted.{sorted-keys, same_entries}
-use Rattle.dt_host.proofs.Maps.{names_tie}
-use Rattle.dt_host.specs.Entries.{map_of}
+use Rattle.dt_tables.proofs.Sorted.{sorted-keys, same_entries}
+use Rattle.dt_tables.proofs.Maps.{names_tie}
+use Rattle.dt_tables.specs.Entries.{map_of}
 
 abbrev by_path : List ℕ → List ℕ → Ordering
 by_path = slice_cmp nat_cmp

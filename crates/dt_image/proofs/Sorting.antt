@@ -16,13 +16,13 @@ use Rattle.std.proofs.lemmas.List.Folds.{list_any-append}
 use Rattle.std.proofs.lemmas.List.Sums.{fold_push}
 use Rattle.std.proofs.lemmas.Slice.Eq.{bytes_eq-Decides}
 use Rattle.std.proofs.lemmas.Map.Text.{is_eq-slice_cmp}
-use Rattle.dt_host.proofs.Conjuncts.{either-last}
+use Rattle.dt_tables.proofs.Conjuncts.{either-last}
 use Rattle.dt_image.specs.declared.index.EntryRef.{EntryRef}
 use Rattle.dt_image.specs.declared.index.SourceRef.{SourceRef}
 use Rattle.dt_image.specs.declared.index.SourceRef.TheVariants.{File}
 use Rattle.dt_image.specs.Index.{IndexEntry}
-use Rattle.dt_image.specs.inner.IndexView.{entry_in, entry_at, keyed, path_cmp}
-use Rattle.dt_image.specs.ImageOf.{has_path, has_twice, placed, sorted}
+use Rattle.dt_image.specs.inner.IndexView.{entry_in, entry_at, keyed_entry, path_cmp}
+use Rattle.dt_image.specs.ImageOf.{has_path, has_twice, with_index_entry, sorted_entries}
 
 -- how the code's map and set compare paths
 abbrev pub by_text : Bor (List ℕ) → Bor (List ℕ) → Ordering
@@ -38,18 +38,18 @@ and_swap true b c = refl
 and_swap false true c = refl
 and_swap false false c = refl
 
-list_any-placed : (p : IndexEntry → Bool) (files : List IndexEntry) (file : IndexEntry) → list_any p (placed files file) ≡ (p file || list_any p files)
+list_any-placed : (p : IndexEntry → Bool) (files : List IndexEntry) (file : IndexEntry) → list_any p (with_index_entry files file) ≡ (p file || list_any p files)
 list_any-placed p [] file = refl
 list_any-placed p (next ∷ files) file =
-    elim (is_lt (slice_cmp nat_cmp file.path next.path)) as (λ v. list_any p (cond v (file ∷ next ∷ files) (next ∷ placed files file)) ≡ (p file || list_any p (next ∷ files))) [
+    elim (is_lt (slice_cmp nat_cmp file.path next.path)) as (λ v. list_any p (cond v (file ∷ next ∷ files) (next ∷ with_index_entry files file)) ≡ (p file || list_any p (next ∷ files))) [
       | true ↦ refl
       | false ↦ ap (λ rest. p next || rest) (list_any-placed p files file) ∙ or_swap (p next) (p file) (list_any p files)
     ]
 
-list_all-placed : (p : IndexEntry → Bool) (files : List IndexEntry) (file : IndexEntry) → list_all p (placed files file) ≡ (p file && list_all p files)
+list_all-placed : (p : IndexEntry → Bool) (files : List IndexEntry) (file : IndexEntry) → list_all p (with_index_entry files file) ≡ (p file && list_all p files)
 list_all-placed p [] file = refl
 list_all-placed p (next ∷ files) file =
-    elim (is_lt (slice_cmp nat_cmp file.path next.path)) as (λ v. list_all p (cond v (file ∷ next ∷ files) (next ∷ placed files file)) ≡ (p file && list_all p (next ∷ files))) [
+    elim (is_lt (slice_cmp nat_cmp file.path next.path)) as (λ v. list_all p (cond v (file ∷ next ∷ files) (next ∷ with_index_entry files file)) ≡ (p file && list_all p (next ∷ files))) [
       | true ↦ refl
       | false ↦ ap (λ rest. p next && rest) (list_all-placed p files file) ∙ and_swap (p next) (p file) (list_all p files)
     ]
@@ -64,41 +64,41 @@ and_moved true b c = refl
 and_moved false true c = refl
 and_moved false false c = refl
 
-list_any-fold : (p : IndexEntry → Bool) (done files : List IndexEntry) → list_any p (fold placed done files) ≡ (list_any p done || list_any p files)
+list_any-fold : (p : IndexEntry → Bool) (done files : List IndexEntry) → list_any p (fold with_index_entry done files) ≡ (list_any p done || list_any p files)
 list_any-fold p done [] = or_false (list_any p done)
   where
     or_false : (b : Bool) → b ≡ (b || false)
     or_false true = refl
     or_false false = refl
 list_any-fold p done (file ∷ files) =
-    list_any-fold p (placed done file) files
+    list_any-fold p (with_index_entry done file) files
     ∙ ap (λ prefix. prefix || list_any p files) (list_any-placed p done file)
     ∙ or_moved (p file) (list_any p done) (list_any p files)
 
-list_all-fold : (p : IndexEntry → Bool) (done files : List IndexEntry) → list_all p (fold placed done files) ≡ (list_all p done && list_all p files)
+list_all-fold : (p : IndexEntry → Bool) (done files : List IndexEntry) → list_all p (fold with_index_entry done files) ≡ (list_all p done && list_all p files)
 list_all-fold p done [] = and_true (list_all p done)
   where
     and_true : (b : Bool) → b ≡ (b && true)
     and_true true = refl
     and_true false = refl
 list_all-fold p done (file ∷ files) =
-    list_all-fold p (placed done file) files
+    list_all-fold p (with_index_entry done file) files
     ∙ ap (λ prefix. prefix && list_all p files) (list_all-placed p done file)
     ∙ and_moved (p file) (list_all p done) (list_all p files)
 
 -- the files in order are the same files
-pub list_any-sorted : (p : IndexEntry → Bool) (files : List IndexEntry) → list_any p (sorted files) ≡ list_any p files
-unfolding sorted
+pub list_any-sorted : (p : IndexEntry → Bool) (files : List IndexEntry) → list_any p (sorted_entries files) ≡ list_any p files
+unfolding sorted_entries
 list_any-sorted p files = list_any-fold p [] files
 
-pub list_all-sorted : (p : IndexEntry → Bool) (files : List IndexEntry) → list_all p (sorted files) ≡ list_all p files
-unfolding sorted
+pub list_all-sorted : (p : IndexEntry → Bool) (files : List IndexEntry) → list_all p (sorted_entries files) ≡ list_all p files
+unfolding sorted_entries
 list_all-sorted p files = list_all-fold p [] files
 
 -- one file more at the end
-pub sorted_push : (files : List IndexEntry) (file : IndexEntry) → sorted (files ++ file ∷ []) ≡ placed (sorted files) file
-unfolding sorted
-sorted_push files file = fold_push placed [] files file
+pub sorted_push : (files : List IndexEntry) (file : IndexEntry) → sorted_entries (files ++ file ∷ []) ≡ with_index_entry (sorted_entries files) file
+unfolding sorted_entries
+sorted_push files file = fold_push with_index_entry [] files file
 
 -- two texts are the same either way
 pub bytes_eq-sym : (xs ys : List ℕ) → bytes_eq xs ys ≡ bytes_eq ys xs
@@ -142,7 +142,7 @@ some_either : (b : Bool) (v : SourceRef) (rest : Option SourceRef) → is_some (
 some_either true v rest = refl
 some_either false v rest = refl
 
-found_any : (q : Bor (List ℕ)) (es : List (Bor (List ℕ) × SourceRef)) → is_some (lookup (is_at (by_text q)) es) ≡ list_any (has_path q.now) (map keyed es)
+found_any : (q : Bor (List ℕ)) (es : List (Bor (List ℕ) × SourceRef)) → is_some (lookup (is_at (by_text q)) es) ≡ list_any (has_path q.now) (map keyed_entry es)
 found_any q [] = refl
 found_any q (e ∷ es) =
     ap (λ same. is_some (cond same (Some e.1) (lookup (is_at (by_text q)) es))) (is_eq-slice_cmp q.now e.0.now)
@@ -150,13 +150,13 @@ found_any q (e ∷ es) =
     ∙ ap (λ rest. bytes_eq q.now e.0.now || rest) (found_any q es)
 
 -- an insert of a new key puts the file where it belongs
-keyed-insert_entry : (es : List (Bor (List ℕ) × SourceRef)) (k : Bor (List ℕ)) (v : SourceRef) → lookup (is_at (by_text k)) es ≡ None → map keyed (insert_entry by_text es k v) ≡ placed (map keyed es) (keyed (k, v))
+keyed-insert_entry : (es : List (Bor (List ℕ) × SourceRef)) (k : Bor (List ℕ)) (v : SourceRef) → lookup (is_at (by_text k)) es ≡ None → map keyed_entry (insert_entry by_text es k v) ≡ with_index_entry (map keyed_entry es) (keyed_entry (k, v))
 keyed-insert_entry [] k v none = refl
 keyed-insert_entry (e ∷ es) k v none =
-    elim (slice_cmp nat_cmp k.now e.0.now) as (λ r. cond (is_eq r) (Some e.1) (lookup (is_at (by_text k)) es) ≡ None → map keyed (match_ordering r ((k, v) ∷ e ∷ es) ((e.0, v) ∷ es) (e ∷ insert_entry by_text es k v)) ≡ cond (is_lt r) (keyed (k, v) ∷ keyed e ∷ map keyed es) (keyed e ∷ placed (map keyed es) (keyed (k, v)))) [
+    elim (slice_cmp nat_cmp k.now e.0.now) as (λ r. cond (is_eq r) (Some e.1) (lookup (is_at (by_text k)) es) ≡ None → map keyed_entry (match_ordering r ((k, v) ∷ e ∷ es) ((e.0, v) ∷ es) (e ∷ insert_entry by_text es k v)) ≡ cond (is_lt r) (keyed_entry (k, v) ∷ keyed_entry e ∷ map keyed_entry es) (keyed_entry e ∷ with_index_entry (map keyed_entry es) (keyed_entry (k, v)))) [
       | Less ↦ λ h. refl
       | Equal ↦ λ h. absurd (cc)
-      | Greater ↦ λ h. ap (λ rest. keyed e ∷ rest) (keyed-insert_entry es k v h)
+      | Greater ↦ λ h. ap (λ rest. keyed_entry e ∷ rest) (keyed-insert_entry es k v h)
     ] none
 
 -- what stands past the end
@@ -164,7 +164,7 @@ abbrev pub no_entry : EntryRef
 no_entry = record { path = record { ref_ptr = (0, 0); now = [] }; source = File 0 (record { ref_ptr = (0, 0); now = [] }) }
 
 -- the file at this index has the path of one before
-pub seen_before : (files : List EntryRef) (i : ℕ) (d : EntryRef) (es : List (Bor (List ℕ) × SourceRef)) → map keyed es ≡ sorted (map entry_in (take i files))
+pub seen_before : (files : List EntryRef) (i : ℕ) (d : EntryRef) (es : List (Bor (List ℕ) × SourceRef)) → map keyed_entry es ≡ sorted_entries (map entry_in (take i files))
     → is_some (lookup (is_at (by_text (get_or files i d).path)) es) ≡ list_any (has_path (get_or files i d).path.now) (map entry_in (take i files))
 seen_before files i d es order =
     found_any (get_or files i d).path es ∙ ap (list_any (has_path (get_or files i d).path.now)) order ∙ list_any-sorted _ _
@@ -175,7 +175,7 @@ twice_more files i d within =
     ap has_twice (map_more entry_in files i d within) ∙ has_twice_push (map entry_in (take i files)) (entry_in (get_or files i d))
 
 -- a path that the map has already stands twice
-pub twice_found : (files : List EntryRef) (i : ℕ) (d : EntryRef) (es : List (Bor (List ℕ) × SourceRef)) (v : SourceRef) → i < length files → map keyed es ≡ sorted (map entry_in (take i files))
+pub twice_found : (files : List EntryRef) (i : ℕ) (d : EntryRef) (es : List (Bor (List ℕ) × SourceRef)) (v : SourceRef) → i < length files → map keyed_entry es ≡ sorted_entries (map entry_in (take i files))
     → Some v ≡ lookup (is_at (by_text (get_or files i d).path)) es → has_twice (map entry_in files) ≡ true
 twice_found files i d es v within order found =
     let so_far = twice_more files i d within ∙ either-last (has_twice (map entry_in (take i files))) _ (sym (seen_before files i d es order) ∙ ap is_some (sym found)) in
@@ -187,19 +187,19 @@ or_neither true b e h = absurd (cc)
 or_neither false b e h = h
 
 -- a path that it does not have does not
-pub once_more : (files : List EntryRef) (i : ℕ) (d : EntryRef) (es : List (Bor (List ℕ) × SourceRef)) → i < length files → map keyed es ≡ sorted (map entry_in (take i files))
+pub once_more : (files : List EntryRef) (i : ℕ) (d : EntryRef) (es : List (Bor (List ℕ) × SourceRef)) → i < length files → map keyed_entry es ≡ sorted_entries (map entry_in (take i files))
     → None ≡ lookup (is_at (by_text (get_or files i d).path)) es → has_twice (map entry_in (take i files)) ≡ false → has_twice (map entry_in (take (i + 1) files)) ≡ false
 once_more files i d es within order none once =
     twice_more files i d within ∙ or_neither _ _ once (sym (seen_before files i d es order) ∙ ap is_some (sym none))
 
 -- and the files are in order with this one
-pub order_more : (files : List EntryRef) (i : ℕ) (d : EntryRef) (es : List (Bor (List ℕ) × SourceRef)) → i < length files → map keyed es ≡ sorted (map entry_in (take i files))
-    → None ≡ lookup (is_at (by_text (get_or files i d).path)) es → map keyed (insert_entry by_text es (get_or files i d).path (get_or files i d).source) ≡ sorted (map entry_in (take (i + 1) files))
+pub order_more : (files : List EntryRef) (i : ℕ) (d : EntryRef) (es : List (Bor (List ℕ) × SourceRef)) → i < length files → map keyed_entry es ≡ sorted_entries (map entry_in (take i files))
+    → None ≡ lookup (is_at (by_text (get_or files i d).path)) es → map keyed_entry (insert_entry by_text es (get_or files i d).path (get_or files i d).source) ≡ sorted_entries (map entry_in (take (i + 1) files))
 order_more files i d es within order none =
     keyed-insert_entry es (get_or files i d).path (get_or files i d).source (sym none)
-    ∙ ap (λ done. placed done (entry_in (get_or files i d))) order
+    ∙ ap (λ done. with_index_entry done (entry_in (get_or files i d))) order
     ∙ sym (sorted_push (map entry_in (take i files)) (entry_in (get_or files i d)))
-    ∙ ap sorted (sym (map_more entry_in files i d within))
+    ∙ ap sorted_entries (sym (map_more entry_in files i d within))
 
 below_all : (k : Bor (List ℕ)) (es : List (Bor (List ℕ) × SourceRef)) → AllByRecursion (λ y. by_text k y ≡ Less) (keys_of es) → AllByRecursion (λ file. slice_cmp nat_cmp k.now file.path.now ≡ Less) (map entry_at es)
 below_all k [] all = all
@@ -211,6 +211,6 @@ unfolding IsStrictlySortedBy
 rising-entries [] rising = rising
 rising-entries (e ∷ es) rising = (below_all e.0 es rising.0, rising-entries es rising.1)
 
-pub entries_shown : (es : List (Bor (List ℕ) × SourceRef)) → map entry_in (map entry_at es) ≡ map keyed es
+pub entries_shown : (es : List (Bor (List ℕ) × SourceRef)) → map entry_in (map entry_at es) ≡ map keyed_entry es
 entries_shown [] = refl
-entries_shown (e ∷ es) = ap (λ rest. keyed e ∷ rest) (entries_shown es)
+entries_shown (e ∷ es) = ap (λ rest. keyed_entry e ∷ rest) (entries_shown es)

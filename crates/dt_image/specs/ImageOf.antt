@@ -14,7 +14,7 @@ use Rattle.dt_base.specs.declared.refusal.Refusal.{Refusal}
 use Rattle.dt_base.specs.declared.refusal.Refusal.TheVariants.{NoIndex, BadIndex, BadPath, Twice, NoParent, NoBlob, TooBig, TooMany}
 use Rattle.dt_base.specs.declared.limits.TheConstants.{INDEX_LIMIT, FILE_LIMIT, ENTRY_LIMIT, LINK_MODE}
 use Rattle.dt_base.specs.Path.{is_top, parent_of}
-use Rattle.dt_host.specs.Store.{Files, bytes_of}
+use Rattle.dt_host.specs.Store.{StoreFiles, bytes_of}
 use Rattle.dt_image.specs.Index.{Source, file, dir, link, IndexEntry, index_of, is_good}
 
 -- a store's name of a file in a folder
@@ -39,87 +39,87 @@ has_twice [] = false
 has_twice (entry ∷ entries) = list_any (has_path entry.path) entries || has_twice entries
 
 -- a directory is made from it
-abbrev pub makes_dir : Source → Bool
-makes_dir (file mode blob) = false
-makes_dir (dir mode) = true
-makes_dir (link target) = false
+abbrev pub is_dir_source : Source → Bool
+is_dir_source (file mode blob) = false
+is_dir_source (dir mode) = true
+is_dir_source (link target) = false
 
 -- it is a directory of that path
-abbrev pub lists_dir : List ℕ → IndexEntry → Bool
-lists_dir path entry = makes_dir entry.source && bytes_eq path entry.path
+abbrev pub is_dir_of_path : List ℕ → IndexEntry → Bool
+is_dir_of_path path entry = is_dir_source entry.source && bytes_eq path entry.path
 
 -- the entry stands in the root, or in a directory that these list
-abbrev pub lists_parent : List IndexEntry → IndexEntry → Bool
-lists_parent entries entry = is_top entry.path || list_any (lists_dir (parent_of entry.path)) entries
+abbrev pub has_listed_parent : List IndexEntry → IndexEntry → Bool
+has_listed_parent entries entry = is_top entry.path || list_any (is_dir_of_path (parent_of entry.path)) entries
 
 -- the entries with one more, which stands before the first whose path is greater
-abbrev pub placed : List IndexEntry → IndexEntry → List IndexEntry
-placed [] entry = entry ∷ []
-placed (next ∷ entries) entry = if is_lt (slice_cmp nat_cmp entry.path next.path) then entry ∷ next ∷ entries else next ∷ placed entries entry
+abbrev pub with_index_entry : List IndexEntry → IndexEntry → List IndexEntry
+with_index_entry [] entry = entry ∷ []
+with_index_entry (next ∷ entries) entry = if is_lt (slice_cmp nat_cmp entry.path next.path) then entry ∷ next ∷ entries else next ∷ with_index_entry entries entry
 
 -- the entries in byte order of their paths
-unfoldable pub sorted : List IndexEntry → List IndexEntry
-sorted entries = fold placed [] entries
+unfoldable pub sorted_entries : List IndexEntry → List IndexEntry
+sorted_entries entries = fold with_index_entry [] entries
 
 -- the bytes of a blob of the folder
-abbrev pub blob_of : Files → List ℕ → List ℕ → List ℕ
+abbrev pub blob_of : StoreFiles → List ℕ → List ℕ → List ℕ
 blob_of files folder blob = bytes_of files (name_below folder blob)
 
 -- the folder has the blob that a file is made from
-abbrev pub has_blob : Files → List ℕ → Source → Bool
+abbrev pub has_blob : StoreFiles → List ℕ → Source → Bool
 has_blob files folder (file mode blob) = is_some (get files (name_below folder blob))
 has_blob files folder (dir mode) = true
 has_blob files folder (link target) = true
 
 -- that blob is no longer than a file may be
-abbrev pub fits_limit : Files → List ℕ → Source → Bool
-fits_limit files folder (file mode blob) = nat_le (length (blob_of files folder blob)) FILE_LIMIT
-fits_limit files folder (dir mode) = true
-fits_limit files folder (link target) = true
+abbrev pub is_within_limit : StoreFiles → List ℕ → Source → Bool
+is_within_limit files folder (file mode blob) = nat_le (length (blob_of files folder blob)) FILE_LIMIT
+is_within_limit files folder (dir mode) = true
+is_within_limit files folder (link target) = true
 
 -- what is made, with the bytes of its blob
-abbrev pub what_made : Files → List ℕ → Source → What
-what_made files folder (file mode blob) = File (blob_of files folder blob)
-what_made files folder (dir mode) = Dir
-what_made files folder (link target) = Link target
+abbrev pub source_what : StoreFiles → List ℕ → Source → What
+source_what files folder (file mode blob) = File (blob_of files folder blob)
+source_what files folder (dir mode) = Dir
+source_what files folder (link target) = Link target
 
 -- its mode, which is the same for all links
-abbrev pub mode_made : Source → ℕ
-mode_made (file mode blob) = mode
-mode_made (dir mode) = mode
-mode_made (link target) = LINK_MODE
+abbrev pub source_mode : Source → ℕ
+source_mode (file mode blob) = mode
+source_mode (dir mode) = mode
+source_mode (link target) = LINK_MODE
 
 -- the image's entry
-abbrev pub entry_with : Files → List ℕ → IndexEntry → Entry
-entry_with files folder entry = record { path = entry.path; mode = mode_made entry.source; what = what_made files folder entry.source }
+abbrev pub entry_with : StoreFiles → List ℕ → IndexEntry → Entry
+entry_with files folder entry = record { path = entry.path; mode = source_mode entry.source; what = source_what files folder entry.source }
 
 -- the image of entries in order, with the bytes of their blobs; or the first of these that holds: a blob is missing,
 -- one is too long, there are too many entries
-unfoldable pub with_blobs : Files → List ℕ → List IndexEntry → Result (List Entry) Refusal
+unfoldable pub with_blobs : StoreFiles → List ℕ → List IndexEntry → Result (List Entry) Refusal
 with_blobs files folder order =
     if not (list_all (λ entry. has_blob files folder entry.source) order) then Err NoBlob
-    else (if not (list_all (λ entry. fits_limit files folder entry.source) order) then Err TooBig
+    else (if not (list_all (λ entry. is_within_limit files folder entry.source) order) then Err TooBig
     else (if nat_le (length order) ENTRY_LIMIT then Ok (map (entry_with files folder) order) else Err TooMany))
 
 -- the image of the entries of an index; or the first of these that holds: a path, target or blob's name is not good, a
 -- path stands twice, an entry stands in no directory of the index, or as above
-unfoldable pub image_from : Files → List ℕ → List IndexEntry → Result (List Entry) Refusal
+unfoldable pub image_from : StoreFiles → List ℕ → List IndexEntry → Result (List Entry) Refusal
 image_from files folder index =
     if not (list_all is_good index) then Err BadPath
     else (if has_twice index then Err Twice
-    else (if not (list_all (lists_parent index) index) then Err NoParent
-    else with_blobs files folder (sorted index)))
+    else (if not (list_all (has_listed_parent index) index) then Err NoParent
+    else with_blobs files folder (sorted_entries index)))
 
 -- the image of a list of entries, if an index gave one
-abbrev pub image_listed : Files → List ℕ → Option (List IndexEntry) → Result (List Entry) Refusal
-image_listed files folder None = Err BadIndex
-image_listed files folder (Some index) = image_from files folder index
+abbrev pub image_from_index : StoreFiles → List ℕ → Option (List IndexEntry) → Result (List Entry) Refusal
+image_from_index files folder None = Err BadIndex
+image_from_index files folder (Some index) = image_from files folder index
 
 -- the image of a folder with or without an index
-abbrev pub image_by : Files → List ℕ → Option (List ℕ) → Result (List Entry) Refusal
+abbrev pub image_by : StoreFiles → List ℕ → Option (List ℕ) → Result (List Entry) Refusal
 image_by files folder None = Err NoIndex
-image_by files folder (Some bytes) = image_listed files folder (index_entries bytes)
+image_by files folder (Some bytes) = image_from_index files folder (index_entries bytes)
 
 -- the image of a folder, or why it has none
-abbrev pub image_of : Files → List ℕ → Result (List Entry) Refusal
+abbrev pub image_of : StoreFiles → List ℕ → Result (List Entry) Refusal
 image_of files folder = image_by files folder (get files (name_below folder (codes "image.json")))

@@ -4,31 +4,31 @@ use Rattle.std.specs.Prelude.{◌≡◌, ◌≢◌, ℕ, zero, suc, List, [], �
 use Rattle.std.specs.List.{flat_map}
 use Rattle.std.specs.FinMap.{empty, entries, insert}
 use Rattle.dt_host.specs.World.{Forest, Names, names_at, entry}
-use Rattle.dt_tree.specs.Above.{joined}
+use Rattle.dt_tree.specs.Above.{joined_names}
 use Rattle.dt_tree.specs.declared.limits.TheConstants.{NODE_LIMIT}
 
 -- the node that names lead to from a node: each is an entry of the directory that those before it led to; none where one is
 -- missing. No link is followed
-unfoldable pub reached_from : Forest → ℕ → List (List ℕ) → Option ℕ
-reached_from v n [] = Some n
-reached_from v n (name ∷ names) = option_and_then (λ m. reached_from v m names) (entry v n name)
+unfoldable pub node_from : Forest → ℕ → List (List ℕ) → Option ℕ
+node_from v n [] = Some n
+node_from v n (name ∷ names) = option_and_then (λ m. node_from v m names) (entry v n name)
 
 -- the node that names lead to from the root
-abbrev pub reached : Forest → List (List ℕ) → Option ℕ
-reached v names = reached_from v v.root names
+abbrev pub node_from_root : Forest → List (List ℕ) → Option ℕ
+node_from_root v names = node_from v v.root names
 
 -- the path leads to the node: it is one name or more, each behind a `/`, which lead there from the root
 abbrev pub LeadsTo : Forest → List ℕ → ℕ → Type 0
-LeadsTo v path n = (names : List (List ℕ)) × (names ≢ []) × (path ≡ joined names) × (reached v names ≡ Some n)
+LeadsTo v path n = (names : List (List ℕ)) × (names ≢ []) × (path ≡ joined_names names) × (node_from_root v names ≡ Some n)
 
 -- the paths of the entries of what stands at a path; none where that is no directory
-unfoldable pub below : Forest → List ℕ × ℕ → List (List ℕ × ℕ)
-below v at = map (λ e. (at.0 ++ (codes "/" ++ e.0), e.1)) (entries (names_at v at.1))
+unfoldable pub paths_below : Forest → List ℕ × ℕ → List (List ℕ × ℕ)
+paths_below v at = map (λ e. (at.0 ++ (codes "/" ++ e.0), e.1)) (entries (names_at v at.1))
 
 -- the paths of exactly so many names
 unfoldable pub level : Forest → ℕ → List (List ℕ × ℕ)
 level v zero = ([], v.root) ∷ []
-level v (suc depth) = flat_map (below v) (level v depth)
+level v (suc depth) = flat_map (paths_below v) (level v depth)
 
 -- the inodes by path, with one path more
 abbrev pub with_path : Names → List ℕ × ℕ → Names

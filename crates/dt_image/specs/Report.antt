@@ -60,24 +60,24 @@ abbrev pub escaped_set : AsciiSet
 escaped_set = record { mask = 2 ^ 33 - 1 + 2 ^ 37 + 2 ^ 127 }
 
 -- a path or a target, each of those bytes and each byte past ASCII escaped by `%`
-abbrev pub escaped : List ℕ → List ℕ
-escaped bytes = percent_encode escaped_set bytes
+abbrev pub escaped_text : List ℕ → List ℕ
+escaped_text bytes = percent_encode escaped_set bytes
 
 -- a file: inode, mode, stamp, size, digest, path
 unfoldable pub file_line : ℕ → ℕ → ℕ → List ℕ → List ℕ → List ℕ
 file_line inode mode stamp path bytes =
     codes "file " ++ (decimal inode ++ (codes " " ++ (mode_text mode ++ (codes " " ++ (decimal stamp ++ (codes " "
-    ++ (decimal (length bytes) ++ (codes " " ++ (encode_lower (sha256 bytes) ++ (codes " " ++ (escaped path ++ codes "\n")))))))))))
+    ++ (decimal (length bytes) ++ (codes " " ++ (encode_lower (sha256 bytes) ++ (codes " " ++ (escaped_text path ++ codes "\n")))))))))))
 
 -- a directory: inode, mode, stamp, path
 unfoldable pub dir_line : ℕ → ℕ → ℕ → List ℕ → List ℕ
 dir_line inode mode stamp path =
-    codes "dir " ++ (decimal inode ++ (codes " " ++ (mode_text mode ++ (codes " " ++ (decimal stamp ++ (codes " " ++ (escaped path ++ codes "\n")))))))
+    codes "dir " ++ (decimal inode ++ (codes " " ++ (mode_text mode ++ (codes " " ++ (decimal stamp ++ (codes " " ++ (escaped_text path ++ codes "\n")))))))
 
 -- a symbolic link: inode, stamp, path, target
 unfoldable pub link_line : ℕ → ℕ → List ℕ → List ℕ → List ℕ
 link_line inode stamp path target =
-    codes "link " ++ (decimal inode ++ (codes " " ++ (decimal stamp ++ (codes " " ++ (escaped path ++ (codes " " ++ (escaped target ++ codes "\n")))))))
+    codes "link " ++ (decimal inode ++ (codes " " ++ (decimal stamp ++ (codes " " ++ (escaped_text path ++ (codes " " ++ (escaped_text target ++ codes "\n")))))))
 
 -- the line of a node with these attributes, at a path and under an inode
 abbrev pub node_line : List ℕ × ℕ → Node → Attributes → List ℕ

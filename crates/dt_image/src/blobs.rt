@@ -7,11 +7,12 @@ ghost use Rattle.std.specs.FinMap.{get};
 ghost use Rattle.dt_base.specs.Image.{is_dir, is_good_what, is_good_entry};
 ghost use Rattle.dt_base.specs.declared.refusal.Refusal.{Refusal};
 ghost use Rattle.dt_host.specs.Asks.{AsksOr};
-ghost use Rattle.dt_host.specs.Store.{Files, size_of};
-ghost use Rattle.dt_image.specs.ImageOf.{name_below, lists_parent, has_blob, makes_dir, what_made, mode_made};
+ghost use Rattle.dt_host.specs.Store.{StoreFiles, size_of};
+ghost use Rattle.dt_image.specs.ImageOf.{name_below, has_listed_parent, has_blob, is_dir_source, source_what};
+ghost use Rattle.dt_image.specs.ImageOf.{source_mode};
 ghost use Rattle.dt_image.specs.ImageOf.{entry_with, with_blobs};
 ghost use Rattle.dt_image.specs.inner.IndexView.{source_in, entry_in, path_cmp, blob_size, HasSize, is_good_made};
-ghost use Rattle.dt_image.specs.inner.IndexView.{is_sound, spot, spot_of};
+ghost use Rattle.dt_image.specs.inner.IndexView.{is_sound, path_kind, path_kind_of};
 
 use crate::folder::{bytes_in, name_below, size_in};
 use crate::index::{EntryRef, SourceRef};
@@ -37,7 +38,8 @@ pub fn with_blobs<S: Store>(
 ) -> Result<Image, ImageErr>
     requires sound { IsTrue (list_all is_sound (map entry_in order.now)) }
     requires rising { IsStrictlySortedBy path_cmp order.now }
-    requires parents { list_all (λ entry. lists_parent (map entry_in order.now) (entry_in entry)) order.now ≡ true }
+    requires parents { list_all (λ entry. has_listed_parent (map entry_in order.now) (entry_in entry)) order.now
+        ≡ true }
     ensures ok { IfSome (S.told store.old) (λ held.
         IfOk result (λ image. with_blobs held folder.now (map entry_in order.now) ≡ Ok image)) }
     ensures refused { (r : Refusal) → result ≡ Err (ImageErr.Refused r) →
@@ -45,7 +47,7 @@ pub fn with_blobs<S: Store>(
     ensures asks { AsksOr S.told S.count ImageErr.Store store.old store.new result }
 {
     let blobs = measure(alloc, store, folder, order)?;
-    if !fit(&blobs) {
+    if !are_within_limit(&blobs) {
         return Err(ImageErr::Refused(Refusal::TooBig));
     }
     if !are_few(&blobs) {
@@ -133,7 +135,7 @@ fn size_of<S: Store>(
 }
 
 // No blob is longer than a file may be.
-fn fit(blobs: &[Measured<'_>]) -> bool
+fn are_within_limit(blobs: &[Measured<'_>]) -> bool
     ensures { result ≡ list_all (λ blob. nat_le blob.size FILE_LIMIT) blobs.now }
 {
     blobs.iter().all(|blob| blob.size <= FILE_LIMIT)
@@ -159,7 +161,7 @@ fn read<S: Store>(
     ensures ok { IfSome (S.told store.old) (λ held. IfOk result (λ entries.
         entries.items ≡ map (λ blob. entry_with held folder.now (entry_in blob.entry)) blobs.now)) }
     ensures spots { IfOk result (λ entries.
-        map spot entries.items ≡ map (λ blob. spot_of (entry_in blob.entry)) blobs.now) }
+        map path_kind entries.items ≡ map (λ blob. path_kind_of (entry_in blob.entry)) blobs.now) }
     ensures good { IfOk result (λ entries. IsTrue (list_all is_good_entry entries.items)) }
     ensures answered { (r : Refusal) → result ≡ Err (ImageErr.Refused r) → ⊥ }
     ensures asks { AsksOr S.told S.count ImageErr.Store store.old store.new result }
@@ -182,22 +184,22 @@ fn read_one<S: Store>(
     requires sound { IsTrue (is_sound (entry_in blob.entry)) }
     ensures ok { IfSome (S.told store.old) (λ held.
         IfOk result (λ entry. entry ≡ entry_with held folder.now (entry_in blob.entry.entry))) }
-    ensures spot { IfOk result (λ entry. spot entry ≡ spot_of (entry_in blob.entry.entry)) }
+    ensures spot { IfOk result (λ entry. path_kind entry ≡ path_kind_of (entry_in blob.entry.entry)) }
     ensures good { IfOk result (λ entry. IsTrue (is_good_entry entry)) }
     ensures answered { (r : Refusal) → result ≡ Err (ImageErr.Refused r) → ⊥ }
     ensures asks { AsksOr S.told S.count ImageErr.Store store.old store.new result }
 {
     let entry = blob.entry;
-    let what = make(alloc, store, folder, entry.source, blob.size)?;
+    let what = make_what(alloc, store, folder, entry.source, blob.size)?;
     Ok(Entry {
         path: copy_of(alloc, entry.path)?,
-        mode: mode_made(entry.source),
+        mode: source_mode(entry.source),
         what,
     })
 }
 
 // What a source makes, whose blob has that size.
-fn make<S: Store>(
+fn make_what<S: Store>(
     alloc: Global,
     store: &mut S,
     folder: &str,
@@ -209,9 +211,9 @@ fn make<S: Store>(
     requires fits { size ≤ FILE_LIMIT }
     requires sound { IsTrue (is_good_made (source_in source)) }
     ensures ok { IfSome (S.told store.old) (λ held.
-        IfOk result (λ what. what ≡ what_made held folder.now (source_in source.entry))) }
-    ensures kind { IfOk result (λ what. is_dir what ≡ makes_dir (source_in source.entry)) }
-    ensures good { IfOk result (λ what. IsTrue (is_good_what what (mode_made (source_in source.entry)))) }
+        IfOk result (λ what. what ≡ source_what held folder.now (source_in source.entry))) }
+    ensures kind { IfOk result (λ what. is_dir what ≡ is_dir_source (source_in source.entry)) }
+    ensures good { IfOk result (λ what. IsTrue (is_good_what what (source_mode (source_in source.entry)))) }
     ensures answered { (r : Refusal) → result ≡ Err (ImageErr.Refused r) → ⊥ }
     ensures asks { AsksOr S.told S.count ImageErr.Store store.old store.new result }
 {
@@ -226,8 +228,8 @@ fn make<S: Store>(
     }
 }
 
-fn mode_made(source: SourceRef<'_>) -> u32
-    ensures { result ≡ mode_made (source_in source.entry) }
+fn source_mode(source: SourceRef<'_>) -> u32
+    ensures { result ≡ source_mode (source_in source.entry) }
 {
     match source {
         SourceRef::File(mode, _) | SourceRef::Dir(mode) => mode,

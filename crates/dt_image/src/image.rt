@@ -9,7 +9,7 @@ ghost use Rattle.serde_json.specs.View.{view};
 ghost use Rattle.dt_base.specs.declared.refusal.Refusal.{Refusal};
 ghost use Rattle.dt_host.specs.Asks.{AsksOr};
 ghost use Rattle.dt_image.specs.Index.{is_good};
-ghost use Rattle.dt_image.specs.inner.IndexView.{entry_in, path_cmp, is_listed, is_sound, in_dirs};
+ghost use Rattle.dt_image.specs.inner.IndexView.{entry_in, path_cmp, is_listed, is_sound, image_in_order};
 ghost use Rattle.dt_image.specs.ImageOf.{name_below, value_of, image_by, image_of, image_from};
 
 use crate::blobs::with_blobs;
@@ -131,9 +131,9 @@ fn read_order<S: Store>(
     requires sound { IsTrue (list_all is_sound (map entry_in order.now)) }
     requires rising { IsStrictlySortedBy path_cmp order.now }
     ensures ok { IfSome (S.told store.old) (λ held.
-        IfOk result (λ image. in_dirs held folder.now (map entry_in order.now) ≡ Ok image)) }
+        IfOk result (λ image. image_in_order held folder.now (map entry_in order.now) ≡ Ok image)) }
     ensures refused { (r : Refusal) → result ≡ Err (ImageErr.Refused r) →
-        IfSome (S.told store.old) (λ held. in_dirs held folder.now (map entry_in order.now) ≡ Err r) }
+        IfSome (S.told store.old) (λ held. image_in_order held folder.now (map entry_in order.now) ≡ Err r) }
     ensures asks { AsksOr S.told S.count ImageErr.Store store.old store.new result }
 {
     let found = have_parents(alloc, order)?;

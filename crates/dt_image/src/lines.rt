@@ -10,7 +10,7 @@ ghost use Rattle.dt_tree.specs.Table.{Stands, shape_of, tree_of};
 ghost use Rattle.dt_image.specs.Paths.{LeadsTo, paths_of};
 ghost use Rattle.dt_image.specs.Report.{escaped_set, is_escaped, file_line, dir_line, link_line, mode_text, path_line};
 ghost use Rattle.dt_image.specs.Report.{tree_header, tree_text};
-ghost use Rattle.dt_image.specs.inner.PathView.{shown};
+ghost use Rattle.dt_image.specs.inner.PathView.{path_pair};
 
 use crate::paths::{TreePath, paths_of};
 use dt_base::{Blob, NoMemory};
@@ -65,7 +65,7 @@ fn write_lines<H: Host>(
     requires stands { Stands tree.now (H.view host.old).forest }
     requires live { All (λ at. IsLive (shape_of tree.now (H.view host.old).forest) at.inode) paths.now }
     ensures ok { OnOk result (text.new.items ≡ text.old.items
-        ++ flat_map (path_line (tree_of tree.now (H.view host.old).forest)) (map shown paths.now)) }
+        ++ flat_map (path_line (tree_of tree.now (H.view host.old).forest)) (map path_pair paths.now)) }
     ensures asks { Asks H.view H.count host.old host.new result }
 {
     for at in paths {
@@ -84,7 +84,7 @@ fn write_line<H: Host>(
     requires stands { Stands tree.now (H.view host.old).forest }
     requires live { IsLive (shape_of tree.now (H.view host.old).forest) at.now.inode }
     ensures ok { OnOk result (text.new.items ≡ text.old.items
-        ++ path_line (tree_of tree.now (H.view host.old).forest) (shown at.now)) }
+        ++ path_line (tree_of tree.now (H.view host.old).forest) (path_pair at.now)) }
     ensures asks { Asks H.view H.count host.old host.new result }
 {
     let meta = tree.meta(host, at.inode)?;

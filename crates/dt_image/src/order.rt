@@ -1,8 +1,8 @@
 // The entries of an index in the order of an image.
 ghost use Rattle.std.specs.Prelude.{◌≡◌, IfOk, IfSome, map, is_some, not};
 ghost use Rattle.std.specs.List.Sorted.{IsStrictlySortedBy};
-ghost use Rattle.dt_image.specs.ImageOf.{has_twice, sorted};
-ghost use Rattle.dt_image.specs.inner.IndexView.{entry_in, keyed, entry_at, path_cmp};
+ghost use Rattle.dt_image.specs.ImageOf.{has_twice, sorted_entries};
+ghost use Rattle.dt_image.specs.inner.IndexView.{entry_in, keyed_entry, entry_at, path_cmp};
 
 use crate::index::{EntryRef, SourceRef};
 use dt_base::NoMemory;
@@ -16,23 +16,23 @@ pub fn sorted<'v>(
 ) -> Result<Option<Vec<EntryRef<'v>>>, NoMemory>
     ensures once { IfOk result (λ found. is_some found ≡ not (has_twice (map entry_in entries.now))) }
     ensures sorted { IfOk result (λ found.
-        IfSome found (λ order. map entry_in order.items ≡ sorted (map entry_in entries.now))) }
+        IfSome found (λ order. map entry_in order.items ≡ sorted_entries (map entry_in entries.now))) }
     ensures rising { IfOk result (λ found. IfSome found (λ order. IsStrictlySortedBy path_cmp order.items)) }
 {
-    match by_path(alloc, entries)? {
+    match sources_by_path(alloc, entries)? {
         Some(sources) => Ok(Some(in_order(alloc, sources)?)),
         None => Ok(None),
     }
 }
 
 // What each entry is made from, by its path; None where two have one path.
-fn by_path<'v>(
+fn sources_by_path<'v>(
     alloc: Global,
     entries: &[EntryRef<'v>],
 ) -> Result<Option<BTreeMap<&'v str, SourceRef<'v>>>, NoMemory>
     ensures once { IfOk result (λ found. is_some found ≡ not (has_twice (map entry_in entries.now))) }
     ensures sorted { IfOk result (λ found.
-        IfSome found (λ sources. map keyed sources.entries ≡ sorted (map entry_in entries.now))) }
+        IfSome found (λ sources. map keyed_entry sources.entries ≡ sorted_entries (map entry_in entries.now))) }
 {
     let mut sources = BTreeMap::new(alloc);
     for entry in entries {

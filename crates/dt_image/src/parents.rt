@@ -2,7 +2,7 @@
 ghost use Rattle.std.specs.Prelude.{◌≡◌, ◌||◌, IfOk, OnOk, map, List, ℕ};
 ghost use Rattle.std.specs.List.{list_all, list_any};
 ghost use Rattle.dt_base.specs.Path.{is_top, parent_of};
-ghost use Rattle.dt_image.specs.ImageOf.{lists_dir, lists_parent, makes_dir};
+ghost use Rattle.dt_image.specs.ImageOf.{is_dir_of_path, has_listed_parent, is_dir_source};
 ghost use Rattle.dt_image.specs.inner.IndexView.{entry_in, source_in, has_dir};
 
 use crate::index::{EntryRef, SourceRef};
@@ -14,7 +14,7 @@ use std::collections::BTreeSet;
 /// among all entries.
 pub fn have_parents(alloc: Global, entries: &[EntryRef<'_>]) -> Result<bool, NoMemory>
     ensures { IfOk result (λ all.
-        all ≡ list_all (λ entry. lists_parent (map entry_in entries.now) (entry_in entry)) entries.now) }
+        all ≡ list_all (λ entry. has_listed_parent (map entry_in entries.now) (entry_in entry)) entries.now) }
 {
     let dirs = dirs_of(alloc, entries)?;
     for entry in entries {
@@ -28,7 +28,7 @@ pub fn have_parents(alloc: Global, entries: &[EntryRef<'_>]) -> Result<bool, NoM
 // The paths of the directories.
 fn dirs_of<'v>(alloc: Global, entries: &[EntryRef<'v>]) -> Result<BTreeSet<&'v [u8]>, NoMemory>
     ensures { IfOk result (λ dirs.
-        (path : List ℕ) → has_dir path dirs ≡ list_any (lists_dir path) (map entry_in entries.now)) }
+        (path : List ℕ) → has_dir path dirs ≡ list_any (is_dir_of_path path) (map entry_in entries.now)) }
 {
     let mut dirs = BTreeSet::new(alloc);
     for entry in entries {
@@ -40,16 +40,16 @@ fn dirs_of<'v>(alloc: Global, entries: &[EntryRef<'v>]) -> Result<BTreeSet<&'v [
 // Adds the path of an entry that is a directory.
 fn add_dir<'v>(dirs: &mut BTreeSet<&'v [u8]>, entry: EntryRef<'v>) -> Result<(), NoMemory>
     ensures { OnOk result ((path : List ℕ) →
-        has_dir path dirs.new ≡ (has_dir path dirs.old || lists_dir path (entry_in entry.entry))) }
+        has_dir path dirs.new ≡ (has_dir path dirs.old || is_dir_of_path path (entry_in entry.entry))) }
 {
-    if makes_dir(entry.source) {
+    if is_dir_source(entry.source) {
         dirs.insert(entry.path.as_bytes())?;
     }
     Ok(())
 }
 
-fn makes_dir(source: SourceRef<'_>) -> bool
-    ensures { result ≡ makes_dir (source_in source.entry) }
+fn is_dir_source(source: SourceRef<'_>) -> bool
+    ensures { result ≡ is_dir_source (source_in source.entry) }
 {
     match source {
         SourceRef::Dir(_) => true,

@@ -3,11 +3,11 @@ ghost use Rattle.std.specs.Prelude.{◌≡◌, ◌++◌, ◌∷◌, [], IfOk, On
 ghost use Rattle.std.specs.List.{All, flat_map};
 ghost use Rattle.std.specs.FinMap.{entries};
 ghost use Rattle.dt_host.specs.Asks.{Asks};
-ghost use Rattle.dt_host.specs.Entries.{map_of};
+ghost use Rattle.dt_tables.specs.Entries.{map_of};
 ghost use Rattle.dt_tree.specs.declared.limits.TheConstants.{NODE_LIMIT, ROOT};
 ghost use Rattle.dt_tree.specs.Table.{Stands, shape_of};
-ghost use Rattle.dt_image.specs.Paths.{below, paths_to, paths_of, with_path};
-ghost use Rattle.dt_image.specs.inner.PathView.{shown, paths_in, listed_below, IsPlaced};
+ghost use Rattle.dt_image.specs.Paths.{paths_below, paths_to, paths_of, with_path};
+ghost use Rattle.dt_image.specs.inner.PathView.{path_pair, paths_in, listed_path, IsPlaced};
 
 use dt_base::{Blob, NoMemory};
 use dt_host::{Host, HostErr};
@@ -27,7 +27,7 @@ pub struct TreePath {
 pub fn paths_of<H: Host>(alloc: Global, host: &mut H, tree: &Tree) -> Result<Vec<TreePath>, HostErr>
     requires { Stands tree.now (H.view host.old).forest }
     ensures ok { IfOk result (λ paths.
-        map shown paths.items ≡ paths_of (shape_of tree.now (H.view host.old).forest)) }
+        map path_pair paths.items ≡ paths_of (shape_of tree.now (H.view host.old).forest)) }
     ensures asks { Asks H.view H.count host.old host.new result }
 {
     let paths = all_paths(alloc, host, tree)?;
@@ -56,7 +56,7 @@ fn all_paths<H: Host>(
 
 // The root's path alone.
 fn first_level(alloc: Global) -> Result<Vec<TreePath>, NoMemory>
-    ensures { IfOk result (λ first. map shown first.items ≡ ([], ROOT) ∷ []) }
+    ensures { IfOk result (λ first. map path_pair first.items ≡ ([], ROOT) ∷ []) }
 {
     let mut first = Vec::new(alloc);
     first.push(TreePath {
@@ -74,9 +74,9 @@ fn next_level<H: Host>(
     level: &[TreePath],
 ) -> Result<Vec<TreePath>, HostErr>
     requires stands { Stands tree.now (H.view host.old).forest }
-    requires placed { All (λ at. IsPlaced (shape_of tree.now (H.view host.old).forest) (shown at)) level.now }
-    ensures ok { IfOk result (λ next. map shown next.items
-        ≡ flat_map (below (shape_of tree.now (H.view host.old).forest)) (map shown level.now)) }
+    requires placed { All (λ at. IsPlaced (shape_of tree.now (H.view host.old).forest) (path_pair at)) level.now }
+    ensures ok { IfOk result (λ next. map path_pair next.items
+        ≡ flat_map (paths_below (shape_of tree.now (H.view host.old).forest)) (map path_pair level.now)) }
     ensures asks { Asks H.view H.count host.old host.new result }
 {
     let mut next = Vec::new(alloc);
@@ -95,9 +95,9 @@ fn add_below<H: Host>(
     at: &TreePath,
 ) -> Result<(), HostErr>
     requires stands { Stands tree.now (H.view host.old).forest }
-    requires placed { IsPlaced (shape_of tree.now (H.view host.old).forest) (shown at.now) }
-    ensures ok { OnOk result (map shown next.new.items ≡ map shown next.old.items
-        ++ below (shape_of tree.now (H.view host.old).forest) (shown at.now)) }
+    requires placed { IsPlaced (shape_of tree.now (H.view host.old).forest) (path_pair at.now) }
+    ensures ok { OnOk result (map path_pair next.new.items ≡ map path_pair next.old.items
+        ++ paths_below (shape_of tree.now (H.view host.old).forest) (path_pair at.now)) }
     ensures asks { Asks H.view H.count host.old host.new result }
 {
     let _before = host.faults();
@@ -116,8 +116,8 @@ fn add_listed(
     path: &[u8],
     listed: &[Listed],
 ) -> Result<(), NoMemory>
-    ensures { OnOk result (map shown next.new.items ≡ map shown next.old.items
-        ++ map (listed_below path.now) listed.now) }
+    ensures { OnOk result (map path_pair next.new.items ≡ map path_pair next.old.items
+        ++ map (listed_path path.now) listed.now) }
 {
     for entry in listed {
         next.push(TreePath {
@@ -140,7 +140,7 @@ fn path_below(alloc: Global, dir: &[u8], name: &[u8]) -> Result<Blob, NoMemory>
 
 // Adds paths to those found before.
 fn add_paths(paths: &mut BTreeMap<Blob, u64>, level: &[TreePath]) -> Result<(), NoMemory>
-    ensures { OnOk result (paths_in paths.new ≡ fold with_path (paths_in paths.old) (map shown level.now)) }
+    ensures { OnOk result (paths_in paths.new ≡ fold with_path (paths_in paths.old) (map path_pair level.now)) }
 {
     for at in level {
         add_path(paths, at)?;
@@ -149,7 +149,7 @@ fn add_paths(paths: &mut BTreeMap<Blob, u64>, level: &[TreePath]) -> Result<(), 
 }
 
 fn add_path(paths: &mut BTreeMap<Blob, u64>, at: &TreePath) -> Result<(), NoMemory>
-    ensures { OnOk result (paths_in paths.new ≡ with_path (paths_in paths.old) (shown at.now)) }
+    ensures { OnOk result (paths_in paths.new ≡ with_path (paths_in paths.old) (path_pair at.now)) }
 {
     paths.insert(at.path.copy()?, at.inode)?;
     Ok(())
@@ -157,7 +157,7 @@ fn add_path(paths: &mut BTreeMap<Blob, u64>, at: &TreePath) -> Result<(), NoMemo
 
 // The paths as a list.
 fn in_order(alloc: Global, paths: BTreeMap<Blob, u64>) -> Result<Vec<TreePath>, NoMemory>
-    ensures { IfOk result (λ list. map shown list.items ≡ entries (paths_in paths)) }
+    ensures { IfOk result (λ list. map path_pair list.items ≡ entries (paths_in paths)) }
 {
     let list = paths
         .into_iter()

@@ -9,7 +9,7 @@ use Rattle.dt_fds.specs.declared.desc.Spot.TheVariants.{At}
 use Rattle.dt_fds.specs.Backs.{IsIn, AllIn}
 use Rattle.dt_fds.specs.Descriptions.{Descriptions, slot_description, slot_at, description_at, is_after, is_of_dir}
 use Rattle.dt_host.specs.World.{Forest, IsFile, IsDir}
-use Rattle.dt_scene.proofs.Kept.{sound_nodes, others_nodes}
+use Rattle.dt_callbase.proofs.Kept.{sound_nodes, others_nodes}
 
 pub kind_in : (v : Forest) (f : Descriptions) (p fd : ℕ) (desc : Desc) → AllIn v f → description_at f p fd ≡ Some desc → IsIn v desc.kind
 unfolding description_at

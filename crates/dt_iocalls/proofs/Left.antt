@@ -3,9 +3,9 @@ use Rattle.std.proofs.Common.{arith, ◌≡◌, ℕ, zero, suc, ◌-◌, ◌*◌
 use Rattle.std.proofs.lemmas.Bool.Decides.{nat_tests}
 use Rattle.std.specs.Prelude.{nat_le, slice_get, option_map}
 use Rattle.dt_tree.specs.declared.list.Listed.{Listed}
-use Rattle.dt_iocalls.specs.Entries.{record_len, dirents, fitting_entries, last_listed, entries_told, tells, tells_left}
-use Rattle.dt_scene.specs.Scene.{Scene}
-use Rattle.dt_space.specs.Write.{stored}
+use Rattle.dt_iocalls.specs.Entries.{record_len, dirents, fitting_entries, last_listed, entries_fill_reply, fitting_entries_reply, left_entries_reply}
+use Rattle.dt_callbase.specs.Scene.{Scene}
+use Rattle.dt_space.specs.Write.{pages_after_store}
 
 -- a record has 24 bytes at least
 least_record : (name : List ℕ) → 24 ≤ record_len name
@@ -36,19 +36,19 @@ last_name-end entries last =
     at_end [] = refl
     at_end (entry ∷ entries) = at_end entries
 
-pub tells_last : (fd buffer : ℕ) (s : Scene) (entries rest : List Listed) (last : Listed) → entries ≡ rest ++ (last ∷ []) → tells fd buffer s entries ≡ entries_told s fd (Some last.name) (length (dirents entries)) (stored s.space buffer (dirents entries))
+pub tells_last : (fd buffer : ℕ) (s : Scene) (entries rest : List Listed) (last : Listed) → entries ≡ rest ++ (last ∷ []) → fitting_entries_reply fd buffer s entries ≡ entries_fill_reply s fd (Some last.name) (length (dirents entries)) (pages_after_store s.space buffer (dirents entries))
 tells_last fd buffer s [] rest last is = absurd (by_length (ap length is))
   where
     by_length : 0 ≡ length (rest ++ (last ∷ [])) → ⊥
     by_length e = omega (arith, length-append rest (last ∷ []))
 tells_last fd buffer s (entry ∷ entries) rest last is =
-    ap (λ name. entries_told s fd name (length (dirents (entry ∷ entries))) (stored s.space buffer (dirents (entry ∷ entries))))
+    ap (λ name. entries_fill_reply s fd name (length (dirents (entry ∷ entries))) (pages_after_store s.space buffer (dirents (entry ∷ entries))))
     (ap last_listed is ∙ last_name-end rest last)
 
-pub tells_take : (fd buffer count most : ℕ) (s : Scene) (left : List Listed) → count < 24 * most → tells_left fd buffer count s left ≡ tells_left fd buffer count s (take most left)
+pub tells_take : (fd buffer count most : ℕ) (s : Scene) (left : List Listed) → count < 24 * most → left_entries_reply fd buffer count s left ≡ left_entries_reply fd buffer count s (take most left)
 tells_take fd buffer count zero s left few = absurd (omega arith)
 tells_take fd buffer count (suc most) s [] few = refl
 tells_take fd buffer count (suc most) s (entry ∷ left) few =
-    ap (tells fd buffer s) (sym (fitting-take (suc most) count (entry ∷ left) few))
+    ap (fitting_entries_reply fd buffer s) (sym (fitting-take (suc most) count (entry ∷ left) few))
 
 pub ruleset tells_first = (tells_take)

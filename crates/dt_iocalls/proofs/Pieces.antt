@@ -7,21 +7,21 @@ use Rattle.std.proofs.lemmas.List.{take-append-le, drop-append-le, drop_all, len
 use Rattle.std.proofs.lemmas.List.Sums.{sum_by-cons}
 use Rattle.dt_space.specs.declared.access.Miss.{Miss}
 use Rattle.dt_space.specs.declared.access.TheConstants.{READ}
-use Rattle.dt_space.specs.Space.{PageView, byte_at, low_byte, load}
+use Rattle.dt_space.specs.Space.{PageView, byte_at, byte_before, load}
 use Rattle.dt_space.proofs.Loads.{load-more, joined as loaded_before}
 use Rattle.dt_iocalls.specs.declared.ranges.Range.{Range}
-use Rattle.dt_iocalls.specs.Ranges.{total_len, joined_bytes, gathered}
+use Rattle.dt_iocalls.specs.Ranges.{total_len, joined_bytes, gathered_bytes}
 use Rattle.dt_iocalls.proofs.Scattering.{from-index}
 
 -- the first bytes of what was loaded
 prefix-at : (pages : List PageView) (right address n k : ℕ) (bytes : List ℕ) (byte : Option ℕ) (rest : Result (List ℕ) Miss) → byte_at pages right address ≡ byte → load pages right ((address + 1) % 2 ^ 64) (n + k) ≡ rest
     → ((more : List ℕ) → load pages right ((address + 1) % 2 ^ 64) (n + k) ≡ Ok more → load pages right ((address + 1) % 2 ^ 64) n ≡ Ok (take n more))
-    → low_byte address byte rest ≡ Ok bytes → low_byte address byte (load pages right ((address + 1) % 2 ^ 64) n) ≡ Ok (take (suc n) bytes)
+    → byte_before address byte rest ≡ Ok bytes → byte_before address byte (load pages right ((address + 1) % 2 ^ 64) n) ≡ Ok (take (suc n) bytes)
 prefix-at pages right address n k bytes None rest here is law ok = absurd cc
 prefix-at pages right address n k bytes (Some byte) (Err miss) here is law ok = absurd cc
 prefix-at pages right address n k bytes (Some byte) (Ok rest) here is law ok =
     let same : byte ∷ rest ≡ bytes = cc in
-    ap (low_byte address (Some byte)) (law rest is) ∙ ap (λ xs. Ok (take (suc n) xs)) same
+    ap (byte_before address (Some byte)) (law rest is) ∙ ap (λ xs. Ok (take (suc n) xs)) same
 
 load-prefix : (pages : List PageView) (right k n address : ℕ) (bytes : List ℕ) → load pages right address (n + k) ≡ Ok bytes → load pages right address n ≡ Ok (take n bytes)
 unfolding load
@@ -31,7 +31,7 @@ load-prefix pages right k (suc n) address bytes ok =
     prefix-at pages right address n k bytes (byte_at pages right address) (load pages right ((address + 1) % 2 ^ 64) (n + k)) refl refl (λ more is. load-prefix pages right k n ((address + 1) % 2 ^ 64) more is)
     (ap (load pages right address) (sym count) ∙ ok)
 
-length-byte : (pages : List PageView) (right address n : ℕ) (bytes : List ℕ) (byte : Option ℕ) (rest : Result (List ℕ) Miss) → load pages right ((address + 1) % 2 ^ 64) n ≡ rest → ((more : List ℕ) → load pages right ((address + 1) % 2 ^ 64) n ≡ Ok more → length more ≡ n) → low_byte address byte rest ≡ Ok bytes → length bytes ≡ suc n
+length-byte : (pages : List PageView) (right address n : ℕ) (bytes : List ℕ) (byte : Option ℕ) (rest : Result (List ℕ) Miss) → load pages right ((address + 1) % 2 ^ 64) n ≡ rest → ((more : List ℕ) → load pages right ((address + 1) % 2 ^ 64) n ≡ Ok more → length more ≡ n) → byte_before address byte rest ≡ Ok bytes → length bytes ≡ suc n
 length-byte pages right address n bytes None rest is law ok = absurd cc
 length-byte pages right address n bytes (Some byte) (Err miss) is law ok = absurd cc
 length-byte pages right address n bytes (Some byte) (Ok rest) is law ok =
@@ -113,30 +113,30 @@ both (Ok bytes) (Ok more) ok = record { bytes = bytes; more = more; first_is = r
 both (Ok bytes) (Err miss) ok = absurd cc
 both (Err miss) rest ok = absurd cc
 
-opened : (pages : List PageView) (range : Range) (rest : List Range) → IsOk (gathered pages (range ∷ rest)) → Both (load pages READ range.address range.len) (gathered pages rest)
-unfolding gathered
-opened pages range rest ok = both (load pages READ range.address range.len) (gathered pages rest) ok
+opened : (pages : List PageView) (range : Range) (rest : List Range) → IsOk (gathered_bytes pages (range ∷ rest)) → Both (load pages READ range.address range.len) (gathered_bytes pages rest)
+unfolding gathered_bytes
+opened pages range rest ok = both (load pages READ range.address range.len) (gathered_bytes pages rest) ok
 
-gathered-both : (pages : List PageView) (range : Range) (rest : List Range) (bytes more : List ℕ) → load pages READ range.address range.len ≡ Ok bytes → gathered pages rest ≡ Ok more → gathered pages (range ∷ rest) ≡ Ok (bytes ++ more)
-unfolding gathered
+gathered-both : (pages : List PageView) (range : Range) (rest : List Range) (bytes more : List ℕ) → load pages READ range.address range.len ≡ Ok bytes → gathered_bytes pages rest ≡ Ok more → gathered_bytes pages (range ∷ rest) ≡ Ok (bytes ++ more)
+unfolding gathered_bytes
 gathered-both pages range rest bytes more first_is rest_is = (λ i. joined_bytes (first_is i) (rest_is i))
 
-gathered-none : (pages : List PageView) → gathered pages [] ≡ Ok []
-unfolding gathered
+gathered-none : (pages : List PageView) → gathered_bytes pages [] ≡ Ok []
+unfolding gathered_bytes
 gathered-none pages = refl
 
 -- so many of the bytes of ranges from an offset on: what came so far, and so many of the bytes of the ranges that are left,
 -- some of which are skipped
 pub record IsPartly (pages : List PageView) (ranges rest : List Range) (offset count skip left : ℕ) (piece : List ℕ) : Type 0 where
-  pub readable : IsOk (gathered pages rest)
-  pub parts : (all more : List ℕ) → gathered pages ranges ≡ Ok all → gathered pages rest ≡ Ok more → take count (drop offset all) ≡ piece ++ take left (drop skip more)
+  pub readable : IsOk (gathered_bytes pages rest)
+  pub parts : (all more : List ℕ) → gathered_bytes pages ranges ≡ Ok all → gathered_bytes pages rest ≡ Ok more → take count (drop offset all) ≡ piece ++ take left (drop skip more)
 
 module _ (pages : List PageView) (ranges : List Range) (i : ℕ) (d : Range) (offset count skip left skipped len : ℕ) (piece : List ℕ) (within : i < length ranges) (fits : (get_or ranges i d).address < 2 ^ 64) (skipped_is : skipped ≡ min skip (get_or ranges i d).len) (len_is : len ≡ min left ((get_or ranges i d).len - skipped)) (h : IsPartly pages ranges (drop i ranges) offset count skip left piece) where
   abbrev here : Range
   here = get_or ranges i d
 
-  two : Both (load pages READ here.address here.len) (gathered pages (drop (i + 1) ranges))
-  two = opened pages here (drop (i + 1) ranges) (subst (λ r. IsOk (gathered pages r)) (from-index ranges i d within) h.readable)
+  two : Both (load pages READ here.address here.len) (gathered_bytes pages (drop (i + 1) ranges))
+  two = opened pages here (drop (i + 1) ranges) (subst (λ r. IsOk (gathered_bytes pages r)) (from-index ranges i d within) h.readable)
 
   found : load pages READ ((here.address + skipped) % 2 ^ 64) len ≡ Ok (take len (drop skipped two.bytes))
   found = load-part pages READ here.address here.len skipped len two.bytes fits (omega arith) two.first_is
@@ -147,7 +147,7 @@ module _ (pages : List PageView) (ranges : List Range) (i : ℕ) (d : Range) (of
     parts = λ all more whole rest.
         let alike = sym came ∙ found in
         let same : bytes ≡ take len (drop skipped two.bytes) = cc in
-        h.parts all (two.bytes ++ more) whole (ap (gathered pages) (from-index ranges i d within) ∙ gathered-both pages here (drop (i + 1) ranges) two.bytes more two.first_is rest)
+        h.parts all (two.bytes ++ more) whole (ap (gathered_bytes pages) (from-index ranges i d within) ∙ gathered-both pages here (drop (i + 1) ranges) two.bytes more two.first_is rest)
         ∙ ap (λ xs. piece ++ xs) (both-parts two.bytes more here.len skip left skipped len (load-length pages READ here.len here.address two.bytes two.first_is) skipped_is len_is)
         ∙ sym (append_assoc piece (take len (drop skipped two.bytes)) (take (left - len) (drop (skip - skipped) more)))
         ∙ ap (λ xs. xs ++ take (left - len) (drop (skip - skipped) more)) (ap (λ xs. piece ++ xs) (sym same) ∙ sym new_is);
@@ -156,20 +156,20 @@ module _ (pages : List PageView) (ranges : List Range) (i : ℕ) (d : Range) (of
   pub partly-missed : (miss : Miss) → load pages READ ((here.address + skipped) % 2 ^ 64) len ≡ Err miss → ⊥
   partly-missed miss missed = let clash = sym missed ∙ found in absurd cc
 
-pub partly-end : (pages : List PageView) (ranges : List Range) (i offset count skip left : ℕ) (piece : List ℕ) → length ranges ≤ i → IsPartly pages ranges (drop i ranges) offset count skip left piece → IfOk (gathered pages ranges) (λ all. piece ≡ take count (drop offset all))
-partly-end pages ranges i offset count skip left piece end h = by-all (gathered pages ranges) refl
+pub partly-end : (pages : List PageView) (ranges : List Range) (i offset count skip left : ℕ) (piece : List ℕ) → length ranges ≤ i → IsPartly pages ranges (drop i ranges) offset count skip left piece → IfOk (gathered_bytes pages ranges) (λ all. piece ≡ take count (drop offset all))
+partly-end pages ranges i offset count skip left piece end h = by-all (gathered_bytes pages ranges) refl
   where
-    none : gathered pages (drop i ranges) ≡ Ok []
-    none = ap (gathered pages) (drop_all i ranges end) ∙ gathered-none pages
+    none : gathered_bytes pages (drop i ranges) ≡ Ok []
+    none = ap (gathered_bytes pages) (drop_all i ranges end) ∙ gathered-none pages
 
-    by-all : (found : Result (List ℕ) Miss) → gathered pages ranges ≡ found → IfOk found (λ all. piece ≡ take count (drop offset all))
+    by-all : (found : Result (List ℕ) Miss) → gathered_bytes pages ranges ≡ found → IfOk found (λ all. piece ≡ take count (drop offset all))
     by-all (Ok all) is = sym (h.parts all [] is none ∙ ap (λ xs. piece ++ take left xs) (drop-nil skip) ∙ ap (λ xs. piece ++ xs) (take-nil left) ∙ append-nil piece)
     by-all (Err miss) is = tt
 
 -- whether ranges may be read is a matter of those that are left
 pub record FollowsRest (pages : List PageView) (ranges rest : List Range) : Type 0 where
-  pub readable : IsOk (gathered pages rest) → IsOk (gathered pages ranges)
-  pub missed : (miss : Miss) → gathered pages rest ≡ Err miss → gathered pages ranges ≡ Err miss
+  pub readable : IsOk (gathered_bytes pages rest) → IsOk (gathered_bytes pages ranges)
+  pub missed : (miss : Miss) → gathered_bytes pages rest ≡ Err miss → gathered_bytes pages ranges ≡ Err miss
 
 joined-ok : (first rest : Result (List ℕ) Miss) → IsOk first → IsOk rest → IsOk (joined_bytes first rest)
 joined-ok (Ok bytes) (Ok more) ok also = refl
@@ -182,21 +182,21 @@ joined-missed (Err other) rest miss ok is = absurd cc
 
 module _ (pages : List PageView) (ranges : List Range) (i : ℕ) (d : Range) (within : i < length ranges) (h : FollowsRest pages ranges (drop i ranges)) where
   pub readable-more : IsOk (load pages READ (get_or ranges i d).address (get_or ranges i d).len) → FollowsRest pages ranges (drop (i + 1) ranges)
-  unfolding gathered
+  unfolding gathered_bytes
   readable-more ok = record {
-    readable = λ also. h.readable (subst (λ r. IsOk (gathered pages r)) (sym (from-index ranges i d within)) (joined-ok (load pages READ (get_or ranges i d).address (get_or ranges i d).len) (gathered pages (drop (i + 1) ranges)) ok also));
-    missed = λ miss is. h.missed miss (ap (gathered pages) (from-index ranges i d within) ∙ joined-missed (load pages READ (get_or ranges i d).address (get_or ranges i d).len) (gathered pages (drop (i + 1) ranges)) miss ok is);
+    readable = λ also. h.readable (subst (λ r. IsOk (gathered_bytes pages r)) (sym (from-index ranges i d within)) (joined-ok (load pages READ (get_or ranges i d).address (get_or ranges i d).len) (gathered_bytes pages (drop (i + 1) ranges)) ok also));
+    missed = λ miss is. h.missed miss (ap (gathered_bytes pages) (from-index ranges i d within) ∙ joined-missed (load pages READ (get_or ranges i d).address (get_or ranges i d).len) (gathered_bytes pages (drop (i + 1) ranges)) miss ok is);
   }
 
-  pub readable-missed : (miss : Miss) → load pages READ (get_or ranges i d).address (get_or ranges i d).len ≡ Err miss → gathered pages ranges ≡ Err miss
-  unfolding gathered
-  readable-missed miss is = h.missed miss (ap (gathered pages) (from-index ranges i d within) ∙ ap (λ r. joined_bytes r (gathered pages (drop (i + 1) ranges))) is)
+  pub readable-missed : (miss : Miss) → load pages READ (get_or ranges i d).address (get_or ranges i d).len ≡ Err miss → gathered_bytes pages ranges ≡ Err miss
+  unfolding gathered_bytes
+  readable-missed miss is = h.missed miss (ap (gathered_bytes pages) (from-index ranges i d within) ∙ ap (λ r. joined_bytes r (gathered_bytes pages (drop (i + 1) ranges))) is)
 
-pub readable-end : (pages : List PageView) (ranges : List Range) (i : ℕ) → length ranges ≤ i → FollowsRest pages ranges (drop i ranges) → IsOk (gathered pages ranges)
-readable-end pages ranges i end h = h.readable (subst IsOk (sym (ap (gathered pages) (drop_all i ranges end) ∙ gathered-none pages)) refl)
+pub readable-end : (pages : List PageView) (ranges : List Range) (i : ℕ) → length ranges ≤ i → FollowsRest pages ranges (drop i ranges) → IsOk (gathered_bytes pages ranges)
+readable-end pages ranges i end h = h.readable (subst IsOk (sym (ap (gathered_bytes pages) (drop_all i ranges end) ∙ gathered-none pages)) refl)
 
 -- as many bytes are gathered as the ranges have
-pub gathered-length : (pages : List PageView) (ranges : List Range) (bytes : List ℕ) → gathered pages ranges ≡ Ok bytes → length bytes ≡ total_len ranges
+pub gathered-length : (pages : List PageView) (ranges : List Range) (bytes : List ℕ) → gathered_bytes pages ranges ≡ Ok bytes → length bytes ≡ total_len ranges
 gathered-length pages [] bytes is = let none = sym (gathered-none pages) ∙ is in let same : [] ≡ bytes = cc in sym (ap length same)
 gathered-length pages (range ∷ ranges) bytes is =
     let two = opened pages range ranges (subst IsOk (sym is) refl) in
@@ -207,10 +207,10 @@ gathered-length pages (range ∷ ranges) bytes is =
     omega (arith, ap length same, length-append two.bytes two.more, sum_by-cons (λ r. r.len) range ranges)
 
 -- a piece within the bytes of ranges has its length
-pub piece-length : (pages : List PageView) (ranges : List Range) (m n : ℕ) (piece : List ℕ) → IsOk (gathered pages ranges) → m + n ≤ total_len ranges → IfOk (gathered pages ranges) (λ bytes. piece ≡ take n (drop m bytes)) → length piece ≡ n
-piece-length pages ranges m n piece ok within is = by-found (gathered pages ranges) refl ok is
+pub piece-length : (pages : List PageView) (ranges : List Range) (m n : ℕ) (piece : List ℕ) → IsOk (gathered_bytes pages ranges) → m + n ≤ total_len ranges → IfOk (gathered_bytes pages ranges) (λ bytes. piece ≡ take n (drop m bytes)) → length piece ≡ n
+piece-length pages ranges m n piece ok within is = by-found (gathered_bytes pages ranges) refl ok is
   where
-    by-found : (found : Result (List ℕ) Miss) → gathered pages ranges ≡ found → IsOk found → IfOk found (λ bytes. piece ≡ take n (drop m bytes)) → length piece ≡ n
+    by-found : (found : Result (List ℕ) Miss) → gathered_bytes pages ranges ≡ found → IsOk found → IfOk found (λ bytes. piece ≡ take n (drop m bytes)) → length piece ≡ n
     by-found (Ok bytes) is ok piece_is =
         let whole = gathered-length pages ranges bytes is in
         ap length piece_is ∙ length-take-le n (drop m bytes) (omega (arith, length-drop m bytes))

@@ -5,11 +5,11 @@ use Rattle.std.proofs.lemmas.List.{drop_all, length-take, length-drop}
 use Rattle.std.specs.Prelude.{min, ◌-◌}
 use Rattle.dt_space.specs.declared.access.Miss.{Miss}
 use Rattle.dt_space.specs.declared.access.TheConstants.{WRITE}
-use Rattle.dt_space.specs.Space.{PageView, byte_at, low_byte, load}
-use Rattle.dt_space.specs.Write.{write, stored, where_allowed}
+use Rattle.dt_space.specs.Space.{PageView, byte_at, byte_before, load}
+use Rattle.dt_space.specs.Write.{pages_after_write, pages_after_store, pages_if_allowed}
 use Rattle.dt_space.proofs.Kept.{write-some}
 use Rattle.dt_iocalls.specs.declared.ranges.Range.{Range}
-use Rattle.dt_iocalls.specs.Ranges.{on_pages, scattered}
+use Rattle.dt_iocalls.specs.Ranges.{on_pages, scattered_pages}
 
 -- the same bytes may be written
 abbrev pub SameRights : List PageView → List PageView → Type 0
@@ -20,13 +20,13 @@ abbrev LikeLoad : Result (List ℕ) Miss → Result (List ℕ) Miss → Type 0
 LikeLoad (Ok old) new = IsOk new
 LikeLoad (Err miss) new = new ≡ Err miss
 
-like-byte : (address : ℕ) (old new : Option ℕ) (rest more : Result (List ℕ) Miss) → is_some new ≡ is_some old → LikeLoad rest more → LikeLoad (low_byte address old rest) (low_byte address new more)
+like-byte : (address : ℕ) (old new : Option ℕ) (rest more : Result (List ℕ) Miss) → is_some new ≡ is_some old → LikeLoad rest more → LikeLoad (byte_before address old rest) (byte_before address new more)
 like-byte address None None rest more same like = refl
 like-byte address None (Some y) rest more same like = absurd cc
 like-byte address (Some x) None rest more same like = absurd cc
 like-byte address (Some x) (Some y) (Ok bytes) (Ok others) same like = refl
 like-byte address (Some x) (Some y) (Ok bytes) (Err miss) same like = absurd cc
-like-byte address (Some x) (Some y) (Err miss) more same like = ap (low_byte address (Some y)) like
+like-byte address (Some x) (Some y) (Err miss) more same like = ap (byte_before address (Some y)) like
 
 like-load : (old new : List PageView) → SameRights old new → (count address : ℕ) → LikeLoad (load old WRITE address count) (load new WRITE address count)
 unfolding load
@@ -67,18 +67,18 @@ like-same (Ok x) (Ok y) r like pages = pages
 like-same (Ok x) (Err miss) r like pages = absurd cc
 like-same (Err miss) b r like pages = subst (λ found. LikePages found r) like pages
 
-like-store : (load_is rest : Result (List ℕ) Miss) (pages : List PageView) (next : List PageView → Result (List PageView) Miss) → LikePages rest (next pages) → LikePages (then_look load_is rest) (on_pages (where_allowed load_is pages) next)
+like-store : (load_is rest : Result (List ℕ) Miss) (pages : List PageView) (next : List PageView → Result (List PageView) Miss) → LikePages rest (next pages) → LikePages (then_look load_is rest) (on_pages (pages_if_allowed load_is pages) next)
 like-store (Ok bytes) rest pages next like = like
 like-store (Err miss) rest pages next like = refl
 
-scattered-looked : (pages : List PageView) (ranges : List Range) (bytes : List ℕ) → LikePages (looked pages ranges bytes) (scattered pages ranges bytes)
-unfolding looked scattered
+scattered-looked : (pages : List PageView) (ranges : List Range) (bytes : List ℕ) → LikePages (looked pages ranges bytes) (scattered_pages pages ranges bytes)
+unfolding looked scattered_pages
 scattered-looked pages [] bytes = refl
 scattered-looked pages (range ∷ ranges) bytes =
     let part = take range.len bytes in
-    let new = write pages range.address part in
-    like-store (load pages WRITE range.address (length part)) (looked pages ranges (drop range.len bytes)) new (λ next. scattered next ranges (drop range.len bytes))
-    (like-same (looked pages ranges (drop range.len bytes)) (looked new ranges (drop range.len bytes)) (scattered new ranges (drop range.len bytes))
+    let new = pages_after_write pages range.address part in
+    like-store (load pages WRITE range.address (length part)) (looked pages ranges (drop range.len bytes)) new (λ next. scattered_pages next ranges (drop range.len bytes))
+    (like-same (looked pages ranges (drop range.len bytes)) (looked new ranges (drop range.len bytes)) (scattered_pages new ranges (drop range.len bytes))
     (like-looked pages new (write-some part pages WRITE range.address) ranges (drop range.len bytes))
     (scattered-looked new ranges (drop range.len bytes)))
 
@@ -102,49 +102,49 @@ looked-more pages all ranges i d bytes part rest within part_is rest_is may so_f
     ∙ looked-past pages range (drop (i + 1) ranges) bytes (load pages WRITE range.address (length (take range.len bytes))) refl (subst (λ p. IsOk (load pages WRITE range.address (length p))) part_is may)
     ∙ ap (looked pages (drop (i + 1) ranges)) (sym rest_is)
 
-pub looked-missed : (pages : List PageView) (ranges : List Range) (i : ℕ) (d : Range) (start bytes part : List ℕ) (miss : Miss) → i < length ranges → part ≡ take (get_or ranges i d).len bytes → load pages WRITE (get_or ranges i d).address (length part) ≡ Err miss → looked pages ranges start ≡ looked pages (drop i ranges) bytes → scattered pages ranges start ≡ Err miss
+pub looked-missed : (pages : List PageView) (ranges : List Range) (i : ℕ) (d : Range) (start bytes part : List ℕ) (miss : Miss) → i < length ranges → part ≡ take (get_or ranges i d).len bytes → load pages WRITE (get_or ranges i d).address (length part) ≡ Err miss → looked pages ranges start ≡ looked pages (drop i ranges) bytes → scattered_pages pages ranges start ≡ Err miss
 looked-missed pages ranges i d start bytes part miss within part_is found so_far =
     let range = get_or ranges i d in
     let missed : looked pages ranges start ≡ Err miss =
     so_far ∙ ap (λ r. looked pages r bytes) (from-index ranges i d within)
     ∙ looked-step pages range (drop (i + 1) ranges) bytes (Err miss) (subst (λ p. load pages WRITE range.address (length p) ≡ Err miss) part_is found) in
-    subst (λ r. LikePages r (scattered pages ranges start)) missed (scattered-looked pages ranges start)
+    subst (λ r. LikePages r (scattered_pages pages ranges start)) missed (scattered-looked pages ranges start)
 
 looked-none : (pages : List PageView) (bytes : List ℕ) → looked pages [] bytes ≡ Ok []
 unfolding looked
 looked-none pages bytes = refl
 
-pub looked-end : (pages : List PageView) (ranges : List Range) (i : ℕ) (start bytes : List ℕ) → length ranges ≤ i → looked pages ranges start ≡ looked pages (drop i ranges) bytes → IsOk (scattered pages ranges start)
+pub looked-end : (pages : List PageView) (ranges : List Range) (i : ℕ) (start bytes : List ℕ) → length ranges ≤ i → looked pages ranges start ≡ looked pages (drop i ranges) bytes → IsOk (scattered_pages pages ranges start)
 looked-end pages ranges i start bytes end so_far =
     let may : looked pages ranges start ≡ Ok [] = so_far ∙ ap (λ r. looked pages r bytes) (drop_all i ranges end) ∙ looked-none pages bytes in
-    subst (λ r. LikePages r (scattered pages ranges start)) may (scattered-looked pages ranges start)
+    subst (λ r. LikePages r (scattered_pages pages ranges start)) may (scattered-looked pages ranges start)
 
 -- one range more is filled
-scattered-step : (pages : List PageView) (range : Range) (rest : List Range) (bytes : List ℕ) (found : Result (List PageView) Miss) → stored pages range.address (take range.len bytes) ≡ found → scattered pages (range ∷ rest) bytes ≡ on_pages found (λ next. scattered next rest (drop range.len bytes))
-unfolding scattered
-scattered-step pages range rest bytes found is = ap (λ r. on_pages r (λ next. scattered next rest (drop range.len bytes))) is
+scattered-step : (pages : List PageView) (range : Range) (rest : List Range) (bytes : List ℕ) (found : Result (List PageView) Miss) → pages_after_store pages range.address (take range.len bytes) ≡ found → scattered_pages pages (range ∷ rest) bytes ≡ on_pages found (λ next. scattered_pages next rest (drop range.len bytes))
+unfolding scattered_pages
+scattered-step pages range rest bytes found is = ap (λ r. on_pages r (λ next. scattered_pages next rest (drop range.len bytes))) is
 
-pub scattered-more : (pages new : List PageView) (all : Result (List PageView) Miss) (ranges : List Range) (i : ℕ) (d : Range) (bytes part rest : List ℕ) → i < length ranges → part ≡ take (get_or ranges i d).len bytes → rest ≡ drop (get_or ranges i d).len bytes → stored pages (get_or ranges i d).address part ≡ Ok new → all ≡ scattered pages (drop i ranges) bytes → all ≡ scattered new (drop (i + 1) ranges) rest
+pub scattered-more : (pages new : List PageView) (all : Result (List PageView) Miss) (ranges : List Range) (i : ℕ) (d : Range) (bytes part rest : List ℕ) → i < length ranges → part ≡ take (get_or ranges i d).len bytes → rest ≡ drop (get_or ranges i d).len bytes → pages_after_store pages (get_or ranges i d).address part ≡ Ok new → all ≡ scattered_pages pages (drop i ranges) bytes → all ≡ scattered_pages new (drop (i + 1) ranges) rest
 scattered-more pages new all ranges i d bytes part rest within part_is rest_is found so_far =
     let range = get_or ranges i d in
-    so_far ∙ ap (λ r. scattered pages r bytes) (from-index ranges i d within)
-    ∙ scattered-step pages range (drop (i + 1) ranges) bytes (Ok new) (subst (λ p. stored pages range.address p ≡ Ok new) part_is found)
-    ∙ ap (scattered new (drop (i + 1) ranges)) (sym rest_is)
+    so_far ∙ ap (λ r. scattered_pages pages r bytes) (from-index ranges i d within)
+    ∙ scattered-step pages range (drop (i + 1) ranges) bytes (Ok new) (subst (λ p. pages_after_store pages range.address p ≡ Ok new) part_is found)
+    ∙ ap (scattered_pages new (drop (i + 1) ranges)) (sym rest_is)
 
-pub scattered-missed : (pages : List PageView) (all : Result (List PageView) Miss) (ranges : List Range) (i : ℕ) (d : Range) (bytes part : List ℕ) (miss : Miss) → i < length ranges → part ≡ take (get_or ranges i d).len bytes → stored pages (get_or ranges i d).address part ≡ Err miss → all ≡ scattered pages (drop i ranges) bytes → IsOk all → ⊥
+pub scattered-missed : (pages : List PageView) (all : Result (List PageView) Miss) (ranges : List Range) (i : ℕ) (d : Range) (bytes part : List ℕ) (miss : Miss) → i < length ranges → part ≡ take (get_or ranges i d).len bytes → pages_after_store pages (get_or ranges i d).address part ≡ Err miss → all ≡ scattered_pages pages (drop i ranges) bytes → IsOk all → ⊥
 scattered-missed pages all ranges i d bytes part miss within part_is found so_far may =
     let range = get_or ranges i d in
     let missed : all ≡ Err miss =
-    so_far ∙ ap (λ r. scattered pages r bytes) (from-index ranges i d within)
-    ∙ scattered-step pages range (drop (i + 1) ranges) bytes (Err miss) (subst (λ p. stored pages range.address p ≡ Err miss) part_is found) in
+    so_far ∙ ap (λ r. scattered_pages pages r bytes) (from-index ranges i d within)
+    ∙ scattered-step pages range (drop (i + 1) ranges) bytes (Err miss) (subst (λ p. pages_after_store pages range.address p ≡ Err miss) part_is found) in
     let clash : IsOk {T = List PageView} {E = Miss} (Err miss) = rw missed at may in absurd cc
 
-scattered-none : (pages : List PageView) (bytes : List ℕ) → scattered pages [] bytes ≡ Ok pages
-unfolding scattered
+scattered-none : (pages : List PageView) (bytes : List ℕ) → scattered_pages pages [] bytes ≡ Ok pages
+unfolding scattered_pages
 scattered-none pages bytes = refl
 
-pub scattered-end : (pages : List PageView) (all : Result (List PageView) Miss) (ranges : List Range) (i : ℕ) (bytes : List ℕ) → length ranges ≤ i → all ≡ scattered pages (drop i ranges) bytes → all ≡ Ok pages
-scattered-end pages all ranges i bytes end so_far = so_far ∙ ap (λ r. scattered pages r bytes) (drop_all i ranges end) ∙ scattered-none pages bytes
+pub scattered-end : (pages : List PageView) (all : Result (List PageView) Miss) (ranges : List Range) (i : ℕ) (bytes : List ℕ) → length ranges ≤ i → all ≡ scattered_pages pages (drop i ranges) bytes → all ≡ Ok pages
+scattered-end pages all ranges i bytes end so_far = so_far ∙ ap (λ r. scattered_pages pages r bytes) (drop_all i ranges end) ∙ scattered-none pages bytes
 
 -- whether bytes may be put into ranges is a matter of how many they are
 looked-alike : (pages : List PageView) (ranges : List Range) (a b : List ℕ) → length a ≡ length b → looked pages ranges a ≡ looked pages ranges b
@@ -160,17 +160,17 @@ by-looks (Ok x) a b like_a like_b may = like_b
 by-looks (Err miss) (Ok pages) b like_a like_b may = absurd cc
 by-looks (Err miss) (Err other) b like_a like_b may = absurd cc
 
-pub may-alike : (pages : List PageView) (ranges : List Range) (a b : List ℕ) → length a ≡ length b → IsOk (scattered pages ranges a) → IsOk (scattered pages ranges b)
+pub may-alike : (pages : List PageView) (ranges : List Range) (a b : List ℕ) → length a ≡ length b → IsOk (scattered_pages pages ranges a) → IsOk (scattered_pages pages ranges b)
 may-alike pages ranges a b same may =
-    by-looks (looked pages ranges a) (scattered pages ranges a) (scattered pages ranges b) (scattered-looked pages ranges a)
-    (subst (λ found. LikePages found (scattered pages ranges b)) (sym (looked-alike pages ranges a b same)) (scattered-looked pages ranges b)) may
+    by-looks (looked pages ranges a) (scattered_pages pages ranges a) (scattered_pages pages ranges b) (scattered-looked pages ranges a)
+    (subst (λ found. LikePages found (scattered_pages pages ranges b)) (sym (looked-alike pages ranges a b same)) (scattered-looked pages ranges b)) may
 
 missed-looks : (found : Result (List ℕ) Miss) (a b : Result (List PageView) Miss) (miss : Miss) → LikePages found a → LikePages found b → a ≡ Err miss → b ≡ Err miss
 missed-looks (Ok x) (Ok pages) b miss like_a like_b is = absurd cc
 missed-looks (Ok x) (Err other) b miss like_a like_b is = absurd cc
 missed-looks (Err other) a b miss like_a like_b is = like_b ∙ sym like_a ∙ is
 
-pub missed-alike : (pages : List PageView) (ranges : List Range) (a b : List ℕ) (miss : Miss) → length a ≡ length b → scattered pages ranges a ≡ Err miss → scattered pages ranges b ≡ Err miss
+pub missed-alike : (pages : List PageView) (ranges : List Range) (a b : List ℕ) (miss : Miss) → length a ≡ length b → scattered_pages pages ranges a ≡ Err miss → scattered_pages pages ranges b ≡ Err miss
 missed-alike pages ranges a b miss same is =
-    missed-looks (looked pages ranges a) (scattered pages ranges a) (scattered pages ranges b) miss (scattered-looked pages ranges a)
-    (subst (λ found. LikePages found (scattered pages ranges b)) (sym (looked-alike pages ranges a b same)) (scattered-looked pages ranges b)) is
+    missed-looks (looked pages ranges a) (scattered_pages pages ranges a) (scattered_pages pages ranges b) miss (scattered-looked pages ranges a)
+    (subst (λ found. LikePages found (scattered_pages pages ranges b)) (sym (looked-alike pages ranges a b same)) (scattered-looked pages ranges b)) is

@@ -8,7 +8,7 @@ use Rattle.dt_iocalls.specs.Piping.{pipe2_row}
 use Rattle.dt_iocalls.specs.Reading.{read_row, readv_row, pread64_row}
 use Rattle.dt_iocalls.specs.Seeking.{lseek_row}
 use Rattle.dt_iocalls.specs.Writing.{write_row, writev_row, pwrite64_row, ftruncate_row}
-use Rattle.dt_scene.specs.Scene.{Scene, Row, unsupported}
+use Rattle.dt_callbase.specs.Scene.{Scene, Reply, unsupported_reply}
 
 -- the number is that of a call on open files
 abbrev pub is_io : ℕ → Bool
@@ -16,7 +16,7 @@ is_io number = list_any (λ call. call == number)
     (DUP ∷ DUP3 ∷ FCNTL ∷ IOCTL ∷ FTRUNCATE ∷ CLOSE ∷ PIPE2 ∷ GETDENTS64 ∷ LSEEK ∷ READ ∷ WRITE ∷ READV ∷ WRITEV ∷ PREAD64 ∷ PWRITE64 ∷ [])
 
 -- the row of the call of a number; any other number is not supported
-unfoldable pub io_row : ℕ → List ℕ → Scene → Row
+unfoldable pub io_row : ℕ → List ℕ → Scene → Reply
 io_row number args s =
     if number == DUP then dup_row args s
     else if number == DUP3 then dup3_row args s
@@ -33,4 +33,4 @@ io_row number args s =
     else if number == WRITEV then writev_row args s
     else if number == PREAD64 then pread64_row args s
     else if number == PWRITE64 then pwrite64_row args s
-    else unsupported s
+    else unsupported_reply s

@@ -5,7 +5,7 @@ use Rattle.dt_fds.specs.declared.desc.Desc.{Desc}
 use Rattle.dt_fds.specs.declared.desc.Spot.{Spot}
 use Rattle.dt_fds.specs.declared.desc.Spot.TheVariants.{At, After}
 use Rattle.dt_fds.specs.Descriptions.{slot_at, with_slot_description, at_spot}
-use Rattle.dt_scene.specs.Scene.{Scene}
+use Rattle.dt_callbase.specs.Scene.{Scene}
 
 -- the description may be read
 abbrev pub is_readable : Desc → Bool

@@ -9,10 +9,10 @@ use Rattle.dt_space.specs.declared.access.ReadErr.{ReadErr}
 use Rattle.dt_space.specs.declared.access.ReadErr.TheVariants as read_err
 use Rattle.dt_space.specs.declared.access.TheConstants.{READ}
 use Rattle.dt_space.specs.Space.{PageView, load, loaded_number}
-use Rattle.dt_space.specs.Write.{stored}
+use Rattle.dt_space.specs.Write.{pages_after_store}
 use Rattle.dt_iocalls.specs.declared.ranges.Range.{Range}
 use Rattle.dt_iocalls.specs.declared.ranges.TheConstants.{IOVEC_LEN, IOV_LEN}
-use Rattle.dt_scene.specs.Scene.{Scene, Row, refused}
+use Rattle.dt_callbase.specs.Scene.{Scene, Reply, refused_reply}
 
 -- one range alone, of a buffer that is no list of them
 abbrev pub one_range : ℕ → ℕ → List Range
@@ -34,13 +34,13 @@ joined_bytes (Ok bytes) (Err miss) = Err miss
 joined_bytes (Ok bytes) (Ok rest) = Ok (bytes ++ rest)
 
 -- the bytes of ranges, or the first miss
-unfoldable pub gathered : List PageView → List Range → Result (List ℕ) Miss
-gathered pages [] = Ok []
-gathered pages (range ∷ ranges) = joined_bytes (load pages READ range.address range.len) (gathered pages ranges)
+unfoldable pub gathered_bytes : List PageView → List Range → Result (List ℕ) Miss
+gathered_bytes pages [] = Ok []
+gathered_bytes pages (range ∷ ranges) = joined_bytes (load pages READ range.address range.len) (gathered_bytes pages ranges)
 
 -- why bytes of ranges were not gathered: the first miss, or want of memory
 abbrev pub IsGatherErr : List PageView → List Range → ReadErr → Type 0
-IsGatherErr pages ranges (read_err.Miss miss) = gathered pages ranges ≡ Err miss
+IsGatherErr pages ranges (read_err.Miss miss) = gathered_bytes pages ranges ≡ Err miss
 IsGatherErr pages ranges read_err.NoMemory = Unit {0}
 
 -- what follows on pages, unless there was a miss
@@ -49,10 +49,10 @@ on_pages (Err miss) next = Err miss
 on_pages (Ok pages) next = next pages
 
 -- the pages after bytes were put into ranges, as far as the bytes go, or the first miss
-unfoldable pub scattered : List PageView → List Range → List ℕ → Result (List PageView) Miss
-scattered pages [] bytes = Ok pages
-scattered pages (range ∷ ranges) bytes =
-    on_pages (stored pages range.address (take range.len bytes)) (λ next. scattered next ranges (drop range.len bytes))
+unfoldable pub scattered_pages : List PageView → List Range → List ℕ → Result (List PageView) Miss
+scattered_pages pages [] bytes = Ok pages
+scattered_pages pages (range ∷ ranges) bytes =
+    on_pages (pages_after_store pages range.address (take range.len bytes)) (λ next. scattered_pages next ranges (drop range.len bytes))
 
 -- `struct iovec` of two numbers of 8 bytes that were loaded: an address, and a length
 abbrev pub iovec_of : Result ℕ Miss → Result ℕ Miss → Result Range Errno
@@ -85,6 +85,6 @@ unfoldable pub ranges_at : List PageView → ℕ → ℕ → Result (List Range)
 ranges_at pages at count = if nat_lt IOV_MAX count then Err Inval else cut_ranges (iovecs_at pages at count)
 
 -- a row for ranges that were read, or the reason why there are none
-abbrev pub on_ranges : Scene → Result (List Range) Errno → (List Range → Row) → Row
-on_ranges s (Err errno) row = refused s errno
+abbrev pub on_ranges : Scene → Result (List Range) Errno → (List Range → Reply) → Reply
+on_ranges s (Err errno) row = refused_reply s errno
 on_ranges s (Ok ranges) row = row ranges

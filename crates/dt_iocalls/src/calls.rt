@@ -1,7 +1,7 @@
 // The calls on open files, by their numbers.
 ghost use Rattle.std.specs.Prelude.{◌≡◌};
 ghost use Rattle.dt_iocalls.specs.Calls.{is_io, io_row};
-ghost use Rattle.dt_scene.specs.Sound.{Sound, Serves, stage};
+ghost use Rattle.dt_callbase.specs.Sound.{Sound, HasRowReply, stage};
 
 use crate::descriptors::{close, dup, dup3, fcntl, ioctl};
 use crate::entries::getdents64;
@@ -14,8 +14,8 @@ use dt_base::abi::{
     READV, WRITE, WRITEV,
 };
 use dt_base::{Answer, Caller};
+use dt_callbase::Fs;
 use dt_host::{Host, HostErr};
-use dt_scene::Fs;
 use dt_space::Space;
 use std::alloc::Global;
 
@@ -54,7 +54,7 @@ pub fn io_call<H: Host>(
     args: [u64; 6],
 ) -> Result<Answer, HostErr>
     requires { Sound (stage fs.old (H.view host.old) caller.now space.old) }
-    ensures { Serves (io_row number) args (stage fs.old (H.view host.old) caller.now space.old)
+    ensures { HasRowReply (io_row number) args (stage fs.old (H.view host.old) caller.now space.old)
         (stage fs.new (H.view host.new) caller.now space.new) result
         (H.count host.old) (H.count host.new) }
 {

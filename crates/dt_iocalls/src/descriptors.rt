@@ -1,22 +1,22 @@
 // The calls on descriptors themselves.
 ghost use Rattle.std.specs.Prelude.{◌≡◌, ◌≢◌, ◌≤◌, false, unwrap_or};
-ghost use Rattle.dt_fds.specs.declared.desc.TheConstants.{DESCRIPTOR_LIMIT as MOST};
 ghost use Rattle.dt_fds.specs.Descriptions.{cloexec_at};
 ghost use Rattle.dt_fds.specs.Holding.{dup_call};
-ghost use Rattle.dt_iocalls.specs.Descriptors.{close_row, dup_row, dups_at, dup3_row, is_command, dups_from};
-ghost use Rattle.dt_iocalls.specs.Descriptors.{sets_cloexec, sets_flags, flags_of, commanded, fcntl_row, ioctl_row};
-ghost use Rattle.dt_base.specs.Abi.{has};
-ghost use Rattle.dt_scene.specs.Scene.{by_outcome, holding};
-ghost use Rattle.dt_scene.specs.Sound.{Sound, Serves, Ends, stage, scene};
+ghost use Rattle.dt_iocalls.specs.Descriptors.{close_row, dup_row, dup_at_reply, dup3_row, is_command, dup_from_reply};
+ghost use Rattle.dt_iocalls.specs.Descriptors.{set_cloexec_reply, set_flags_reply, flags_of, command_reply, fcntl_row};
+ghost use Rattle.dt_iocalls.specs.Descriptors.{ioctl_row};
+ghost use Rattle.dt_base.specs.Abi.{has_flag};
+ghost use Rattle.dt_callbase.specs.Scene.{files_call_reply, holding};
+ghost use Rattle.dt_callbase.specs.Sound.{Sound, HasRowReply, HasReplyOf, stage, scene};
 
 use dt_base::abi::{
     F_DUPFD, F_DUPFD_CLOEXEC, F_GETFD, F_GETFL, F_SETFD, F_SETFL, FD_CLOEXEC, O_APPEND, O_CLOEXEC,
-    O_NONBLOCK, has, low_word,
+    O_NONBLOCK, has_flag, low_word,
 };
 use dt_base::{Answer, Caller, Errno};
+use dt_callbase::Fs;
 use dt_fds::{DESCRIPTOR_LIMIT, Desc};
 use dt_host::{CallErr, Host, HostErr};
-use dt_scene::Fs;
 use dt_space::Space;
 
 /// close(2): closes a descriptor, and answers 0. The error is EBADF.
@@ -29,7 +29,7 @@ pub fn close<H: Host>(
     args: [u64; 6],
 ) -> Result<Answer, HostErr>
     requires { Sound (stage fs.old (H.view host.old) caller.now space.now) }
-    ensures { Serves close_row args (stage fs.old (H.view host.old) caller.now space.now)
+    ensures { HasRowReply close_row args (stage fs.old (H.view host.old) caller.now space.now)
         (stage fs.new (H.view host.new) caller.now space.now) result
         (H.count host.old) (H.count host.new) }
 {
@@ -54,7 +54,7 @@ pub fn dup<H: Host>(
     args: [u64; 6],
 ) -> Result<Answer, HostErr>
     requires { Sound (stage fs.old (H.view host.now) caller.now space.now) }
-    ensures { Serves dup_row args (stage fs.old (H.view host.now) caller.now space.now)
+    ensures { HasRowReply dup_row args (stage fs.old (H.view host.now) caller.now space.now)
         (stage fs.new (H.view host.now) caller.now space.now) result
         (H.count host.now) (H.count host.now) }
 {
@@ -71,9 +71,8 @@ fn duplicate<H: Host>(
     from: u32,
     cloexec: bool,
 ) -> Result<Answer, HostErr>
-    requires sound { Sound (stage fs.old (H.view host.now) caller.now space.now) }
-    requires from { from ≤ MOST }
-    ensures { Ends (λ s. by_outcome (λ new. new) s (dup_call s.caller.vpid fd from cloexec (holding s)))
+    requires { Sound (stage fs.old (H.view host.now) caller.now space.now) }
+    ensures { HasReplyOf (λ s. files_call_reply (λ new. new) s (dup_call s.caller.vpid fd from cloexec (holding s)))
         (stage fs.old (H.view host.now) caller.now space.now)
         (stage fs.new (H.view host.now) caller.now space.now) result
         (H.count host.now) (H.count host.now) }
@@ -97,7 +96,7 @@ pub fn dup3<H: Host>(
     args: [u64; 6],
 ) -> Result<Answer, HostErr>
     requires { Sound (stage fs.old (H.view host.old) caller.now space.now) }
-    ensures { Serves dup3_row args (stage fs.old (H.view host.old) caller.now space.now)
+    ensures { HasRowReply dup3_row args (stage fs.old (H.view host.old) caller.now space.now)
         (stage fs.new (H.view host.new) caller.now space.now) result
         (H.count host.old) (H.count host.new) }
 {
@@ -122,12 +121,12 @@ fn dup_at<H: Host>(
 ) -> Result<Answer, HostErr>
     requires sound { Sound (stage fs.old (H.view host.old) caller.now space.now) }
     requires apart { old ≢ new }
-    ensures { Ends (dups_at old new flags) (stage fs.old (H.view host.old) caller.now space.now)
+    ensures { HasReplyOf (dup_at_reply old new flags) (stage fs.old (H.view host.old) caller.now space.now)
         (stage fs.new (H.view host.new) caller.now space.now) result
         (H.count host.old) (H.count host.new) }
 {
     let _before = host.faults();
-    let cloexec = has(flags, O_CLOEXEC);
+    let cloexec = has_flag(flags, O_CLOEXEC);
     match fs
         .files
         .dup_at(host, &mut fs.tree, caller.vpid, old, new, cloexec)
@@ -150,7 +149,7 @@ pub fn fcntl<H: Host>(
     args: [u64; 6],
 ) -> Result<Answer, HostErr>
     requires { Sound (stage fs.old (H.view host.now) caller.now space.now) }
-    ensures { Serves fcntl_row args (stage fs.old (H.view host.now) caller.now space.now)
+    ensures { HasRowReply fcntl_row args (stage fs.old (H.view host.now) caller.now space.now)
         (stage fs.new (H.view host.now) caller.now space.now) result
         (H.count host.now) (H.count host.now) }
 {
@@ -187,7 +186,7 @@ fn flags_of(desc: &Desc) -> u32
 }
 
 // Carries out a command, where the flags of the description are these.
-#[tactic(auto, unfolding(crate::specs::Descriptors::commanded))]
+#[tactic(auto, unfolding(crate::specs::Descriptors::command_reply))]
 fn carry_out<H: Host>(
     fs: &mut Fs,
     host: &H,
@@ -199,7 +198,7 @@ fn carry_out<H: Host>(
     flags: u32,
 ) -> Result<Answer, HostErr>
     requires { Sound (stage fs.old (H.view host.now) caller.now space.now) }
-    ensures { Ends (commanded command fd arg flags)
+    ensures { HasReplyOf (command_reply command fd arg flags)
         (stage fs.old (H.view host.now) caller.now space.now)
         (stage fs.new (H.view host.now) caller.now space.now) result
         (H.count host.now) (H.count host.now) }
@@ -226,7 +225,7 @@ fn dup_from<H: Host>(
     cloexec: bool,
 ) -> Result<Answer, HostErr>
     requires { Sound (stage fs.old (H.view host.now) caller.now space.now) }
-    ensures { Ends (dups_from fd from cloexec)
+    ensures { HasReplyOf (dup_from_reply fd from cloexec)
         (stage fs.old (H.view host.now) caller.now space.now)
         (stage fs.new (H.view host.now) caller.now space.now) result
         (H.count host.now) (H.count host.now) }
@@ -254,7 +253,7 @@ fn set_cloexec<H: Host>(
     arg: u64,
 ) -> Result<Answer, HostErr>
     requires { Sound (stage fs.old (H.view host.now) caller.now space.now) }
-    ensures { Ends (sets_cloexec fd arg)
+    ensures { HasReplyOf (set_cloexec_reply fd arg)
         (stage fs.old (H.view host.now) caller.now space.now)
         (stage fs.new (H.view host.now) caller.now space.now) result
         (H.count host.now) (H.count host.now) }
@@ -274,7 +273,7 @@ fn set_flags<H: Host>(
     arg: u64,
 ) -> Result<Answer, HostErr>
     requires { Sound (stage fs.old (H.view host.now) caller.now space.now) }
-    ensures { Ends (sets_flags fd arg)
+    ensures { HasReplyOf (set_flags_reply fd arg)
         (stage fs.old (H.view host.now) caller.now space.now)
         (stage fs.new (H.view host.now) caller.now space.now) result
         (H.count host.now) (H.count host.now) }
@@ -287,7 +286,7 @@ fn set_flags<H: Host>(
 
 // Whether a flag is among those of an argument.
 fn asks_for(arg: u64, flag: u64) -> bool
-    ensures { result ≡ has arg flag }
+    ensures { result ≡ has_flag arg flag }
 {
     arg & flag == flag
 }
@@ -302,7 +301,7 @@ pub fn ioctl<H: Host>(
     args: [u64; 6],
 ) -> Result<Answer, HostErr>
     requires { Sound (stage fs.now (H.view host.now) caller.now space.now) }
-    ensures { Serves ioctl_row args (stage fs.now (H.view host.now) caller.now space.now)
+    ensures { HasRowReply ioctl_row args (stage fs.now (H.view host.now) caller.now space.now)
         (stage fs.now (H.view host.now) caller.now space.now) result
         (H.count host.now) (H.count host.now) }
 {

@@ -4,21 +4,22 @@ ghost use Rattle.std.specs.Prelude.{OnOk, not, is_some, option_map};
 ghost use Rattle.dt_base.specs.Abi.{low_word, byte_count};
 ghost use Rattle.dt_fds.specs.Descriptions.{description_at, is_of_dir};
 ghost use Rattle.dt_host.specs.World.{Forest, IsDir};
-ghost use Rattle.dt_space.specs.Write.{stored};
+ghost use Rattle.dt_space.specs.Write.{pages_after_store};
 ghost use Rattle.dt_tree.specs.Shape.{is_removed};
 ghost use Rattle.dt_tree.specs.Table.{Stands, shape_of};
-ghost use Rattle.dt_iocalls.specs.Entries.{record_len, dirent, dirents, fitting_entries, entries_told, tells};
-ghost use Rattle.dt_iocalls.specs.Entries.{tells_left, left_of};
-ghost use Rattle.dt_iocalls.specs.Entries.{lists, getdents64_row};
+ghost use Rattle.dt_iocalls.specs.Entries.{record_len, dirent, dirents, fitting_entries, entries_fill_reply};
+ghost use Rattle.dt_iocalls.specs.Entries.{fitting_entries_reply};
+ghost use Rattle.dt_iocalls.specs.Entries.{left_entries_reply, entries_left};
+ghost use Rattle.dt_iocalls.specs.Entries.{listing_reply, getdents64_row};
 ghost use Rattle.dt_iocalls.specs.Offsets.{name_of};
-ghost use Rattle.dt_scene.specs.Arguments.{argument};
-ghost use Rattle.dt_scene.specs.Sound.{Sound, Serves, Ends, Reaches, stage, scene};
+ghost use Rattle.dt_callbase.specs.Arguments.{argument};
+ghost use Rattle.dt_callbase.specs.Sound.{Sound, HasRowReply, HasReplyOf, HasReply, stage, scene};
 
 use dt_base::abi::{byte_count, low_word};
 use dt_base::{Answer, Blob, Caller, Errno, NoMemory};
+use dt_callbase::Fs;
 use dt_fds::{DescKind, Spot};
 use dt_host::{Host, HostErr};
-use dt_scene::Fs;
 use dt_space::Space;
 use dt_tree::{Listed, Tree};
 use std::alloc::Global;
@@ -103,7 +104,7 @@ pub fn getdents64<H: Host>(
     args: [u64; 6],
 ) -> Result<Answer, HostErr>
     requires { Sound (stage fs.old (H.view host.old) caller.now space.old) }
-    ensures { Serves getdents64_row args (stage fs.old (H.view host.old) caller.now space.old)
+    ensures { HasRowReply getdents64_row args (stage fs.old (H.view host.old) caller.now space.old)
         (stage fs.new (H.view host.new) caller.now space.new) result
         (H.count host.old) (H.count host.new) }
 {
@@ -129,7 +130,7 @@ fn name_of(spot: &Spot) -> Result<Option<Blob>, NoMemory>
 }
 
 // Lists a directory from a name on.
-#[tactic(auto, unfolding(crate::specs::Entries::lists), using(crate::proofs::Left::tells_first, crate::proofs::Scenes::after_asking))]
+#[tactic(auto, unfolding(crate::specs::Entries::listing_reply), using(crate::proofs::Left::tells_first, crate::proofs::Scenes::after_asking))]
 fn list<H: Host>(
     alloc: Global,
     fs: &mut Fs,
@@ -144,7 +145,8 @@ fn list<H: Host>(
     requires directory { IsDir (shape_of fs.old.tree (H.view host.old).forest) n }
     requires of_dir { IfSome (description_at fs.old.files.descriptors caller.now.vpid (low_word (argument args 0)))
         (λ desc. true ≡ is_of_dir desc.kind) }
-    ensures { Ends (lists (low_word (argument args 0)) (argument args 1) (byte_count (argument args 2)) n last)
+    ensures { HasReplyOf (listing_reply (low_word (argument args 0)) (argument args 1)
+        (byte_count (argument args 2)) n last)
         (stage fs.old (H.view host.old) caller.now space.old)
         (stage fs.new (H.view host.new) caller.now space.new) result
         (H.count host.old) (H.count host.new) }
@@ -189,7 +191,7 @@ fn tell_left<H: Host>(
     requires sound { Sound (stage fs.old (H.view host.now) caller.now space.old) }
     requires of_dir { IfSome (description_at fs.old.files.descriptors caller.now.vpid fd)
         (λ desc. true ≡ is_of_dir desc.kind) }
-    ensures { Reaches (tells_left fd buffer count (scene (stage fs.old (H.view host.now) caller.now space.old))
+    ensures { HasReply (left_entries_reply fd buffer count (scene (stage fs.old (H.view host.now) caller.now space.old))
         entries.items)
         (stage fs.old (H.view host.now) caller.now space.old) (stage fs.new (H.view host.now) caller.now space.new)
         result (H.count host.now) (H.count host.now) }
@@ -217,20 +219,21 @@ fn tell<H: Host>(
     requires sound { Sound (stage fs.old (H.view host.now) caller.now space.old) }
     requires of_dir { IfSome (description_at fs.old.files.descriptors caller.now.vpid fd)
         (λ desc. true ≡ is_of_dir desc.kind) }
-    ensures { Reaches (tells fd buffer (scene (stage fs.old (H.view host.now) caller.now space.old)) entries.items)
+    ensures { HasReply (fitting_entries_reply fd buffer
+        (scene (stage fs.old (H.view host.now) caller.now space.old)) entries.items)
         (stage fs.old (H.view host.now) caller.now space.old) (stage fs.new (H.view host.now) caller.now space.new)
         result (H.count host.now) (H.count host.now) }
 {
     let bytes = records(alloc, &entries)?;
     match entries.pop() {
-        Some(last) => go_on(fs, host, caller, space, fd, buffer, &bytes, last.name),
+        Some(last) => fill_records(fs, host, caller, space, fd, buffer, &bytes, last.name),
         None => Ok(Answer::Refused(Errno::Inval)),
     }
 }
 
 // Fills a buffer with these records, and lets the listing go on after a name.
 #[tactic(auto, using(crate::proofs::Described::same_nodes))]
-fn go_on<H: Host>(
+fn fill_records<H: Host>(
     fs: &mut Fs,
     host: &H,
     caller: &Caller,
@@ -243,8 +246,8 @@ fn go_on<H: Host>(
     requires sound { Sound (stage fs.old (H.view host.now) caller.now space.old) }
     requires of_dir { IfSome (description_at fs.old.files.descriptors caller.now.vpid fd)
         (λ desc. true ≡ is_of_dir desc.kind) }
-    ensures { Reaches (entries_told (scene (stage fs.old (H.view host.now) caller.now space.old)) fd (Some last)
-        (length bytes.now) (stored space.old buffer bytes.now))
+    ensures { HasReply (entries_fill_reply (scene (stage fs.old (H.view host.now) caller.now space.old)) fd (Some last)
+        (length bytes.now) (pages_after_store space.old buffer bytes.now))
         (stage fs.old (H.view host.now) caller.now space.old) (stage fs.new (H.view host.now) caller.now space.new)
         result (H.count host.now) (H.count host.now) }
 {

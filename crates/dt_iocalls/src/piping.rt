@@ -2,17 +2,17 @@
 ghost use Rattle.std.specs.Prelude.{◌≡◌, Some, IsOk};
 ghost use Rattle.dt_base.specs.Abi.{low_word};
 ghost use Rattle.dt_fds.specs.Descriptions.{table_at, two_free};
-ghost use Rattle.dt_space.specs.Write.{stored};
-ghost use Rattle.dt_iocalls.specs.Piping.{broken, pair_bytes, pipes, pipe2_row};
-ghost use Rattle.dt_iocalls.specs.inner.Answered.{answered};
-ghost use Rattle.dt_scene.specs.Sound.{Sound, Serves, Ends, stage};
+ghost use Rattle.dt_space.specs.Write.{pages_after_store};
+ghost use Rattle.dt_iocalls.specs.Piping.{broken_write, pair_bytes, pipe_reply, pipe2_row};
+ghost use Rattle.dt_iocalls.specs.inner.Answered.{pipe_answer};
+ghost use Rattle.dt_callbase.specs.Sound.{Sound, HasRowReply, HasReplyOf, stage};
 
 use dt_base::abi::{O_CLOEXEC, O_NONBLOCK, low_word};
 use dt_base::{Answer, Caller, Errno, put32};
+use dt_callbase::Fs;
 use dt_fds::Flow;
 use dt_host::{CallErr, Host, HostErr};
 use dt_pipes::PIPE_NUMBER_LIMIT;
-use dt_scene::Fs;
 use dt_space::Space;
 
 /// Bytes of the two descriptors that pipe2(2) tells.
@@ -22,13 +22,13 @@ const PAIR_LEN: usize = 8;
 const SECOND: usize = 4;
 
 /// The answer of a read or a write of a pipe, unless the host failed or memory was wanting.
-pub(crate) fn answered(flow: Result<Flow, CallErr>) -> Result<Answer, HostErr>
-    ensures { result ≡ answered flow }
+pub(crate) fn pipe_answer(flow: Result<Flow, CallErr>) -> Result<Answer, HostErr>
+    ensures { result ≡ pipe_answer flow }
 {
     match flow {
         Ok(Flow::Moved(count)) => Ok(Answer::Value(count)),
         Ok(Flow::Part(count)) => Ok(Answer::Part(count)),
-        Ok(Flow::Broken(count)) => Ok(Answer::Pipe(broken(count))),
+        Ok(Flow::Broken(count)) => Ok(Answer::Pipe(broken_write(count))),
         Ok(Flow::Wait) => Ok(Answer::Waits),
         Err(CallErr::Errno(errno)) => Ok(Answer::Refused(errno)),
         Err(CallErr::Host(error)) => Err(error),
@@ -36,8 +36,8 @@ pub(crate) fn answered(flow: Result<Flow, CallErr>) -> Result<Answer, HostErr>
 }
 
 // What a write answers that nobody reads.
-fn broken(count: u64) -> Result<u64, Errno>
-    ensures { result ≡ broken count }
+fn broken_write(count: u64) -> Result<u64, Errno>
+    ensures { result ≡ broken_write count }
 {
     if count == 0 {
         Err(Errno::Pipe)
@@ -58,7 +58,7 @@ pub fn pipe2<H: Host>(
     args: [u64; 6],
 ) -> Result<Answer, HostErr>
     requires { Sound (stage fs.old (H.view host.old) caller.now space.old) }
-    ensures { Serves pipe2_row args (stage fs.old (H.view host.old) caller.now space.old)
+    ensures { HasRowReply pipe2_row args (stage fs.old (H.view host.old) caller.now space.old)
         (stage fs.new (H.view host.new) caller.now space.new) result
         (H.count host.old) (H.count host.new) }
 {
@@ -75,11 +75,11 @@ pub fn pipe2<H: Host>(
     if space.writable(buffer, PAIR_LEN as u64).is_err() {
         return Ok(Answer::Refused(Errno::Fault));
     }
-    make(fs, host, caller, space, buffer, flags, ends, bytes)
+    make_pipe(fs, host, caller, space, buffer, flags, ends, bytes)
 }
 
 // Makes a pipe whose ends stand under these descriptors, and tells them.
-fn make<H: Host>(
+fn make_pipe<H: Host>(
     fs: &mut Fs,
     host: &mut H,
     caller: &Caller,
@@ -92,8 +92,8 @@ fn make<H: Host>(
     requires sound { Sound (stage fs.old (H.view host.old) caller.now space.old) }
     requires free { two_free (table_at fs.old.files.descriptors caller.now.vpid) ≡ Some ends }
     requires bytes { bytes ≡ pair_bytes ends }
-    requires may { IsOk (stored space.old buffer bytes) }
-    ensures { Ends (λ s. pipes s buffer flags (Some ends))
+    requires may { IsOk (pages_after_store space.old buffer bytes) }
+    ensures { HasReplyOf (λ s. pipe_reply s buffer flags (Some ends))
         (stage fs.old (H.view host.old) caller.now space.old)
         (stage fs.new (H.view host.new) caller.now space.new) result
         (H.count host.old) (H.count host.new) }

@@ -1,7 +1,8 @@
 //! Buffers of a process in several ranges, which a call takes one after the other as one (readv(2), writev(2)).
 ghost use Rattle.std.specs.Prelude.{◌≡◌, ◌-◌, ◌^◌, Ok, Err, IsOk, IfOk, IfErr, OnErr, MatchResult, length, take, drop};
 ghost use Rattle.std.specs.Prelude.{min};
-ghost use Rattle.dt_iocalls.specs.Ranges.{total_len, cut_to, iovec_at, iovecs_at, ranges_at, gathered, scattered};
+ghost use Rattle.dt_iocalls.specs.Ranges.{total_len, cut_to, iovec_at, iovecs_at, ranges_at, gathered_bytes};
+ghost use Rattle.dt_iocalls.specs.Ranges.{scattered_pages};
 ghost use Rattle.dt_iocalls.specs.Ranges.{IsGatherErr};
 
 use dt_base::abi::{IOV_MAX, TRANSFER_LIMIT};
@@ -110,9 +111,9 @@ fn cut_to(limit: u64, ranges: &mut [Range])
 }
 
 // The bytes of ranges, or the first miss.
-#[tactic(auto, unfolding(crate::specs::Ranges::gathered), using(crate::proofs::Vectors::after_none))]
+#[tactic(auto, unfolding(crate::specs::Ranges::gathered_bytes), using(crate::proofs::Vectors::after_none))]
 pub(crate) fn gather(alloc: Global, space: &Space, ranges: &[Range]) -> Result<Vec<u8>, ReadErr>
-    ensures bytes { IfOk result (λ bytes. gathered space.now ranges.now ≡ Ok bytes.items) }
+    ensures bytes { IfOk result (λ bytes. gathered_bytes space.now ranges.now ≡ Ok bytes.items) }
     ensures error { IfErr result (IsGatherErr space.now ranges.now) }
 {
     let mut bytes = Vec::new(alloc);
@@ -124,11 +125,11 @@ pub(crate) fn gather(alloc: Global, space: &Space, ranges: &[Range]) -> Result<V
 }
 
 // Whether each byte of ranges may be read; else the first miss.
-#[tactic(auto, unfolding(crate::specs::Ranges::gathered))]
+#[tactic(auto, unfolding(crate::specs::Ranges::gathered_bytes))]
 pub(crate) fn readable(space: &Space, ranges: &[Range]) -> Result<(), Miss>
     ensures { MatchResult result
-        (λ _. IsOk (gathered space.now ranges.now))
-        (λ miss. gathered space.now ranges.now ≡ Err miss) }
+        (λ _. IsOk (gathered_bytes space.now ranges.now))
+        (λ miss. gathered_bytes space.now ranges.now ≡ Err miss) }
 {
     for range in ranges {
         if let Err(miss) = space.readable(range.address, range.len) {
@@ -146,8 +147,8 @@ pub(crate) fn gather_piece(
     offset: u64,
     count: u64,
 ) -> Result<Vec<u8>, NoMemory>
-    requires { IsOk (gathered space.now ranges.now) }
-    ensures { IfOk result (λ piece. IfOk (gathered space.now ranges.now)
+    requires { IsOk (gathered_bytes space.now ranges.now) }
+    ensures { IfOk result (λ piece. IfOk (gathered_bytes space.now ranges.now)
         (λ bytes. piece.items ≡ take count (drop offset bytes))) }
 {
     let mut piece = Vec::new(alloc);
@@ -169,8 +170,8 @@ pub(crate) fn gather_piece(
 // Puts bytes into ranges, as far as the bytes go; at a miss none, and the space stays.
 pub(crate) fn scatter(space: &mut Space, ranges: &[Range], bytes: &[u8]) -> Result<(), Miss>
     ensures scattered { MatchResult result
-        (λ _. scattered space.old ranges.now bytes.now ≡ Ok space.new)
-        (λ miss. scattered space.old ranges.now bytes.now ≡ Err miss) }
+        (λ _. scattered_pages space.old ranges.now bytes.now ≡ Ok space.new)
+        (λ miss. scattered_pages space.old ranges.now bytes.now ≡ Err miss) }
     ensures kept { OnErr result (space.new ≡ space.old) }
 {
     may_scatter(space, ranges, bytes)?;
@@ -181,8 +182,8 @@ pub(crate) fn scatter(space: &mut Space, ranges: &[Range], bytes: &[u8]) -> Resu
 // Whether bytes may be put into ranges; else the first miss.
 pub(crate) fn may_scatter(space: &Space, ranges: &[Range], bytes: &[u8]) -> Result<(), Miss>
     ensures { MatchResult result
-        (λ _. IsOk (scattered space.now ranges.now bytes.now))
-        (λ miss. scattered space.now ranges.now bytes.now ≡ Err miss) }
+        (λ _. IsOk (scattered_pages space.now ranges.now bytes.now))
+        (λ miss. scattered_pages space.now ranges.now bytes.now ≡ Err miss) }
 {
     let mut left = bytes;
     for range in ranges {
@@ -197,8 +198,8 @@ pub(crate) fn may_scatter(space: &Space, ranges: &[Range], bytes: &[u8]) -> Resu
 
 // Puts bytes into ranges where they may be.
 pub(crate) fn put(space: &mut Space, ranges: &[Range], bytes: &[u8])
-    requires { IsOk (scattered space.old ranges.now bytes.now) }
-    ensures { scattered space.old ranges.now bytes.now ≡ Ok space.new }
+    requires { IsOk (scattered_pages space.old ranges.now bytes.now) }
+    ensures { scattered_pages space.old ranges.now bytes.now ≡ Ok space.new }
 {
     let mut left = bytes;
     for range in ranges {

@@ -6,24 +6,25 @@ ghost use Rattle.dt_host.specs.World.{IsFile, content};
 ghost use Rattle.dt_tree.specs.Table.{Stands, shape_of};
 ghost use Rattle.dt_fds.specs.Backs.{IsIn};
 ghost use Rattle.dt_fds.specs.OpenFiles.{pipes_at};
-ghost use Rattle.dt_fds.specs.Pipes.{held_at};
+ghost use Rattle.dt_fds.specs.Pipes.{pipe_content_at};
 ghost use Rattle.dt_fds.specs.Descriptions.{is_after, is_of_dir, write_pipe};
-ghost use Rattle.dt_iocalls.specs.Ranges.{total_len, scattered};
-ghost use Rattle.dt_iocalls.specs.Reading.{reads_at, received, reads_on, reads_kind, reads, reads_kind_at, read_row};
-ghost use Rattle.dt_iocalls.specs.Reading.{reads_pipe};
+ghost use Rattle.dt_iocalls.specs.Ranges.{total_len, scattered_pages};
+ghost use Rattle.dt_iocalls.specs.Reading.{file_read_at_reply, received_reply, file_read_reply, read_reply_by_kind};
+ghost use Rattle.dt_iocalls.specs.Reading.{read_reply, read_at_reply_by_kind, read_row};
+ghost use Rattle.dt_iocalls.specs.Reading.{pipe_read_reply};
 ghost use Rattle.dt_iocalls.specs.Reading.{readv_row, pread64_row};
-ghost use Rattle.dt_scene.specs.Filling.{filled};
-ghost use Rattle.dt_scene.specs.Scene.{described, on_description};
-ghost use Rattle.dt_scene.specs.Sound.{Sound, Serves, Ends, stage, scene};
+ghost use Rattle.dt_callbase.specs.Filling.{filled_reply};
+ghost use Rattle.dt_callbase.specs.Scene.{description_of, on_description};
+ghost use Rattle.dt_callbase.specs.Sound.{Sound, HasRowReply, HasReplyOf, stage, scene};
 
 use crate::offsets::{is_readable, offset_of};
-use crate::piping::answered;
+use crate::piping::pipe_answer;
 use crate::ranges::{Range, may_scatter, put, ranges_at, scatter, total_len};
 use dt_base::abi::{byte_count, low_word};
 use dt_base::{Answer, Caller, Errno};
+use dt_callbase::Fs;
 use dt_fds::{DescKind, Spot};
 use dt_host::{Host, HostErr};
-use dt_scene::Fs;
 use dt_space::Space;
 use dt_tree::Tree;
 use std::alloc::Global;
@@ -43,7 +44,7 @@ pub fn read<H: Host>(
     args: [u64; 6],
 ) -> Result<Answer, HostErr>
     requires { Sound (stage fs.old (H.view host.old) caller.now space.old) }
-    ensures { Serves read_row args (stage fs.old (H.view host.old) caller.now space.old)
+    ensures { HasRowReply read_row args (stage fs.old (H.view host.old) caller.now space.old)
         (stage fs.new (H.view host.new) caller.now space.new) result
         (H.count host.old) (H.count host.new) }
 {
@@ -51,7 +52,7 @@ pub fn read<H: Host>(
         address: args[1],
         len: byte_count(args[2]),
     };
-    reads(alloc, fs, host, caller, space, low_word(args[0]), &[range])
+    read_descriptor(alloc, fs, host, caller, space, low_word(args[0]), &[range])
 }
 
 /// readv(2): read(2) into several buffers, one after the other as one. The errors are EINVAL (more than 1,024 buffers),
@@ -67,20 +68,20 @@ pub fn readv<H: Host>(
     args: [u64; 6],
 ) -> Result<Answer, HostErr>
     requires { Sound (stage fs.old (H.view host.old) caller.now space.old) }
-    ensures { Serves readv_row args (stage fs.old (H.view host.old) caller.now space.old)
+    ensures { HasRowReply readv_row args (stage fs.old (H.view host.old) caller.now space.old)
         (stage fs.new (H.view host.new) caller.now space.new) result
         (H.count host.old) (H.count host.new) }
 {
     let _before = host.faults();
     match ranges_at(alloc, space, args[1], low_word(args[2]))? {
-        Ok(ranges) => reads(alloc, fs, host, caller, space, low_word(args[0]), &ranges),
+        Ok(ranges) => read_descriptor(alloc, fs, host, caller, space, low_word(args[0]), &ranges),
         Err(errno) => Ok(Answer::Refused(errno)),
     }
 }
 
 // Reads at the offset of a descriptor's description.
 #[tactic(auto, using(crate::proofs::Described::same_kind))]
-fn reads<H: Host>(
+fn read_descriptor<H: Host>(
     alloc: Global,
     fs: &mut Fs,
     host: &mut H,
@@ -90,7 +91,7 @@ fn reads<H: Host>(
     ranges: &[Range],
 ) -> Result<Answer, HostErr>
     requires { Sound (stage fs.old (H.view host.old) caller.now space.old) }
-    ensures { Ends (λ s. on_description s (described s fd) (λ desc. reads fd ranges.now desc s))
+    ensures { HasReplyOf (λ s. on_description s (description_of s fd) (λ desc. read_reply fd ranges.now desc s))
         (stage fs.old (H.view host.old) caller.now space.old)
         (stage fs.new (H.view host.new) caller.now space.new) result
         (H.count host.old) (H.count host.new) }
@@ -103,12 +104,12 @@ fn reads<H: Host>(
         return Ok(Answer::Refused(Errno::BadF));
     }
     let (kind, offset) = (desc.kind, offset_of(&desc.spot));
-    reads_kind(alloc, fs, host, caller, space, fd, ranges, kind, offset)
+    read_by_kind(alloc, fs, host, caller, space, fd, ranges, kind, offset)
 }
 
 // Reads by what the descriptor refers to.
-#[tactic(auto, unfolding(crate::specs::Reading::reads_kind), using(crate::proofs::Described::file_offset))]
-fn reads_kind<H: Host>(
+#[tactic(auto, unfolding(crate::specs::Reading::read_reply_by_kind), using(crate::proofs::Described::file_offset))]
+fn read_by_kind<H: Host>(
     alloc: Global,
     fs: &mut Fs,
     host: &mut H,
@@ -121,25 +122,25 @@ fn reads_kind<H: Host>(
 ) -> Result<Answer, HostErr>
     requires sound { Sound (stage fs.old (H.view host.old) caller.now space.old) }
     requires there { IsIn (shape_of fs.old.tree (H.view host.old).forest) kind }
-    requires of_kind { IfSome (described (scene (stage fs.old (H.view host.old) caller.now space.old)) fd)
+    requires of_kind { IfSome (description_of (scene (stage fs.old (H.view host.old) caller.now space.old)) fd)
         (λ desc. desc.kind ≡ kind) }
-    ensures { Ends (reads_kind fd ranges.now kind offset)
+    ensures { HasReplyOf (read_reply_by_kind fd ranges.now kind offset)
         (stage fs.old (H.view host.old) caller.now space.old)
         (stage fs.new (H.view host.new) caller.now space.new) result
         (H.count host.old) (H.count host.new) }
 {
     let _before = host.faults();
     match kind {
-        DescKind::File(n) => reads_on(fs, host, caller, space, fd, ranges, n, offset),
+        DescKind::File(n) => read_file(fs, host, caller, space, fd, ranges, n, offset),
         DescKind::Dir(_) => Ok(Answer::Refused(Errno::IsDir)),
-        DescKind::PipeRead(_) => reads_pipe(alloc, fs, host, caller, space, fd, ranges),
+        DescKind::PipeRead(_) => read_from_pipe(alloc, fs, host, caller, space, fd, ranges),
         DescKind::Input => Ok(Answer::Value(0)),
         DescKind::PipeWrite(_) | DescKind::Stream(_) => Ok(Answer::Refused(Errno::BadF)),
     }
 }
 
-#[tactic(auto, unfolding(crate::specs::Reading::reads_pipe))]
-fn reads_pipe<H: Host>(
+#[tactic(auto, unfolding(crate::specs::Reading::pipe_read_reply))]
+fn read_from_pipe<H: Host>(
     alloc: Global,
     fs: &mut Fs,
     host: &mut H,
@@ -149,9 +150,9 @@ fn reads_pipe<H: Host>(
     ranges: &[Range],
 ) -> Result<Answer, HostErr>
     requires sound { Sound (stage fs.old (H.view host.old) caller.now space.old) }
-    requires of_pipe { IfSome (described (scene (stage fs.old (H.view host.old) caller.now space.old)) fd)
+    requires of_pipe { IfSome (description_of (scene (stage fs.old (H.view host.old) caller.now space.old)) fd)
         (λ desc. write_pipe desc.kind ≡ None) }
-    ensures { Ends (reads_pipe fd ranges.now)
+    ensures { HasReplyOf (pipe_read_reply fd ranges.now)
         (stage fs.old (H.view host.old) caller.now space.old)
         (stage fs.new (H.view host.new) caller.now space.new) result
         (H.count host.old) (H.count host.new) }
@@ -178,12 +179,12 @@ fn read_through<H: Host>(
     buf: &mut [u8],
 ) -> Result<Answer, HostErr>
     requires sound { Sound (stage fs.old (H.view host.old) caller.now space.old) }
-    requires of_pipe { IfSome (described (scene (stage fs.old (H.view host.old) caller.now space.old)) fd)
+    requires of_pipe { IfSome (description_of (scene (stage fs.old (H.view host.old) caller.now space.old)) fd)
         (λ desc. write_pipe desc.kind ≡ None) }
     requires some { total_len ranges.now ≢ 0 }
-    requires size { length buf.old ≡ min (length (held_at (pipes_at fs.old.files (H.view host.old).pipes)
-        (described (scene (stage fs.old (H.view host.old) caller.now space.old)) fd))) (total_len ranges.now) }
-    ensures { Ends (reads_pipe fd ranges.now)
+    requires size { length buf.old ≡ min (length (pipe_content_at (pipes_at fs.old.files (H.view host.old).pipes)
+        (description_of (scene (stage fs.old (H.view host.old) caller.now space.old)) fd))) (total_len ranges.now) }
+    ensures { HasReplyOf (pipe_read_reply fd ranges.now)
         (stage fs.old (H.view host.old) caller.now space.old)
         (stage fs.new (H.view host.new) caller.now space.new) result
         (H.count host.old) (H.count host.new) }
@@ -193,14 +194,14 @@ fn read_through<H: Host>(
         Ok(()) => {}
         Err(_) => return Ok(Answer::Refused(Errno::Fault)),
     }
-    let answer = answered(fs.files.pipe_read(host, caller.vpid, fd, buf))?;
+    let answer = pipe_answer(fs.files.pipe_read(host, caller.vpid, fd, buf))?;
     put(space, ranges, buf);
     Ok(answer)
 }
 
 // Reads a file where its description stands.
 #[tactic(auto, using(crate::proofs::Parts::came))]
-fn reads_on<H: Host>(
+fn read_file<H: Host>(
     fs: &mut Fs,
     host: &mut H,
     caller: &Caller,
@@ -212,9 +213,9 @@ fn reads_on<H: Host>(
 ) -> Result<Answer, HostErr>
     requires sound { Sound (stage fs.old (H.view host.old) caller.now space.old) }
     requires file { IsFile (shape_of fs.old.tree (H.view host.old).forest) n }
-    requires at_offset { IfSome (described (scene (stage fs.old (H.view host.old) caller.now space.old)) fd)
+    requires at_offset { IfSome (description_of (scene (stage fs.old (H.view host.old) caller.now space.old)) fd)
         (λ desc. is_after (Spot.At offset) ≡ is_of_dir desc.kind) }
-    ensures { Ends (reads_on fd n offset ranges.now)
+    ensures { HasReplyOf (file_read_reply fd n offset ranges.now)
         (stage fs.old (H.view host.old) caller.now space.old)
         (stage fs.new (H.view host.new) caller.now space.new) result
         (H.count host.old) (H.count host.new) }
@@ -237,9 +238,10 @@ fn receive<H: Host>(
 ) -> Result<Answer, HostErr>
     requires sound { Sound (stage fs.old (H.view host.now) caller.now space.old) }
     requires fits { offset + length bytes.now < 2 ^ 64 }
-    requires at_offset { IfSome (described (scene (stage fs.old (H.view host.now) caller.now space.old)) fd)
+    requires at_offset { IfSome (description_of (scene (stage fs.old (H.view host.now) caller.now space.old)) fd)
         (λ desc. is_after (Spot.At offset) ≡ is_of_dir desc.kind) }
-    ensures { Ends (λ s. received s fd offset (length bytes.now) (scattered s.space ranges.now bytes.now))
+    ensures { HasReplyOf (λ s. received_reply s fd offset (length bytes.now)
+        (scattered_pages s.space ranges.now bytes.now))
         (stage fs.old (H.view host.now) caller.now space.old)
         (stage fs.new (H.view host.now) caller.now space.new) result
         (H.count host.now) (H.count host.now) }
@@ -264,7 +266,7 @@ pub fn pread64<H: Host>(
     args: [u64; 6],
 ) -> Result<Answer, HostErr>
     requires { Sound (stage fs.now (H.view host.old) caller.now space.old) }
-    ensures { Serves pread64_row args (stage fs.now (H.view host.old) caller.now space.old)
+    ensures { HasRowReply pread64_row args (stage fs.now (H.view host.old) caller.now space.old)
         (stage fs.now (H.view host.new) caller.now space.new) result
         (H.count host.old) (H.count host.new) }
 {
@@ -282,11 +284,11 @@ pub fn pread64<H: Host>(
         address: args[1],
         len: byte_count(args[2]),
     };
-    reads_kind_at(fs, host, caller, space, &[range], desc.kind, args[3])
+    read_by_kind_at(fs, host, caller, space, &[range], desc.kind, args[3])
 }
 
 // Reads at an offset by what the descriptor refers to.
-fn reads_kind_at<H: Host>(
+fn read_by_kind_at<H: Host>(
     fs: &Fs,
     host: &mut H,
     caller: &Caller,
@@ -297,14 +299,14 @@ fn reads_kind_at<H: Host>(
 ) -> Result<Answer, HostErr>
     requires sound { Sound (stage fs.now (H.view host.old) caller.now space.old) }
     requires there { IsIn (shape_of fs.now.tree (H.view host.old).forest) kind }
-    ensures { Ends (reads_kind_at offset ranges.now kind)
+    ensures { HasReplyOf (read_at_reply_by_kind offset ranges.now kind)
         (stage fs.now (H.view host.old) caller.now space.old)
         (stage fs.now (H.view host.new) caller.now space.new) result
         (H.count host.old) (H.count host.new) }
 {
     let _before = host.faults();
     match kind {
-        DescKind::File(n) => reads_at(fs, host, caller, space, ranges, n, offset),
+        DescKind::File(n) => read_file_at(fs, host, caller, space, ranges, n, offset),
         DescKind::Dir(_) => Ok(Answer::Refused(Errno::IsDir)),
         DescKind::PipeRead(_) | DescKind::PipeWrite(_) | DescKind::Input | DescKind::Stream(_) =>
             Ok(Answer::Refused(Errno::SPipe)),
@@ -313,7 +315,7 @@ fn reads_kind_at<H: Host>(
 
 // Reads a file from an offset on.
 #[tactic(auto, using(crate::proofs::Parts::came))]
-fn reads_at<H: Host>(
+fn read_file_at<H: Host>(
     fs: &Fs,
     host: &mut H,
     caller: &Caller,
@@ -324,7 +326,7 @@ fn reads_at<H: Host>(
 ) -> Result<Answer, HostErr>
     requires sound { Sound (stage fs.now (H.view host.old) caller.now space.old) }
     requires file { IsFile (shape_of fs.now.tree (H.view host.old).forest) n }
-    ensures { Ends (reads_at n offset ranges.now)
+    ensures { HasReplyOf (file_read_at_reply n offset ranges.now)
         (stage fs.now (H.view host.old) caller.now space.old)
         (stage fs.now (H.view host.new) caller.now space.new) result
         (H.count host.old) (H.count host.new) }
@@ -343,7 +345,7 @@ fn fill_ranges<H: Host>(
     bytes: &[u8],
 ) -> Result<Answer, HostErr>
     requires { Sound (stage fs.now (H.view host.now) caller.now space.old) }
-    ensures { Ends (λ s. filled s (length bytes.now) (scattered s.space ranges.now bytes.now))
+    ensures { HasReplyOf (λ s. filled_reply s (length bytes.now) (scattered_pages s.space ranges.now bytes.now))
         (stage fs.now (H.view host.now) caller.now space.old)
         (stage fs.now (H.view host.now) caller.now space.new) result
         (H.count host.now) (H.count host.now) }

@@ -4,16 +4,16 @@ ghost use Rattle.dt_base.specs.Abi.{low_word};
 ghost use Rattle.dt_fds.specs.Descriptions.{description_at, is_of_dir};
 ghost use Rattle.dt_host.specs.Asks.{Asks};
 ghost use Rattle.dt_host.specs.World.{IsFile};
-ghost use Rattle.dt_iocalls.specs.Seeking.{moved_by, sought, seeks_to, rewinds, lseek_row};
-ghost use Rattle.dt_scene.specs.Sound.{Sound, Serves, Ends, Reaches, stage, scene};
+ghost use Rattle.dt_iocalls.specs.Seeking.{shifted_offset, seek_offset, seek_to_reply, rewind_reply, lseek_row};
+ghost use Rattle.dt_callbase.specs.Sound.{Sound, HasRowReply, HasReplyOf, HasReply, stage, scene};
 ghost use Rattle.dt_tree.specs.Table.{Stands, shape_of, tree_of};
 
 use crate::offsets::offset_of;
 use dt_base::abi::{SEEK_CUR, SEEK_END, SEEK_SET, low_word};
 use dt_base::{Answer, Caller, Errno, OFFSET_LIMIT};
+use dt_callbase::Fs;
 use dt_fds::{DescKind, Spot};
 use dt_host::{Host, HostErr};
-use dt_scene::Fs;
 use dt_space::Space;
 use dt_tree::Tree;
 
@@ -29,7 +29,7 @@ pub fn lseek<H: Host>(
     args: [u64; 6],
 ) -> Result<Answer, HostErr>
     requires { Sound (stage fs.old (H.view host.old) caller.now space.now) }
-    ensures { Serves lseek_row args (stage fs.old (H.view host.old) caller.now space.now)
+    ensures { HasRowReply lseek_row args (stage fs.old (H.view host.old) caller.now space.now)
         (stage fs.new (H.view host.new) caller.now space.now) result
         (H.count host.old) (H.count host.new) }
 {
@@ -66,18 +66,18 @@ fn seek<H: Host>(
     requires file { IsFile (shape_of fs.old.tree (H.view host.old).forest) n }
     requires of_file { IfSome (description_at fs.old.files.descriptors caller.now.vpid fd)
         (λ desc. false ≡ is_of_dir desc.kind) }
-    ensures { Ends (λ s. seeks_to fd s (sought s.tree n offset by whence))
+    ensures { HasReplyOf (λ s. seek_to_reply fd s (seek_offset s.tree n offset by whence))
         (stage fs.old (H.view host.old) caller.now space.now)
         (stage fs.new (H.view host.new) caller.now space.now) result
         (H.count host.old) (H.count host.new) }
 {
-    let found = sought(&fs.tree, host, n, offset, by, whence)?;
-    go_to(fs, host, caller, space, fd, found)
+    let found = seek_offset(&fs.tree, host, n, offset, by, whence)?;
+    set_offset(fs, host, caller, space, fd, found)
 }
 
 // The offset that a seek in a file leads to.
-#[tactic(auto, unfolding(crate::specs::Seeking::sought), using(crate::proofs::Parts::told))]
-fn sought<H: Host>(
+#[tactic(auto, unfolding(crate::specs::Seeking::seek_offset), using(crate::proofs::Parts::told))]
+fn seek_offset<H: Host>(
     tree: &Tree,
     host: &mut H,
     n: u64,
@@ -88,22 +88,22 @@ fn sought<H: Host>(
     requires stands { Stands tree.now (H.view host.old).forest }
     requires file { IsFile (shape_of tree.now (H.view host.old).forest) n }
     ensures ok { IfOk result
-        (λ found. found ≡ sought (tree_of tree.now (H.view host.old).forest) n offset by whence) }
+        (λ found. found ≡ seek_offset (tree_of tree.now (H.view host.old).forest) n offset by whence) }
     ensures asks { Asks H.view H.count host.old host.new result }
 {
     let _before = host.faults();
     match whence {
-        SEEK_SET => Ok(moved_by(0, by)),
-        SEEK_CUR => Ok(moved_by(offset, by)),
-        SEEK_END => Ok(moved_by(tree.meta(host, n)?.size, by)),
+        SEEK_SET => Ok(shifted_offset(0, by)),
+        SEEK_CUR => Ok(shifted_offset(offset, by)),
+        SEEK_END => Ok(shifted_offset(tree.meta(host, n)?.size, by)),
         _ => Ok(None),
     }
 }
 
 // An offset moved by a number that may be negative, if that is an offset.
-#[tactic(auto, unfolding(crate::specs::Seeking::moved_by))]
-fn moved_by(base: u64, by: u64) -> Option<u64>
-    ensures { result ≡ moved_by base by }
+#[tactic(auto, unfolding(crate::specs::Seeking::shifted_offset))]
+fn shifted_offset(base: u64, by: u64) -> Option<u64>
+    ensures { result ≡ shifted_offset base by }
 {
     let (moved, wraps) = base.overflowing_add(by);
     if wraps == (by > i64::MAX as u64) && moved <= OFFSET_LIMIT {
@@ -114,7 +114,7 @@ fn moved_by(base: u64, by: u64) -> Option<u64>
 }
 
 // Moves the offset of a file's description to an offset, if there is one, and answers that.
-fn go_to<H: Host>(
+fn set_offset<H: Host>(
     fs: &mut Fs,
     host: &H,
     caller: &Caller,
@@ -125,7 +125,7 @@ fn go_to<H: Host>(
     requires sound { Sound (stage fs.old (H.view host.now) caller.now space.now) }
     requires of_file { IfSome (description_at fs.old.files.descriptors caller.now.vpid fd)
         (λ desc. false ≡ is_of_dir desc.kind) }
-    ensures { Reaches (seeks_to fd (scene (stage fs.old (H.view host.now) caller.now space.now)) found)
+    ensures { HasReply (seek_to_reply fd (scene (stage fs.old (H.view host.now) caller.now space.now)) found)
         (stage fs.old (H.view host.now) caller.now space.now)
         (stage fs.new (H.view host.now) caller.now space.now) result
         (H.count host.now) (H.count host.now) }
@@ -152,7 +152,7 @@ fn rewind<H: Host>(
     requires sound { Sound (stage fs.old (H.view host.now) caller.now space.now) }
     requires of_dir { IfSome (description_at fs.old.files.descriptors caller.now.vpid fd)
         (λ desc. true ≡ is_of_dir desc.kind) }
-    ensures { Ends (rewinds fd by whence) (stage fs.old (H.view host.now) caller.now space.now)
+    ensures { HasReplyOf (rewind_reply fd by whence) (stage fs.old (H.view host.now) caller.now space.now)
         (stage fs.new (H.view host.now) caller.now space.now) result
         (H.count host.now) (H.count host.now) }
 {

@@ -10,23 +10,25 @@ ghost use Rattle.dt_host.specs.Asks.{Asks};
 ghost use Rattle.dt_host.specs.World.{IsFile};
 ghost use Rattle.dt_tree.specs.Table.{Stands, shape_of, tree_of};
 ghost use Rattle.dt_iocalls.specs.Offsets.{with_spot};
-ghost use Rattle.dt_iocalls.specs.Ranges.{gathered, total_len};
-ghost use Rattle.dt_iocalls.specs.Writing.{write_offset, writes_at, writes_on, writes_file, writes_kind, writes_to};
-ghost use Rattle.dt_iocalls.specs.Writing.{write_row, writev_row, writes_bytes_at, writes_file_at, pwrite64_row};
-ghost use Rattle.dt_iocalls.specs.Writing.{cuts_kind, on_bytes, writes_pipe, ftruncate_row};
-ghost use Rattle.dt_iocalls.specs.inner.Written.{writes_ranges};
-ghost use Rattle.dt_scene.specs.Arguments.{argument};
-ghost use Rattle.dt_scene.specs.Scene.{answers};
-ghost use Rattle.dt_scene.specs.Sound.{Sound, Serves, Ends, Reaches, stage, scene};
+ghost use Rattle.dt_iocalls.specs.Ranges.{gathered_bytes, total_len};
+ghost use Rattle.dt_iocalls.specs.Writing.{write_offset, file_write_reply, moving_write_reply, appending_write_reply};
+ghost use Rattle.dt_iocalls.specs.Writing.{write_reply_by_kind, descriptor_write_reply};
+ghost use Rattle.dt_iocalls.specs.Writing.{write_row, writev_row, bytes_write_at_reply, file_write_at_reply};
+ghost use Rattle.dt_iocalls.specs.Writing.{pwrite64_row};
+ghost use Rattle.dt_iocalls.specs.Writing.{truncate_reply_by_kind, on_bytes, pipe_write_reply, ftruncate_row};
+ghost use Rattle.dt_iocalls.specs.inner.Written.{ranges_write_reply};
+ghost use Rattle.dt_callbase.specs.Arguments.{argument};
+ghost use Rattle.dt_callbase.specs.Scene.{value_reply};
+ghost use Rattle.dt_callbase.specs.Sound.{Sound, HasRowReply, HasReplyOf, HasReply, stage, scene};
 
 use crate::offsets::{is_writable, offset_of};
-use crate::piping::answered;
+use crate::piping::pipe_answer;
 use crate::ranges::{Range, gather, gather_piece, ranges_at, readable, total_len};
 use dt_base::abi::{byte_count, low_word};
 use dt_base::{Answer, Blob, Caller, Errno};
+use dt_callbase::Fs;
 use dt_fds::{DescKind, Spot};
 use dt_host::{CallErr, Host, HostErr};
-use dt_scene::Fs;
 use dt_space::{ReadErr, Space};
 use dt_tree::Tree;
 use std::alloc::Global;
@@ -46,7 +48,7 @@ pub fn write<H: Host>(
     args: [u64; 6],
 ) -> Result<Answer, HostErr>
     requires { Sound (stage fs.old (H.view host.old) caller.now space.now) }
-    ensures { Serves write_row args (stage fs.old (H.view host.old) caller.now space.now)
+    ensures { HasRowReply write_row args (stage fs.old (H.view host.old) caller.now space.now)
         (stage fs.new (H.view host.new) caller.now space.now) result
         (H.count host.old) (H.count host.new) }
 {
@@ -54,7 +56,7 @@ pub fn write<H: Host>(
         address: args[1],
         len: byte_count(args[2]),
     }];
-    write_ranges(alloc, fs, host, caller, space, low_word(args[0]), &ranges)
+    write_descriptor(alloc, fs, host, caller, space, low_word(args[0]), &ranges)
 }
 
 /// writev(2): as write(2), with the bytes of a list of buffers. The errors are EINVAL (more than 1,024 buffers), EFAULT
@@ -69,19 +71,19 @@ pub fn writev<H: Host>(
     args: [u64; 6],
 ) -> Result<Answer, HostErr>
     requires { Sound (stage fs.old (H.view host.old) caller.now space.now) }
-    ensures { Serves writev_row args (stage fs.old (H.view host.old) caller.now space.now)
+    ensures { HasRowReply writev_row args (stage fs.old (H.view host.old) caller.now space.now)
         (stage fs.new (H.view host.new) caller.now space.now) result
         (H.count host.old) (H.count host.new) }
 {
     let _before = host.faults();
     match ranges_at(alloc, space, args[1], low_word(args[2]))? {
-        Ok(ranges) => write_ranges(alloc, fs, host, caller, space, low_word(args[0]), &ranges),
+        Ok(ranges) => write_descriptor(alloc, fs, host, caller, space, low_word(args[0]), &ranges),
         Err(errno) => Ok(Answer::Refused(errno)),
     }
 }
 
 // Writes the bytes of ranges to a descriptor.
-fn write_ranges<H: Host>(
+fn write_descriptor<H: Host>(
     alloc: Global,
     fs: &mut Fs,
     host: &mut H,
@@ -92,7 +94,7 @@ fn write_ranges<H: Host>(
 ) -> Result<Answer, HostErr>
     requires sound { Sound (stage fs.old (H.view host.old) caller.now space.now) }
     requires few { total_len ranges.now ≤ TRANSFER_LIMIT }
-    ensures { Ends (writes_to fd ranges.now) (stage fs.old (H.view host.old) caller.now space.now)
+    ensures { HasReplyOf (descriptor_write_reply fd ranges.now) (stage fs.old (H.view host.old) caller.now space.now)
         (stage fs.new (H.view host.new) caller.now space.now) result
         (H.count host.old) (H.count host.new) }
 {
@@ -106,14 +108,14 @@ fn write_ranges<H: Host>(
     let (kind, append, offset) = (desc.kind, desc.append, offset_of(&desc.spot));
     match kind.write_pipe() {
         Some(_) => write_pipe(alloc, fs, host, caller, space, fd, ranges),
-        None => write_whole(
+        None => write_gathered(
             alloc, fs, host, caller, space, fd, kind, append, offset, ranges,
         ),
     }
 }
 
 // Writes all bytes of ranges to what a descriptor refers to, which is no pipe.
-fn write_whole<H: Host>(
+fn write_gathered<H: Host>(
     alloc: Global,
     fs: &mut Fs,
     host: &mut H,
@@ -129,7 +131,7 @@ fn write_whole<H: Host>(
     requires there { IsIn (shape_of fs.old.tree (H.view host.old).forest) kind }
     requires is { IfSome (description_at fs.old.files.descriptors caller.now.vpid fd) (λ desc. desc.kind ≡ kind) }
     requires no_pipe { pipe_of_write kind ≡ None }
-    ensures { Ends (writes_ranges (writes_kind fd append offset kind) ranges.now)
+    ensures { HasReplyOf (ranges_write_reply (write_reply_by_kind fd append offset kind) ranges.now)
         (stage fs.old (H.view host.old) caller.now space.now)
         (stage fs.new (H.view host.new) caller.now space.now) result
         (H.count host.old) (H.count host.new) }
@@ -143,11 +145,11 @@ fn write_whole<H: Host>(
     if bytes.is_empty() {
         return Ok(Answer::Value(0));
     }
-    write_bytes(fs, host, caller, space, fd, kind, append, offset, bytes)
+    write_by_kind(fs, host, caller, space, fd, kind, append, offset, bytes)
 }
 
 // Writes some bytes to what a descriptor refers to, which is no pipe.
-fn write_bytes<H: Host>(
+fn write_by_kind<H: Host>(
     fs: &mut Fs,
     host: &mut H,
     caller: &Caller,
@@ -162,7 +164,7 @@ fn write_bytes<H: Host>(
     requires there { IsIn (shape_of fs.old.tree (H.view host.old).forest) kind }
     requires is { IfSome (description_at fs.old.files.descriptors caller.now.vpid fd) (λ desc. desc.kind ≡ kind) }
     requires no_pipe { pipe_of_write kind ≡ None }
-    ensures { Ends (writes_kind fd append offset kind bytes.items)
+    ensures { HasReplyOf (write_reply_by_kind fd append offset kind bytes.items)
         (stage fs.old (H.view host.old) caller.now space.now)
         (stage fs.new (H.view host.new) caller.now space.now) result
         (H.count host.old) (H.count host.new) }
@@ -189,7 +191,7 @@ fn write_pipe<H: Host>(
 ) -> Result<Answer, HostErr>
     requires sound { Sound (stage fs.old (H.view host.old) caller.now space.now) }
     requires few { total_len ranges.now ≤ TRANSFER_LIMIT }
-    ensures { Ends (writes_ranges (writes_pipe fd) ranges.now)
+    ensures { HasReplyOf (ranges_write_reply (pipe_write_reply fd) ranges.now)
         (stage fs.old (H.view host.old) caller.now space.now)
         (stage fs.new (H.view host.new) caller.now space.now) result
         (H.count host.old) (H.count host.new) }
@@ -203,12 +205,12 @@ fn write_pipe<H: Host>(
     if whole == 0 {
         return Ok(Answer::Value(0));
     }
-    write_piece(alloc, fs, host, caller, space, fd, ranges, whole)
+    write_pipe_piece(alloc, fs, host, caller, space, fd, ranges, whole)
 }
 
 // Writes some bytes of ranges to a pipe, of which the call has moved a part before where it goes on. Only the piece
 // that moves now is copied: a call may wait or go on many times, and be long.
-fn write_piece<H: Host>(
+fn write_pipe_piece<H: Host>(
     alloc: Global,
     fs: &mut Fs,
     host: &mut H,
@@ -219,18 +221,18 @@ fn write_piece<H: Host>(
     whole: u64,
 ) -> Result<Answer, HostErr>
     requires sound { Sound (stage fs.old (H.view host.old) caller.now space.now) }
-    requires readable { IsOk (gathered space.now ranges.now) }
+    requires readable { IsOk (gathered_bytes space.now ranges.now) }
     requires whole { total_len ranges.now ≡ whole }
-    ensures { Ends (λ s. on_bytes s (gathered s.space ranges.now) (λ bytes. writes_pipe fd bytes s))
+    ensures { HasReplyOf (λ s. on_bytes s (gathered_bytes s.space ranges.now) (λ bytes. pipe_write_reply fd bytes s))
         (stage fs.old (H.view host.old) caller.now space.now)
         (stage fs.new (H.view host.new) caller.now space.now) result
         (H.count host.old) (H.count host.new) }
 {
     let _before = host.faults();
     let done = caller.done.min(whole);
-    let moved = fs.files.pipe_moves(caller.vpid, fd, whole, done);
+    let moved = fs.files.pipe_transfer_count(caller.vpid, fd, whole, done);
     let piece = gather_piece(alloc, space, ranges, done, moved)?;
-    answered(
+    pipe_answer(
         fs.files
             .pipe_write_part(host, caller.vpid, fd, whole, done, &piece),
     )
@@ -253,13 +255,13 @@ fn write_file<H: Host>(
     requires file { IsFile (shape_of fs.old.tree (H.view host.old).forest) n }
     requires of_file { IfSome (description_at fs.old.files.descriptors caller.now.vpid fd)
         (λ desc. false ≡ is_of_dir desc.kind) }
-    ensures { Ends (writes_file fd n append offset bytes.now)
+    ensures { HasReplyOf (appending_write_reply fd n append offset bytes.now)
         (stage fs.old (H.view host.old) caller.now space.now)
         (stage fs.new (H.view host.new) caller.now space.now) result
         (H.count host.old) (H.count host.new) }
 {
     let at = write_offset(&fs.tree, host, append, n, offset)?;
-    write_on(fs, host, caller, space, fd, n, at, bytes)
+    write_and_move(fs, host, caller, space, fd, n, at, bytes)
 }
 
 // Where a write goes: to an offset, or to the end of the file with O_APPEND.
@@ -286,7 +288,7 @@ fn write_offset<H: Host>(
 }
 
 // Writes bytes to an offset of a file, and moves the offset of its description behind them.
-fn write_on<H: Host>(
+fn write_and_move<H: Host>(
     fs: &mut Fs,
     host: &mut H,
     caller: &Caller,
@@ -300,7 +302,7 @@ fn write_on<H: Host>(
     requires file { IsFile (shape_of fs.old.tree (H.view host.old).forest) n }
     requires of_file { IfSome (description_at fs.old.files.descriptors caller.now.vpid fd)
         (λ desc. false ≡ is_of_dir desc.kind) }
-    ensures { Ends (writes_on fd n offset bytes.now)
+    ensures { HasReplyOf (moving_write_reply fd n offset bytes.now)
         (stage fs.old (H.view host.old) caller.now space.now)
         (stage fs.new (H.view host.new) caller.now space.now) result
         (H.count host.old) (H.count host.new) }
@@ -309,7 +311,7 @@ fn write_on<H: Host>(
     let Answer::Value(count) = written else {
         return Ok(written);
     };
-    go_on(fs, host, caller, space, fd, offset + count, count)
+    move_offset(fs, host, caller, space, fd, offset + count, count)
 }
 
 // Writes bytes to an offset of a file.
@@ -325,7 +327,7 @@ fn write_at<H: Host>(
 ) -> Result<Answer, HostErr>
     requires sound { Sound (stage fs.old (H.view host.old) caller.now space.now) }
     requires file { IsFile (shape_of fs.old.tree (H.view host.old).forest) n }
-    ensures row { Ends (writes_at n offset bytes.now (λ next. next))
+    ensures row { HasReplyOf (file_write_reply n offset bytes.now (λ next. next))
         (stage fs.old (H.view host.old) caller.now space.now)
         (stage fs.new (H.view host.new) caller.now space.now) result
         (H.count host.old) (H.count host.new) }
@@ -344,7 +346,7 @@ fn write_at<H: Host>(
 
 // Moves the offset of a description, and answers so many bytes.
 #[tactic(auto, using(crate::proofs::Described::same_nodes))]
-fn go_on<H: Host>(
+fn move_offset<H: Host>(
     fs: &mut Fs,
     host: &H,
     caller: &Caller,
@@ -356,7 +358,7 @@ fn go_on<H: Host>(
     requires sound { Sound (stage fs.old (H.view host.now) caller.now space.now) }
     requires of_file { IfSome (description_at fs.old.files.descriptors caller.now.vpid fd)
         (λ desc. false ≡ is_of_dir desc.kind) }
-    ensures { Reaches (answers (with_spot (scene (stage fs.old (H.view host.now) caller.now space.now)) fd
+    ensures { HasReply (value_reply (with_spot (scene (stage fs.old (H.view host.now) caller.now space.now)) fd
         (at_offset offset)) count)
         (stage fs.old (H.view host.now) caller.now space.now)
         (stage fs.new (H.view host.now) caller.now space.now) result
@@ -379,7 +381,7 @@ pub fn pwrite64<H: Host>(
     args: [u64; 6],
 ) -> Result<Answer, HostErr>
     requires { Sound (stage fs.old (H.view host.old) caller.now space.now) }
-    ensures { Serves pwrite64_row args (stage fs.old (H.view host.old) caller.now space.now)
+    ensures { HasRowReply pwrite64_row args (stage fs.old (H.view host.old) caller.now space.now)
         (stage fs.new (H.view host.new) caller.now space.now) result
         (H.count host.old) (H.count host.new) }
 {
@@ -400,7 +402,7 @@ pub fn pwrite64<H: Host>(
     }];
     match desc.kind {
         DescKind::File(n) => {
-            write_file_at(alloc, fs, host, caller, space, n, append, args[3], &ranges)
+            write_ranges_at(alloc, fs, host, caller, space, n, append, args[3], &ranges)
         }
         DescKind::Dir(_) => Ok(Answer::Refused(Errno::IsDir)),
         DescKind::PipeRead(_) | DescKind::PipeWrite(_) | DescKind::Input | DescKind::Stream(_) =>
@@ -410,7 +412,7 @@ pub fn pwrite64<H: Host>(
 
 // Writes the bytes of ranges to an offset of a file, or to its end.
 #[tactic(auto, using(crate::proofs::Scenes::after_asking))]
-fn write_file_at<H: Host>(
+fn write_ranges_at<H: Host>(
     alloc: Global,
     fs: &mut Fs,
     host: &mut H,
@@ -423,7 +425,7 @@ fn write_file_at<H: Host>(
 ) -> Result<Answer, HostErr>
     requires sound { Sound (stage fs.old (H.view host.old) caller.now space.now) }
     requires file { IsFile (shape_of fs.old.tree (H.view host.old).forest) n }
-    ensures { Ends (writes_file_at n append offset ranges.now)
+    ensures { HasReplyOf (file_write_at_reply n append offset ranges.now)
         (stage fs.old (H.view host.old) caller.now space.now)
         (stage fs.new (H.view host.new) caller.now space.now) result
         (H.count host.old) (H.count host.new) }
@@ -452,7 +454,7 @@ pub fn ftruncate<H: Host>(
     args: [u64; 6],
 ) -> Result<Answer, HostErr>
     requires { Sound (stage fs.old (H.view host.old) caller.now space.now) }
-    ensures { Serves ftruncate_row args (stage fs.old (H.view host.old) caller.now space.now)
+    ensures { HasRowReply ftruncate_row args (stage fs.old (H.view host.old) caller.now space.now)
         (stage fs.new (H.view host.new) caller.now space.now) result
         (H.count host.old) (H.count host.new) }
 {
@@ -488,7 +490,7 @@ fn cut<H: Host>(
 ) -> Result<Answer, HostErr>
     requires sound { Sound (stage fs.old (H.view host.old) caller.now space.now) }
     requires file { IsFile (shape_of fs.old.tree (H.view host.old).forest) n }
-    ensures { Ends (cuts_kind len (DescKind.File n))
+    ensures { HasReplyOf (truncate_reply_by_kind len (DescKind.File n))
         (stage fs.old (H.view host.old) caller.now space.now)
         (stage fs.new (H.view host.new) caller.now space.now) result
         (H.count host.old) (H.count host.new) }

@@ -9,8 +9,8 @@ use Rattle.dt_asm.specs.Item.{GuestView}
 use Rattle.dt_asm.specs.File.{IsFileOf}
 use Rattle.dt_asm.specs.Accepted.{IsAccepted, IsRoom}
 use Rattle.dt_elf.specs.declared.layout.TheConstants.{MAGIC, CLASS}
-use Rattle.dt_elf.specs.Header.{number, e_phoff, e_phnum, e_phentsize, e_entry, e_type, e_machine, headers_from, program_header, program_headers, is_load, is_interp, loads, segment_from_header}
-use Rattle.dt_elf.specs.Executable.{exe, is_placed, all_placed, overlap}
+use Rattle.dt_elf.specs.Header.{number, e_phoff, e_phnum, e_phentsize, e_entry, e_type, e_machine, headers_from, program_header, program_headers, is_load, is_interp, load_segments, segment_from_header}
+use Rattle.dt_elf.specs.Executable.{exe, is_placed, are_placed, has_overlap}
 use Rattle.dt_elf.specs.inner.Refused.{is_short, is_bad_header}
 
 field : (k : ℕ) (file : List ℕ) (at n : ℕ) → field_at k file at ≡ Some n → number k file at ≡ n
@@ -80,16 +80,16 @@ module _ (file : List ℕ) (long : 120 ≤ length file) (is : IsAccepted file) w
         let ends = room.ends in
         rw (h_filesz, h_memsz, h_offset, h_vaddr) (grind (arith, nat_tests))
 
-    one_segment : loads file ≡ segment_from_header (program_header file 64) ∷ []
-    unfolding loads
+    one_segment : load_segments file ≡ segment_from_header (program_header file 64) ∷ []
+    unfolding load_segments
     one_segment = rw (one_header, is_loaded) refl
 
-    well_placed : all_placed file (loads file) ≡ true
-    unfolding all_placed
+    well_placed : are_placed file (load_segments file) ≡ true
+    unfolding are_placed
     well_placed = rw (one_segment, placed) refl
 
-    apart : overlap (loads file) ≡ false
-    unfolding overlap
+    apart : has_overlap (load_segments file) ≡ false
+    unfolding has_overlap
     apart = rw one_segment refl
 
     no_interp : list_any is_interp (program_headers file) ≡ false

@@ -2,7 +2,7 @@
 #![tactic(auto)]
 
 ghost use Rattle.std.specs.Prelude.{◌≡◌, IfErr, IfOk, IsOk, None, OnOk};
-ghost use Rattle.dt_asm.specs.File.{IsFileOf, Refuses};
+ghost use Rattle.dt_asm.specs.File.{IsFileOf, IsRefusal};
 ghost use Rattle.dt_asm.specs.Refusal.{refusal_of};
 ghost use Rattle.dt_elf.specs.Executable.{exe};
 
@@ -13,7 +13,7 @@ pub fn executable(guest: &Guest) -> Result<Vec<u8>, AsmErr>
     ensures file { IfOk result (λ file. IsFileOf guest.now file.items) }
     ensures executable { IfOk result (λ file. IsOk (exe file.items)) }
     ensures sound { OnOk result (refusal_of guest.now.items ≡ None) }
-    ensures refused { IfErr result (Refuses guest.now.items) }
+    ensures refused { IfErr result (IsRefusal guest.now.items) }
 {
     guest.elf()
 }

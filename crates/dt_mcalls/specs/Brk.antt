@@ -3,7 +3,7 @@ use Rattle.std.specs.Prelude.{ℕ, ◌+◌, ◌-◌, ◌≤◌, List, Bool, not,
 use Rattle.dt_base.specs.declared.limits.TheConstants.{ADDRESS_LIMIT}
 use Rattle.dt_space.specs.declared.access.TheConstants.{READ, WRITE}
 use Rattle.dt_space.specs.Space.{PageView}
-use Rattle.dt_space.specs.Ranges.{map_refusal, mapped, unmapped}
+use Rattle.dt_space.specs.Ranges.{map_refusal, pages_after_map, pages_after_unmap}
 use Rattle.dt_mcalls.specs.declared.program_break.Break.{Break}
 use Rattle.dt_mcalls.specs.Lengths.{whole_pages}
 
@@ -13,13 +13,13 @@ pub record IsBreak (program_break : Break) : Type 0 where
   pub low : program_break.end ≤ ADDRESS_LIMIT
 
 -- the break and the pages after a call
-pub record Moved : Type 0 where
+pub record BrkResult : Type 0 where
   pub program_break : Break
   pub pages : List PageView
 
 -- the new break takes more whole pages than the old one
-abbrev pub grows : Break → ℕ → Bool
-grows program_break address = nat_lt (whole_pages program_break.end) (whole_pages address)
+abbrev pub is_growing : Break → ℕ → Bool
+is_growing program_break address = nat_lt (whole_pages program_break.end) (whole_pages address)
 
 -- the pages that are to come cannot be mapped: one of them is there, or there would be too many
 abbrev pub is_blocked : Break → List PageView → ℕ → Bool
@@ -27,10 +27,10 @@ is_blocked program_break pages address =
     is_some (map_refusal pages (whole_pages program_break.end) (whole_pages address - whole_pages program_break.end))
 
 -- the address lies below the break's start or past the end of all pages, or the pages cannot be mapped
-abbrev pub brk_refused : Break → List PageView → ℕ → Bool
-brk_refused program_break pages address =
+abbrev pub is_brk_refused : Break → List PageView → ℕ → Bool
+is_brk_refused program_break pages address =
     nat_lt address program_break.start || (nat_lt ADDRESS_LIMIT address
-    || (grows program_break address && is_blocked program_break pages address))
+    || (is_growing program_break address && is_blocked program_break pages address))
 
 -- the pages between the old break and the new one come, to be read and written, or go, whatever call put them there; each
 -- break takes whole pages
@@ -38,17 +38,19 @@ abbrev pub brk_pages : Break → List PageView → ℕ → List PageView
 brk_pages program_break pages address =
     let old = whole_pages program_break.end in
     let new = whole_pages address in
-    if grows program_break address then mapped pages old (new - old) (READ + WRITE) else unmapped pages new (old - new)
+    if is_growing program_break address then pages_after_map pages old (new - old) (READ + WRITE)
+    else pages_after_unmap pages new (old - new)
 
 -- the break moves to the address, or all stays
-unfoldable pub brk_of : Break → List PageView → ℕ → Moved
+unfoldable pub brk_of : Break → List PageView → ℕ → BrkResult
 brk_of program_break pages address =
-    if brk_refused program_break pages address then record { program_break = program_break; pages = pages }
+    if is_brk_refused program_break pages address then record { program_break = program_break; pages = pages }
     else record {
       program_break = record program_break { end = address };
       pages = brk_pages program_break pages address;
     }
 
 -- the call maps pages
-abbrev pub brk_maps : Break → List PageView → ℕ → Bool
-brk_maps program_break pages address = not (brk_refused program_break pages address) && grows program_break address
+abbrev pub is_brk_mapping : Break → List PageView → ℕ → Bool
+is_brk_mapping program_break pages address =
+    not (is_brk_refused program_break pages address) && is_growing program_break address

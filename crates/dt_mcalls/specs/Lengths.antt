@@ -11,5 +11,5 @@ abbrev pub whole_pages : ℕ → ℕ
 whole_pages bytes = (bytes + (PAGE_SIZE - 1)) / PAGE_SIZE
 
 -- a range of pages ends past all that a process can have
-abbrev pub ends_past : ℕ → ℕ → Bool
-ends_past first count = nat_lt (ADDRESS_LIMIT / PAGE_SIZE) (first + count)
+abbrev pub is_past_end : ℕ → ℕ → Bool
+is_past_end first count = nat_lt (ADDRESS_LIMIT / PAGE_SIZE) (first + count)

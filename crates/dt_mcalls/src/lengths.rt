@@ -1,6 +1,6 @@
 // Whole pages, of which each call changes some.
 ghost use Rattle.std.specs.Prelude.{◌≡◌};
-ghost use Rattle.dt_mcalls.specs.Lengths.{is_page_start, whole_pages, ends_past};
+ghost use Rattle.dt_mcalls.specs.Lengths.{is_page_start, whole_pages, is_past_end};
 
 use dt_base::{PAGE_NUMBERS, PAGE_SIZE};
 
@@ -19,8 +19,8 @@ pub fn whole_pages(bytes: u64) -> u64
 }
 
 /// Whether a range of pages ends past all that a process can have.
-pub fn ends_past(first: u64, count: u64) -> bool
-    ensures { result ≡ ends_past first count }
+pub fn is_past_end(first: u64, count: u64) -> bool
+    ensures { result ≡ is_past_end first count }
 {
     count > PAGE_NUMBERS || first > PAGE_NUMBERS - count
 }

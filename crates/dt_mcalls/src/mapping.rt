@@ -3,9 +3,9 @@ ghost use Rattle.std.specs.Prelude.{◌≡◌, ◌+◌, ◌<◌, ◌≤◌, ◌^
 ghost use Rattle.dt_space.specs.Space.{IsSpace};
 ghost use Rattle.dt_space.specs.Gaps.{is_free};
 ghost use Rattle.dt_mcalls.specs.Called.{is_done};
-ghost use Rattle.dt_mcalls.specs.Mmap.{is_supported, map_free, map_at, map_anywhere, mmap_of};
+ghost use Rattle.dt_mcalls.specs.Mmap.{is_supported, mmap_at_free, mmap_fixed, mmap_anywhere, mmap_of};
 
-use crate::lengths::{ends_past, is_page_start, whole_pages};
+use crate::lengths::{is_page_start, is_past_end, whole_pages};
 use dt_base::abi::{
     MAP_ANONYMOUS, MAP_FIXED, MAP_NORESERVE, MAP_PRIVATE, MAP_STACK, PROT_ALL, low_word,
 };
@@ -58,12 +58,12 @@ fn is_supported(flags: u64) -> bool
 }
 
 // Maps pages at an address, in the place of those that are there.
-#[tactic(auto, unfolding(crate::specs::Mmap::map_at))]
+#[tactic(auto, unfolding(crate::specs::Mmap::mmap_fixed))]
 fn map_at(space: &mut Space, address: u64, count: u64, rights: u8) -> Result<Answer, NoMemory>
     requires { 0 < count }
     ensures called { IfOk result (λ answer.
-        map_at space.old address count rights ≡ record { pages = space.new; answer = answer }) }
-    ensures memory { IfErr result (λ _. is_done (map_at space.old address count rights) ≡ true) }
+        mmap_fixed space.old address count rights ≡ record { pages = space.new; answer = answer }) }
+    ensures memory { IfErr result (λ _. is_done (mmap_fixed space.old address count rights) ≡ true) }
     ensures sound { IsSpace space.new }
 {
     let pages = space.pages() as u64;
@@ -71,7 +71,7 @@ fn map_at(space: &mut Space, address: u64, count: u64, rights: u8) -> Result<Ans
         return Ok(Answer::Refused(Errno::Inval));
     }
     let first = address / PAGE_SIZE;
-    if ends_past(first, count) {
+    if is_past_end(first, count) {
         return Ok(Answer::Refused(Errno::NoMem));
     }
     let others = pages - space.pages_in(first, count) as u64;
@@ -83,12 +83,12 @@ fn map_at(space: &mut Space, address: u64, count: u64, rights: u8) -> Result<Ans
 }
 
 // Maps pages at the lowest range that is free.
-#[tactic(auto, unfolding(crate::specs::Mmap::map_anywhere))]
+#[tactic(auto, unfolding(crate::specs::Mmap::mmap_anywhere))]
 fn map_anywhere(space: &mut Space, count: u64, rights: u8) -> Result<Answer, NoMemory>
     requires { 0 < count }
     ensures called { IfOk result (λ answer.
-        map_anywhere space.old count rights ≡ record { pages = space.new; answer = answer }) }
-    ensures memory { IfErr result (λ _. is_done (map_anywhere space.old count rights) ≡ true) }
+        mmap_anywhere space.old count rights ≡ record { pages = space.new; answer = answer }) }
+    ensures memory { IfErr result (λ _. is_done (mmap_anywhere space.old count rights) ≡ true) }
     ensures kept { OnErr result (space.new ≡ space.old) }
     ensures sound { IsSpace space.new }
 {
@@ -99,14 +99,14 @@ fn map_anywhere(space: &mut Space, count: u64, rights: u8) -> Result<Answer, NoM
     }
 }
 
-#[tactic(auto, unfolding(crate::specs::Mmap::map_free))]
+#[tactic(auto, unfolding(crate::specs::Mmap::mmap_at_free))]
 fn map_free(space: &mut Space, first: u64, count: u64, rights: u8) -> Result<Answer, NoMemory>
     requires some { 0 < count }
     requires low { first + count ≤ 2 ^ 26 }
     requires free { is_free space.old first count ≡ true }
     ensures called { IfOk result (λ answer.
-        map_free space.old first count rights ≡ record { pages = space.new; answer = answer }) }
-    ensures memory { IfErr result (λ _. is_done (map_free space.old first count rights) ≡ true) }
+        mmap_at_free space.old first count rights ≡ record { pages = space.new; answer = answer }) }
+    ensures memory { IfErr result (λ _. is_done (mmap_at_free space.old first count rights) ≡ true) }
     ensures kept { OnErr result (space.new ≡ space.old) }
     ensures sound { IsSpace space.new }
 {

@@ -1,7 +1,7 @@
 // The break of a process, and the call that moves it (brk(2)).
 ghost use Rattle.std.specs.Prelude.{◌≡◌, true, IfOk, IfErr, OnErr};
 ghost use Rattle.dt_space.specs.Space.{IsSpace};
-ghost use Rattle.dt_mcalls.specs.Brk.{IsBreak, brk_of, brk_maps};
+ghost use Rattle.dt_mcalls.specs.Brk.{IsBreak, brk_of, is_brk_mapping};
 
 use crate::lengths::whole_pages;
 use dt_base::{ADDRESS_LIMIT, NoMemory};
@@ -22,7 +22,7 @@ pub fn brk(program_break: &mut Break, space: &mut Space, address: u64) -> Result
     ensures called { IfOk result (λ _. brk_of program_break.old space.old address
         ≡ record { program_break = program_break.new; pages = space.new }) }
     ensures answer { IfOk result (λ answer. answer ≡ program_break.new.end) }
-    ensures memory { IfErr result (λ _. brk_maps program_break.old space.old address ≡ true) }
+    ensures memory { IfErr result (λ _. is_brk_mapping program_break.old space.old address ≡ true) }
     ensures break_kept { OnErr result (program_break.new ≡ program_break.old) }
     ensures pages_kept { OnErr result (space.new ≡ space.old) }
     ensures break_sound { IsBreak program_break.old → IsBreak program_break.new }

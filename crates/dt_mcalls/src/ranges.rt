@@ -4,7 +4,7 @@ ghost use Rattle.dt_space.specs.Space.{IsSpace};
 ghost use Rattle.dt_mcalls.specs.Munmap.{munmap_of};
 ghost use Rattle.dt_mcalls.specs.Mprotect.{mprotect_of};
 
-use crate::lengths::{ends_past, is_page_start, whole_pages};
+use crate::lengths::{is_page_start, is_past_end, whole_pages};
 use dt_base::abi::{PROT_ALL, low_word};
 use dt_base::{Answer, Errno, PAGE_SIZE};
 use dt_space::Space;
@@ -18,7 +18,7 @@ pub fn munmap(space: &mut Space, address: u64, len: u64) -> Answer
     let _sound = space.pages();
     let first = address / PAGE_SIZE;
     let count = whole_pages(len);
-    if !is_page_start(address) || len == 0 || ends_past(first, count) {
+    if !is_page_start(address) || len == 0 || is_past_end(first, count) {
         return Answer::Refused(Errno::Inval);
     }
     space.unmap(first, count);
@@ -42,7 +42,7 @@ pub fn mprotect(space: &mut Space, address: u64, len: u64, prot: u64) -> Answer
     }
     let first = address / PAGE_SIZE;
     let count = whole_pages(len);
-    if ends_past(first, count) || space.protect(first, count, rights as u8).is_err() {
+    if is_past_end(first, count) || space.protect(first, count, rights as u8).is_err() {
         return Answer::Refused(Errno::NoMem);
     }
     Answer::Value(0)

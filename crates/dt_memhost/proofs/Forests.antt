@@ -13,10 +13,10 @@ use Rattle.dt_host.specs.declared.kind.NodeKind.{NodeKind}
 use Rattle.dt_memhost.specs.declared.node.MemNode.{MemNode}
 use Rattle.dt_memhost.specs.declared.node.MemNode.TheVariants.{File, Dir, Link, Pipe}
 use Rattle.dt_memhost.specs.inner.Node.{node_of, node_in, nodes_of, entries_of, order_in, orders_of, held_of, held_in, pipes_of, new_node, new_order, new_held}
-use Rattle.dt_memhost.specs.inner.Forest.{Ordered, empty_ordered, made, bound, unbound, forgotten, rewritten, refilled}
+use Rattle.dt_memhost.specs.inner.Forest.{OrderedForest, empty_ordered, with_new_at, with_binding, without_binding, without_number, with_file_bytes, with_pipe_bytes}
 use Rattle.dt_memhost.specs.Order.{Order, order_at, order_without}
 use Rattle.dt_memhost.specs.inner.Dir.{names_of}
-use Rattle.dt_host.proofs.Maps.{remove_none}
+use Rattle.dt_tables.proofs.Maps.{remove_none}
 use Rattle.dt_memhost.proofs.Kept.{get-kept_of, kept_of-nil, kept_of-changed, kept_of-same}
 use Rattle.dt_memhost.proofs.Numbered.{get-nodes_of}
 
@@ -61,7 +61,7 @@ pub get-pipes_of : (nodes : BTreeMap ℕ MemNode) (q : ℕ) → get (pipes_of no
 get-pipes_of nodes q = get-kept_of held_of nodes q
 
 -- a tree's nodes and pipes, with that root
-abbrev pub ordered_of : BTreeMap ℕ MemNode → ℕ → Ordered
+abbrev pub ordered_of : BTreeMap ℕ MemNode → ℕ → OrderedForest
 ordered_of nodes root = record { forest = forest_of nodes root; orders = orders_of nodes.entries; pipes = pipes_of nodes.entries }
 
 -- a directory has an order
@@ -109,7 +109,7 @@ module _ (old new : BTreeMap ℕ MemNode) (root n : ℕ) (others : (q : ℕ) →
   nothing_changed node order held i = record { forest = same_forest node i; orders = same_orders order i; pipes = same_pipes held i }
 
   -- that one was made
-  pub one_made : (kind : NodeKind) → node_in new n ≡ new_node kind → order_in new n ≡ new_order kind → held_in new n ≡ new_held kind → ordered_of new root ≡ made (ordered_of old root) n kind
+  pub one_made : (kind : NodeKind) → node_in new n ≡ new_node kind → order_in new n ≡ new_order kind → held_in new n ≡ new_held kind → ordered_of new root ≡ with_new_at (ordered_of old root) n kind
   one_made kind node order held i = record {
     forest = record { nodes = kept_of-changed node_of old new n others (new_node kind) node i; root = root };
     orders = kept_of-changed entries_of old new n others (new_order kind) order i;
@@ -126,7 +126,7 @@ module _ (old new : BTreeMap ℕ MemNode) (root n : ℕ) (others : (q : ℕ) →
       })
 
   -- that one is gone
-  pub one_gone : tree.get nat_cmp new n ≡ None → ordered_of new root ≡ forgotten (ordered_of old root) n
+  pub one_gone : tree.get nat_cmp new n ≡ None → ordered_of new root ≡ without_number (ordered_of old root) n
   one_gone gone i = record {
     forest = record { nodes = kept_of-changed node_of old new n others None (ap (option_and_then node_of) gone) i; root = root };
     orders = kept_of-changed entries_of old new n others None (ap (option_and_then entries_of) gone) i;
@@ -158,7 +158,7 @@ module _ (old new : BTreeMap ℕ MemNode) (root n : ℕ) (others : (q : ℕ) →
   has_order-at is = has_order (tree.get nat_cmp old n) (subst (λ found. IsSome found) (dir_at-forest_of old root n) is)
 
   -- an entry was put into that one's names
-  pub entry_put : (name : List ℕ) (to : ℕ) → IsDir (forest_of old root) n → IfSome (option_and_then dir_names (node_in old n)) (λ names. node_in new n ≡ Some (dir (insert names name to))) → order_in new n ≡ option_map (λ order. order ++ (name, to) ∷ []) (order_in old n) → held_in new n ≡ held_in old n → ordered_of new root ≡ bound (ordered_of old root) n name to
+  pub entry_put : (name : List ℕ) (to : ℕ) → IsDir (forest_of old root) n → IfSome (option_and_then dir_names (node_in old n)) (λ names. node_in new n ≡ Some (dir (insert names name to))) → order_in new n ≡ option_map (λ order. order ++ (name, to) ∷ []) (order_in old n) → held_in new n ≡ held_in old n → ordered_of new root ≡ with_binding (ordered_of old root) n name to
   unfolding with_entry
   entry_put name to is put last held i = record {
     forest = names_changed (λ names. insert names name to) is put i;
@@ -167,7 +167,7 @@ module _ (old new : BTreeMap ℕ MemNode) (root n : ℕ) (others : (q : ℕ) →
   }
 
   -- an entry was taken out of them
-  pub entry_taken : (name : List ℕ) → IsDir (forest_of old root) n → IfSome (option_and_then dir_names (node_in old n)) (λ names. node_in new n ≡ Some (dir (remove names name))) → order_in new n ≡ option_map (λ order. order_without order name) (order_in old n) → held_in new n ≡ held_in old n → ordered_of new root ≡ unbound (ordered_of old root) n name
+  pub entry_taken : (name : List ℕ) → IsDir (forest_of old root) n → IfSome (option_and_then dir_names (node_in old n)) (λ names. node_in new n ≡ Some (dir (remove names name))) → order_in new n ≡ option_map (λ order. order_without order name) (order_in old n) → held_in new n ≡ held_in old n → ordered_of new root ≡ without_binding (ordered_of old root) n name
   unfolding without_entry
   entry_taken name is taken order held i = record {
     forest = names_changed (λ names. remove names name) is taken i;
@@ -176,7 +176,7 @@ module _ (old new : BTreeMap ℕ MemNode) (root n : ℕ) (others : (q : ℕ) →
   }
 
   -- that one's bytes changed
-  pub bytes_changed : (change : List ℕ → List ℕ) → IsFile (forest_of old root) n → IfSome (option_and_then file_bytes (node_in old n)) (λ bytes. node_in new n ≡ Some (file (change bytes))) → order_in new n ≡ order_in old n → held_in new n ≡ held_in old n → ordered_of new root ≡ rewritten (ordered_of old root) n (change (content (forest_of old root) n))
+  pub bytes_changed : (change : List ℕ → List ℕ) → IsFile (forest_of old root) n → IfSome (option_and_then file_bytes (node_in old n)) (λ bytes. node_in new n ≡ Some (file (change bytes))) → order_in new n ≡ order_in old n → held_in new n ≡ held_in old n → ordered_of new root ≡ with_file_bytes (ordered_of old root) n (change (content (forest_of old root) n))
   unfolding with_bytes
   bytes_changed change is h order held i = record {
     forest =
@@ -191,7 +191,7 @@ module _ (old new : BTreeMap ℕ MemNode) (root n : ℕ) (others : (q : ℕ) →
       at_bytes (Some bytes) some put = put
 
   -- what that one holds changed
-  pub held_changed : (change : List ℕ → List ℕ) → IsSome (get (pipes_of old.entries) n) → IfSome (held_in old n) (λ held. held_in new n ≡ Some (change held)) → node_in new n ≡ node_in old n → order_in new n ≡ order_in old n → ordered_of new root ≡ refilled (ordered_of old root) n (change (unwrap_or (get (pipes_of old.entries) n) []))
+  pub held_changed : (change : List ℕ → List ℕ) → IsSome (get (pipes_of old.entries) n) → IfSome (held_in old n) (λ held. held_in new n ≡ Some (change held)) → node_in new n ≡ node_in old n → order_in new n ≡ order_in old n → ordered_of new root ≡ with_pipe_bytes (ordered_of old root) n (change (unwrap_or (get (pipes_of old.entries) n) []))
   held_changed change is h node order i = record {
     forest = same_forest node i;
     orders = same_orders order i;

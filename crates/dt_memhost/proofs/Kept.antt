@@ -8,7 +8,7 @@ use Rattle.std.specs.Map.{lookup}
 use Rattle.std.specs.BTreeMap as tree
 use Rattle.std.specs.BTreeMap.{BTreeMap}
 use Rattle.std.specs.FinMap.{FinMap, empty, get, get-empty, get-insert, get-remove, same_map, nat_cmp-IsAntisymmetric}
-use Rattle.dt_host.proofs.Maps.{at_insert, at_remove}
+use Rattle.dt_tables.proofs.Maps.{at_insert, at_remove}
 use Rattle.dt_memhost.specs.inner.Kept.{kept_of, with_value}
 
 module _ {Y : Type 0} where

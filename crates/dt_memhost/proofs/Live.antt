@@ -10,8 +10,8 @@ use Rattle.std.specs.BTreeMap as tree
 use Rattle.std.specs.BTreeMap.{BTreeMap}
 use Rattle.std.specs.FinMap.{nat_cmp-IsAntisymmetric}
 use Rattle.std.specs.FinSet.{contains, insert, remove, contains-empty, contains-from_list, contains-insert, contains-remove, same_set}
-use Rattle.dt_host.specs.World.{Pids, ArePids}
-use Rattle.dt_memhost.specs.inner.Live.{has, pids_of}
+use Rattle.dt_host.specs.World.{HostPids, ArePids}
+use Rattle.dt_memhost.specs.inner.Live.{has_number, pids_of}
 
 some_or : {X : Type 0} (b : Bool) (x : X) (found : Option X) → is_some (cond b (Some x) found) ≡ (b || is_some found)
 some_or true x found = refl
@@ -23,7 +23,7 @@ none_or false found = refl
 
 module _ {X : Type 0} where
   -- the pids are the numbers that the map has
-  pub contains-pids_of : (m : BTreeMap ℕ X) → contains (pids_of m.entries) ≡ has m
+  pub contains-pids_of : (m : BTreeMap ℕ X) → contains (pids_of m.entries) ≡ has_number m
   contains-pids_of m i q =
       (contains-from_list nat_cmp_total (keys_of m.entries) q ∙ sym (is_some-lookup (eq_by_cmp nat_cmp q) m.entries)) i
 
@@ -56,7 +56,7 @@ pub ArePids-none : {X : Type 0} (entries : List (ℕ × X)) → entries ≡ [] �
 ArePids-none entries none = subst (λ entries. ArePids (pids_of entries)) (sym none) (λ q is. let no = contains-empty nat_cmp q in absurd cc)
 
 -- one pid more, of 64 bits
-pub ArePids-insert : (pids : Pids) (p : ℕ) → p < 2 ^ 64 → ArePids pids → ArePids (insert pids p)
+pub ArePids-insert : (pids : HostPids) (p : ℕ) → p < 2 ^ 64 → ArePids pids → ArePids (insert pids p)
 ArePids-insert pids p small each q is = by_old (contains pids q) refl
   where
     by_old : (b : Bool) → contains pids q ≡ b → q < 2 ^ 64
@@ -68,7 +68,7 @@ ArePids-insert pids p small each q is = by_old (contains pids q) refl
         subst (λ x. x < 2 ^ 64) (sym same) small
 
 -- one pid fewer
-pub ArePids-remove : (pids : Pids) (p : ℕ) → ArePids pids → ArePids (remove pids p)
+pub ArePids-remove : (pids : HostPids) (p : ℕ) → ArePids pids → ArePids (remove pids p)
 ArePids-remove pids p each q is =
     let removed = contains-remove nat_cmp_total pids p q in
     let tied = unsigned_tied q p in

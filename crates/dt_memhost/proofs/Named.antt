@@ -14,9 +14,9 @@ use Rattle.std.specs.HashMap.{HashMap, UpdatesBy}
 use Rattle.std.specs.Map.{lookup, keys_of, remove_entry, KeepsOthers}
 use Rattle.std.specs.FinMap.{entries, empty, get, insert, remove, same_map, get-entries, get-from_entries, entries-insert, from_entries_push, len-entries, len-empty}
 use Rattle.std.specs.FinMap.Entries.{find, put, by_order}
-use Rattle.dt_host.specs.Entries.{map_of}
-use Rattle.dt_host.proofs.Maps.{names_tie, at_remove, number_tie}
-use Rattle.dt_host.proofs.MapOf.{get-map_of}
+use Rattle.dt_tables.specs.Entries.{map_of}
+use Rattle.dt_tables.proofs.Maps.{names_tie, at_remove, number_tie}
+use Rattle.dt_tables.proofs.MapOf.{get-map_of}
 use Rattle.dt_memhost.specs.Order.{Order, order_without}
 use Rattle.dt_memhost.specs.inner.Dir.{order_of, names_of}
 

@@ -10,13 +10,13 @@ use Rattle.std.specs.BTreeMap as tree
 use Rattle.std.specs.BTreeMap.{BTreeMap, btree_map_len}
 use Rattle.std.specs.FinMap.{get, contains_key}
 use Rattle.std.proofs.lemmas.Map.Steps.{le-length_from_below}
-use Rattle.dt_host.proofs.Conjuncts.{either-last}
+use Rattle.dt_tables.proofs.Conjuncts.{either-last}
 use Rattle.dt_memhost.specs.declared.node.MemNode.{MemNode}
 use Rattle.dt_memhost.specs.declared.node.MemNode.TheVariants.{File, Dir, Link, Pipe}
 use Rattle.dt_memhost.specs.inner.Node.{node_of, nodes_of, node_in, held_of, pipes_of}
-use Rattle.dt_memhost.specs.inner.Live.{has}
+use Rattle.dt_memhost.specs.inner.Live.{has_number}
 use Rattle.dt_memhost.proofs.Kept.{get-kept_of}
-use Rattle.dt_memhost.specs.Number.{around, either_has, IsLeastAbove, Numbers}
+use Rattle.dt_memhost.specs.Number.{next_free, is_in_either, IsLeastAbove, IsChosenNumber}
 
 -- the map has at a number the node in the tree
 pub get-nodes_of : (nodes : BTreeMap ℕ MemNode) (q : ℕ) → get (nodes_of nodes.entries) q ≡ node_in nodes q
@@ -31,7 +31,7 @@ one_of_both (Some (Link target)) = refl
 one_of_both (Some (Pipe bytes)) = refl
 
 -- and so the tree has the numbers of nodes and of pipes
-pub has-both : (nodes : BTreeMap ℕ MemNode) → either_has (nodes_of nodes.entries) (pipes_of nodes.entries) ≡ has nodes
+pub has-both : (nodes : BTreeMap ℕ MemNode) → is_in_either (nodes_of nodes.entries) (pipes_of nodes.entries) ≡ has_number nodes
 has-both nodes i q =
     (ap (λ found. is_some found || contains_key (pipes_of nodes.entries) q) (get-nodes_of nodes q)
     ∙ ap (λ found. is_some (option_and_then node_of (tree.get nat_cmp nodes q)) || is_some found) (get-kept_of held_of nodes q)
@@ -57,7 +57,7 @@ found_past start q (e ∷ entries) h =
     tied x y e = grind (arith, nat_tests)
 
 -- not more numbers stand in a row than there are entries
-pub row_of_live : {X : Type 0} (m : BTreeMap ℕ X) (start count : ℕ) → ((q : ℕ) → q < count → has m (start + q) ≡ true) → count ≤ btree_map_len m
+pub row_of_live : {X : Type 0} (m : BTreeMap ℕ X) (start count : ℕ) → ((q : ℕ) → q < count → has_number m (start + q) ≡ true) → count ≤ btree_map_len m
 row_of_live {X} m start count live =
     let most = le-length_from_below (map (λ (e : ℕ × X). e.0 - start) m.entries) count (λ q h.
     found_past start q m.entries (live q h)) in
@@ -65,27 +65,27 @@ row_of_live {X} m start count live =
 
 module _ (live : ℕ → Bool) (limit : ℕ) where
   -- a number that is live is passed
-  pub around-live : (from left : ℕ) → live (1 + from % limit) ≡ true → around live limit from (suc left) ≡ around live limit (from + 1) left
-  unfolding around
-  around-live from left e = ap (λ b. cond b (around live limit (from + 1) left) (Some (1 + from % limit))) e
+  pub around-live : (from left : ℕ) → live (1 + from % limit) ≡ true → next_free live limit from (suc left) ≡ next_free live limit (from + 1) left
+  unfolding next_free
+  around-live from left e = ap (λ b. cond b (next_free live limit (from + 1) left) (Some (1 + from % limit))) e
 
   -- one that isn't is taken
-  pub around-free : (from left : ℕ) → live (1 + from % limit) ≡ false → around live limit from (suc left) ≡ Some (1 + from % limit)
-  unfolding around
-  around-free from left e = ap (λ b. cond b (around live limit (from + 1) left) (Some (1 + from % limit))) e
+  pub around-free : (from left : ℕ) → live (1 + from % limit) ≡ false → next_free live limit from (suc left) ≡ Some (1 + from % limit)
+  unfolding next_free
+  around-free from left e = ap (λ b. cond b (next_free live limit (from + 1) left) (Some (1 + from % limit))) e
 
   -- after the last none is left
-  pub around-none : (from left : ℕ) → left ≡ 0 → around live limit from left ≡ None
-  unfolding around
-  around-none from left e = ap (around live limit from) e
+  pub around-none : (from left : ℕ) → left ≡ 0 → next_free live limit from left ≡ None
+  unfolding next_free
+  around-none from left e = ap (next_free live limit from) e
 
   -- a number that is found on the way round is at least 1, and free
-  found_around : (from left n : ℕ) → around live limit from left ≡ Some n → (1 ≤ n) × (live n ≡ false)
-  unfolding around
+  found_around : (from left n : ℕ) → next_free live limit from left ≡ Some n → (1 ≤ n) × (live n ≡ false)
+  unfolding next_free
   found_around from zero n e = cc
   found_around from (suc left) n e =
       let at = 1 + from % limit in
-      elim (live at) as (λ b. live at ≡ b → cond b (around live limit (from + 1) left) (Some at) ≡ Some n → (1 ≤ n) × (live n ≡ false)) [
+      elim (live at) as (λ b. live at ≡ b → cond b (next_free live limit (from + 1) left) (Some at) ≡ Some n → (1 ≤ n) × (live n ≡ false)) [
         | true ↦ λ taken is. found_around (from + 1) left n is
         | false ↦ λ free is.
             let same : at ≡ n = cc in
@@ -93,9 +93,9 @@ module _ (live : ℕ → Bool) (limit : ℕ) where
       ] refl e
 
   -- so is every number that a word chooses
-  pub chosen_number : (word n : ℕ) → Numbers live limit word n → (1 ≤ n) × (live n ≡ false)
+  pub chosen_number : (word n : ℕ) → IsChosenNumber live limit word n → (1 ≤ n) × (live n ≡ false)
   chosen_number word n h =
-      elim (around live limit word limit) as (λ found. around live limit word limit ≡ found → MatchOption found (IsLeastAbove live limit n) (λ at. n ≡ at) → (1 ≤ n) × (live n ≡ false)) [
+      elim (next_free live limit word limit) as (λ found. next_free live limit word limit ≡ found → MatchOption found (IsLeastAbove live limit n) (λ at. n ≡ at) → (1 ≤ n) × (live n ≡ false)) [
         | None ↦ λ is least. (omega (arith, least.above), least.free)
         | Some at ↦ λ is same. found_around word limit n (is ∙ ap (λ x. Some x) (sym same))
       ] refl h

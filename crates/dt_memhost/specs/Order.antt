@@ -39,7 +39,7 @@ abbrev pub without_name : Orders → ℕ → List ℕ → Orders
 without_name orders d name = insert orders d (order_without (order_at orders d) name)
 
 -- of those that are left the one at the word modulo their number, and so on without it
-unfoldable pub picked_order : {A : Type 0} → List ℕ → List A → List A
-picked_order [] left = left
-picked_order (word ∷ words) left =
-    let at = word % length left in take 1 (drop at left) ++ picked_order words (remove left at)
+unfoldable pub drawn_order : {A : Type 0} → List ℕ → List A → List A
+drawn_order [] left = left
+drawn_order (word ∷ words) left =
+    let at = word % length left in take 1 (drop at left) ++ drawn_order words (remove left at)

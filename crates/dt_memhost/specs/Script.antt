@@ -15,28 +15,28 @@ abbrev pub next_count : ℕ → ℕ
 next_count count = min (count + 1) (2 ^ 64 - 1)
 
 -- the next call is listed; calls are counted from 1
-abbrev pub fails_next : Script → Bool
-fails_next s = list_any (λ number. number == next_count s.calls) s.fails
+abbrev pub is_next_listed : Script → Bool
+is_next_listed s = list_any (λ number. number == next_count s.calls) s.fails
 
 -- the script once a call was made
-abbrev pub counted : Script → Script
-counted s = record s { calls = next_count s.calls }
+abbrev pub after_call : Script → Script
+after_call s = record s { calls = next_count s.calls }
 
 -- the script once a call has failed
-abbrev pub failed : Script → Script
-failed s = record s { calls = next_count s.calls; faults = next_count s.faults }
+abbrev pub after_fault : Script → Script
+after_fault s = record s { calls = next_count s.calls; faults = next_count s.faults }
 
 -- the script once a word was taken
-abbrev pub picked : Script → Script
-picked s = record s { picks = (next_pick s.picks).1 }
+abbrev pub after_draw : Script → Script
+after_draw s = record s { picks = (next_pick s.picks).1 }
 
 -- the script once so many words were taken
-abbrev pub picked_all : ℕ → Script → Script
-picked_all n s = record s { picks = after_words n s.picks }
+abbrev pub after_draws : ℕ → Script → Script
+after_draws n s = record s { picks = after_words n s.picks }
 
 -- the script whose words are those of the stream of a number
-abbrev pub restarted : Script → ℕ → Script
-restarted s number = record s { picks = picks_of [] number }
+abbrev pub with_stream : Script → ℕ → Script
+with_stream s number = record s { picks = picks_of [] number }
 
 -- the next word
 abbrev pub coming_word : Script → ℕ

@@ -2,7 +2,7 @@
 ghost use Rattle.std.specs.Prelude.{◌≡◌, None, [], ◌∷◌, ◌++◌, map, IfOk, OnOk, OnErr};
 ghost use Rattle.std.specs.List.Sorted.{IsPermutation};
 ghost use Rattle.std.specs.FinMap.{entries, get, insert, remove};
-ghost use Rattle.dt_host.specs.Legal.{named};
+ghost use Rattle.dt_host.specs.Legal.{pair_of};
 ghost use Rattle.dt_memhost.specs.Order.{order_without};
 ghost use Rattle.dt_memhost.specs.inner.Dir.{names_of};
 
@@ -46,9 +46,9 @@ impl Entries {
 
     /// A copy of the entries, in the order of their binding.
     pub(crate) fn list(&self, alloc: Global) -> Result<Vec<HostEntry>, NoMemory>
-        ensures order { IfOk result (λ found. map named found.items ≡ self.now) }
+        ensures order { IfOk result (λ found. map pair_of found.items ≡ self.now) }
         ensures each { IfOk result
-            (λ found. IsPermutation (entries (names_of self.now)) (map named found.items)) }
+            (λ found. IsPermutation (entries (names_of self.now)) (map pair_of found.items)) }
     {
         let mut found = Vec::with_capacity(alloc, self.names.len())?;
         for (name, number) in &self.names {

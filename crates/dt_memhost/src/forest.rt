@@ -4,11 +4,12 @@ ghost use Rattle.std.specs.Prelude.{option_map, option_copied, unwrap_or, vec_it
 ghost use Rattle.std.specs.List.Sorted.{IsPermutation};
 ghost use Rattle.std.specs.FinMap.{entries, get};
 ghost use Rattle.dt_host.specs.World.{IsFile, IsDir, IsLive, IsSized, file_at, target_at, names_at, content, entry};
-ghost use Rattle.dt_base.specs.Bytes.{overwritten, resized};
-ghost use Rattle.dt_host.specs.Legal.{named};
-ghost use Rattle.dt_memhost.specs.Number.{Numbers, either_has};
+ghost use Rattle.dt_base.specs.Bytes.{with_bytes_at, with_length};
+ghost use Rattle.dt_host.specs.Legal.{pair_of};
+ghost use Rattle.dt_memhost.specs.Number.{IsChosenNumber, is_in_either};
 ghost use Rattle.dt_memhost.specs.Order.{order_at};
-ghost use Rattle.dt_memhost.specs.inner.Forest.{empty_ordered, made, bound, unbound, forgotten, rewritten, refilled};
+ghost use Rattle.dt_memhost.specs.inner.Forest.{empty_ordered, with_new_at, with_binding, without_binding};
+ghost use Rattle.dt_memhost.specs.inner.Forest.{without_number, with_file_bytes, with_pipe_bytes};
 
 use crate::dir::Entries;
 use crate::node::MemNode;
@@ -20,8 +21,8 @@ use std::alloc::Global;
 use std::collections::BTreeMap;
 use std::marker::Model;
 
-// The number of the root.
-const ROOT: u64 = 1;
+/// The number of the root.
+pub const ROOT: u64 = 1;
 
 /// The nodes and pipes of a host in memory, with the root.
 #[derive(Drop)]
@@ -33,11 +34,11 @@ pub(crate) struct MemForest {
 }
 
 impl Model for MemForest {
-    ghost use Rattle.dt_memhost.specs.inner.Forest.{Ordered, HasSizes};
+    ghost use Rattle.dt_memhost.specs.inner.Forest.{OrderedForest, HasSizes};
     ghost use Rattle.dt_memhost.specs.inner.Codes.{ordered_code};
     ghost use Rattle.dt_memhost.specs.inner.Node.{nodes_of, orders_of, pipes_of};
 
-    ghost Value = { Ordered };
+    ghost Value = { OrderedForest };
 
     ghost coded = { ordered_code };
 
@@ -57,7 +58,7 @@ impl Model for MemForest {
 impl MemForest {
     /// Nothing but a root without entries.
     pub(crate) fn new(alloc: Global) -> Result<MemForest, NoMemory>
-        ensures { IfOk result (λ f. f ≡ empty_ordered 1) }
+        ensures { IfOk result (λ f. f ≡ empty_ordered ROOT) }
     {
         let mut nodes = BTreeMap::new(alloc);
         nodes.insert(ROOT, MemNode::Dir(Entries::new(alloc)))?;
@@ -114,17 +115,17 @@ impl MemForest {
     pub(crate) fn list(&self, dir: u64) -> Result<Vec<HostEntry>, NoMemory>
         requires { IsDir self.now.forest dir }
         ensures order { IfOk result
-            (λ found. map named found.items ≡ order_at self.now.orders dir) }
+            (λ found. map pair_of found.items ≡ order_at self.now.orders dir) }
         ensures each { IfOk result
             (λ found. IsPermutation
-            (entries (names_at self.now.forest dir)) (map named found.items)) }
+            (entries (names_at self.now.forest dir)) (map pair_of found.items)) }
     {
         nodes::list(&self.nodes, dir, self.alloc)
     }
 
     /// The number of a new node or pipe, by a word.
     pub(crate) fn number_by(&self, word: u32) -> u64
-        ensures chosen { Numbers (either_has self.now.forest.nodes self.now.pipes) INODE_NUMBERS word result }
+        ensures chosen { IsChosenNumber (is_in_either self.now.forest.nodes self.now.pipes) INODE_NUMBERS word result }
         ensures positive { 1 ≤ result }
         ensures free { get self.now.forest.nodes result ≡ None }
         ensures no_order { get self.now.orders result ≡ None }
@@ -135,7 +136,7 @@ impl MemForest {
 
     /// Puts a new node or pipe under a number.
     pub(crate) fn make(&mut self, number: u64, kind: NodeKind) -> Result<(), NoMemory>
-        ensures ok { OnOk result (self.new ≡ made self.old number kind) }
+        ensures ok { OnOk result (self.new ≡ with_new_at self.old number kind) }
         ensures err { OnErr result (self.new ≡ self.old) }
     {
         let node = MemNode::new(self.alloc, kind);
@@ -147,7 +148,7 @@ impl MemForest {
     pub(crate) fn bind(&mut self, dir: u64, name: &[u8], number: u64) -> Result<(), NoMemory>
         requires directory { IsDir self.old.forest dir }
         requires unnamed { entry self.old.forest dir name.now ≡ None }
-        ensures ok { OnOk result (self.new ≡ bound self.old dir name.now number) }
+        ensures ok { OnOk result (self.new ≡ with_binding self.old dir name.now number) }
         ensures err { OnErr result (self.new ≡ self.old) }
     {
         let name = Vec::from_slice(self.alloc, name)?;
@@ -160,8 +161,8 @@ impl MemForest {
         requires joined { off ≤ length (content self.old.forest number) }
         requires fits { off + length piece.now < 2 ^ 64 }
         ensures ok { OnOk result (self.new
-            ≡ rewritten self.old number
-            (overwritten (content self.old.forest number) off piece.now)) }
+            ≡ with_file_bytes self.old number
+            (with_bytes_at (content self.old.forest number) off piece.now)) }
         ensures err { OnErr result (self.new ≡ self.old) }
     {
         nodes::write(&mut self.nodes, number, off, piece)
@@ -170,14 +171,14 @@ impl MemForest {
     /// Takes the entry of that name out of a directory.
     pub(crate) fn unbind(&mut self, dir: u64, name: &[u8])
         requires { IsDir self.old.forest dir }
-        ensures { self.new ≡ unbound self.old dir name.now }
+        ensures { self.new ≡ without_binding self.old dir name.now }
     {
         nodes::unbind(&mut self.nodes, dir, name);
     }
 
     /// Lets go what is under a number, a node or a pipe.
     pub(crate) fn forget(&mut self, number: u64)
-        ensures gone { self.new ≡ forgotten self.old number }
+        ensures gone { self.new ≡ without_number self.old number }
         ensures apart { IsLive self.old.forest number → get self.old.pipes number ≡ None }
     {
         self.nodes.remove(&number);
@@ -187,7 +188,7 @@ impl MemForest {
     pub(crate) fn cut(&mut self, number: u64, len: usize) -> Result<(), NoMemory>
         requires { IsFile self.old.forest number }
         ensures ok { OnOk result (self.new
-            ≡ rewritten self.old number (resized (content self.old.forest number) len)) }
+            ≡ with_file_bytes self.old number (with_length (content self.old.forest number) len)) }
         ensures err { OnErr result (self.new ≡ self.old) }
     {
         nodes::cut(&mut self.nodes, number, len)
@@ -208,7 +209,7 @@ impl MemForest {
         ensures bytes { buf.new
             ≡ take count (unwrap_or (get self.old.pipes number) []) ++ drop count buf.old }
         ensures left { self.new
-            ≡ refilled self.old number (drop count (unwrap_or (get self.old.pipes number) [])) }
+            ≡ with_pipe_bytes self.old number (drop count (unwrap_or (get self.old.pipes number) [])) }
     {
         nodes::take(&mut self.nodes, number, count, buf);
     }
@@ -217,7 +218,7 @@ impl MemForest {
     pub(crate) fn put(&mut self, number: u64, bytes: &[u8]) -> Result<(), NoMemory>
         requires { IsSome (get self.old.pipes number) }
         ensures ok { OnOk result (self.new
-            ≡ refilled self.old number (unwrap_or (get self.old.pipes number) [] ++ bytes.now)) }
+            ≡ with_pipe_bytes self.old number (unwrap_or (get self.old.pipes number) [] ++ bytes.now)) }
         ensures err { OnErr result (self.new ≡ self.old) }
     {
         nodes::put(&mut self.nodes, number, bytes)

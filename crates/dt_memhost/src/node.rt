@@ -5,8 +5,8 @@ ghost use Rattle.std.specs.Prelude.{IfOk, OnOk, OnErr, IfSome};
 ghost use Rattle.std.specs.List.Sorted.{IsPermutation};
 ghost use Rattle.std.specs.FinMap.{entries, get, insert, remove};
 ghost use Rattle.dt_host.specs.World.{file, dir, file_bytes, dir_names, link_target};
-ghost use Rattle.dt_base.specs.Bytes.{overwritten, resized};
-ghost use Rattle.dt_host.specs.Legal.{named};
+ghost use Rattle.dt_base.specs.Bytes.{with_bytes_at, with_length};
+ghost use Rattle.dt_host.specs.Legal.{pair_of};
 ghost use Rattle.dt_memhost.specs.Order.{order_without};
 ghost use Rattle.dt_memhost.specs.inner.Node.{node_of, entries_of, held_of, new_node, new_order, new_held};
 
@@ -78,10 +78,10 @@ impl MemNode {
 
     /// A copy of the entries, in the order of their binding; what is no directory has none.
     pub(crate) fn list(&self, alloc: Global) -> Result<Vec<HostEntry>, NoMemory>
-        ensures order { IfOk result (λ found. map named found.items ≡ unwrap_or (entries_of self.now) []) }
+        ensures order { IfOk result (λ found. map pair_of found.items ≡ unwrap_or (entries_of self.now) []) }
         ensures each { IfSome (option_and_then dir_names (node_of self.now))
             (λ names. IfOk result
-            (λ found. IsPermutation (entries names) (map named found.items))) }
+            (λ found. IsPermutation (entries names) (map pair_of found.items))) }
     {
         match self {
             MemNode::Dir(entries) => entries.list(alloc),
@@ -94,7 +94,7 @@ impl MemNode {
         requires { off ≤ length (unwrap_or (option_and_then file_bytes (node_of self.old)) []) }
         ensures ok { OnOk result
             (IfSome (option_and_then file_bytes (node_of self.old))
-            (λ old. node_of self.new ≡ Some (file (overwritten old off piece.now)))) }
+            (λ old. node_of self.new ≡ Some (file (with_bytes_at old off piece.now)))) }
         ensures err { OnErr result (node_of self.new ≡ node_of self.old) }
         ensures order { entries_of self.new ≡ entries_of self.old }
         ensures held { held_of self.new ≡ held_of self.old }
@@ -144,7 +144,7 @@ impl MemNode {
     pub(crate) fn cut(&mut self, len: usize) -> Result<(), NoMemory>
         ensures ok { OnOk result
             (IfSome (option_and_then file_bytes (node_of self.old))
-            (λ old. node_of self.new ≡ Some (file (resized old len)))) }
+            (λ old. node_of self.new ≡ Some (file (with_length old len)))) }
         ensures err { OnErr result (node_of self.new ≡ node_of self.old) }
         ensures order { entries_of self.new ≡ entries_of self.old }
         ensures held { held_of self.new ≡ held_of self.old }

@@ -7,8 +7,8 @@ ghost use Rattle.std.specs.BTreeMap as tree;
 ghost use Rattle.std.specs.List.Sorted.{IsPermutation};
 ghost use Rattle.std.specs.FinMap.{entries, get, insert, remove};
 ghost use Rattle.dt_host.specs.World.{file, dir, file_bytes, dir_names, link_target};
-ghost use Rattle.dt_base.specs.Bytes.{overwritten, resized};
-ghost use Rattle.dt_host.specs.Legal.{named};
+ghost use Rattle.dt_base.specs.Bytes.{with_bytes_at, with_length};
+ghost use Rattle.dt_host.specs.Legal.{pair_of};
 ghost use Rattle.dt_memhost.specs.Order.{order_without};
 ghost use Rattle.dt_memhost.specs.inner.Node.{node_in, order_in, held_in};
 
@@ -56,9 +56,9 @@ pub(crate) fn find(nodes: &Nodes, number: u64, name: &[u8]) -> Option<u64>
 /// A copy of the entries of the node of that number, in the order of their binding; none where there is no node.
 pub(crate) fn list(nodes: &Nodes, number: u64, alloc: Global) -> Result<Vec<HostEntry>, NoMemory>
     ensures order { IfOk result
-        (λ found. map named found.items ≡ unwrap_or (order_in nodes.now number) []) }
+        (λ found. map pair_of found.items ≡ unwrap_or (order_in nodes.now number) []) }
     ensures each { IfSome (option_and_then dir_names (node_in nodes.now number))
-        (λ names. IfOk result (λ found. IsPermutation (entries names) (map named found.items))) }
+        (λ names. IfOk result (λ found. IsPermutation (entries names) (map pair_of found.items))) }
 {
     match nodes.get(&number) {
         Some(node) => node.list(alloc),
@@ -76,7 +76,7 @@ pub(crate) fn write(
     requires { off ≤ length (unwrap_or (option_and_then file_bytes (node_in nodes.old number)) []) }
     ensures ok { OnOk result
         (IfSome (option_and_then file_bytes (node_in nodes.old number))
-        (λ old. node_in nodes.new number ≡ Some (file (overwritten old off piece.now)))) }
+        (λ old. node_in nodes.new number ≡ Some (file (with_bytes_at old off piece.now)))) }
     ensures err { OnErr result (node_in nodes.new number ≡ node_in nodes.old number) }
     ensures order { order_in nodes.new number ≡ order_in nodes.old number }
     ensures held { held_in nodes.new number ≡ held_in nodes.old number }
@@ -130,7 +130,7 @@ pub(crate) fn unbind(nodes: &mut Nodes, number: u64, name: &[u8])
 pub(crate) fn cut(nodes: &mut Nodes, number: u64, len: usize) -> Result<(), NoMemory>
     ensures ok { OnOk result
         (IfSome (option_and_then file_bytes (node_in nodes.old number))
-        (λ old. node_in nodes.new number ≡ Some (file (resized old len)))) }
+        (λ old. node_in nodes.new number ≡ Some (file (with_length old len)))) }
     ensures err { OnErr result (node_in nodes.new number ≡ node_in nodes.old number) }
     ensures order { order_in nodes.new number ≡ order_in nodes.old number }
     ensures held { held_in nodes.new number ≡ held_in nodes.old number }

@@ -1,7 +1,7 @@
 // The numbers that words choose: those of nodes and those of processes.
 ghost use Rattle.std.specs.Prelude.{◌≡◌, ◌<◌};
-ghost use Rattle.dt_memhost.specs.Number.{around, Numbers, IsLeastAbove};
-ghost use Rattle.dt_memhost.specs.inner.Live.{has};
+ghost use Rattle.dt_memhost.specs.Number.{next_free, IsChosenNumber, IsLeastAbove};
+ghost use Rattle.dt_memhost.specs.inner.Live.{has_number};
 
 use std::collections::BTreeMap;
 
@@ -14,7 +14,7 @@ pub const PID_NUMBERS: u32 = 128;
 /// The number that a word chooses out of so many, where those of a map are live.
 pub(crate) fn number_by<V>(live: &BTreeMap<u64, V>, limit: u32, word: u32) -> u64
     requires { 0 < limit }
-    ensures { Numbers (has live.now) limit word result }
+    ensures { IsChosenNumber (has_number live.now) limit word result }
 {
     match number_around(live, limit, word) {
         Some(number) => number,
@@ -25,7 +25,7 @@ pub(crate) fn number_by<V>(live: &BTreeMap<u64, V>, limit: u32, word: u32) -> u6
 // The word's number, or the next upwards that isn't live, going round.
 fn number_around<V>(live: &BTreeMap<u64, V>, limit: u32, word: u32) -> Option<u64>
     requires { 0 < limit }
-    ensures { result ≡ around (has live.now) limit word limit }
+    ensures { result ≡ next_free (has_number live.now) limit word limit }
 {
     let limit = u64::from(limit);
     for step in 0..limit {
@@ -39,7 +39,7 @@ fn number_around<V>(live: &BTreeMap<u64, V>, limit: u32, word: u32) -> Option<u6
 
 // The least number above the limit that isn't live.
 fn number_above<V>(live: &BTreeMap<u64, V>, limit: u32) -> u64
-    ensures { IsLeastAbove (has live.now) limit result }
+    ensures { IsLeastAbove (has_number live.now) limit result }
 {
     let limit = u64::from(limit);
     for number in limit + 1..limit + 2 + live.len() as u64 {

@@ -1,7 +1,7 @@
 // The order in which words name the entries of a directory.
 ghost use Rattle.std.specs.Prelude.{◌≡◌, ◌%◌, ◌<◌, [], ◌∷◌, length, take, drop, remove, IfOk, OnOk, OnErr};
-ghost use Rattle.dt_memhost.specs.Order.{picked_order};
-ghost use Rattle.dt_memhost.specs.Script.{picked, picked_all, coming_word, words_of};
+ghost use Rattle.dt_memhost.specs.Order.{drawn_order};
+ghost use Rattle.dt_memhost.specs.Script.{after_draw, after_draws, coming_word, words_of};
 ghost use Rattle.dt_memhost.specs.inner.EntryTree.{entries, IsCounted};
 
 use crate::entry_tree::EntryTree;
@@ -18,8 +18,8 @@ pub(crate) fn arrange(
     script: &mut Script,
 ) -> Result<Vec<HostEntry>, NoMemory>
     ensures order { IfOk result (λ arranged. arranged.items
-        ≡ picked_order (words_of (length found.items) script.old) found.items) }
-    ensures after { OnOk result (script.new ≡ picked_all (length found.items) script.old) }
+        ≡ drawn_order (words_of (length found.items) script.old) found.items) }
+    ensures after { OnOk result (script.new ≡ after_draws (length found.items) script.old) }
     ensures err { OnErr result (script.new ≡ script.old) }
 {
     let count = found.len();
@@ -41,7 +41,7 @@ fn pick(left: &mut EntryTree, count: usize, script: &mut Script) -> HostEntry
         ≡ take 1 (drop (coming_word script.old % count) (entries left.old)) }
     ensures left { entries left.new ≡ remove (entries left.old) (coming_word script.old % count) }
     ensures counted { IsCounted left.new }
-    ensures after { script.new ≡ picked script.old }
+    ensures after { script.new ≡ after_draw script.old }
 {
     let at = script.index(count);
     left.take(at)

@@ -2,7 +2,7 @@
 ghost use Rattle.std.specs.Prelude.{◌≡◌, false, OnOk, OnErr};
 ghost use Rattle.std.specs.FinSet.{empty, contains, insert, remove};
 ghost use Rattle.dt_host.specs.World.{ArePids};
-ghost use Rattle.dt_memhost.specs.Number.{Numbers};
+ghost use Rattle.dt_memhost.specs.Number.{IsChosenNumber};
 
 use crate::number::{self, PID_NUMBERS};
 use dt_base::NoMemory;
@@ -18,11 +18,11 @@ pub(crate) struct MemPids {
 }
 
 impl Model for MemPids {
-    ghost use Rattle.dt_host.specs.World.{Pids, ArePids};
+    ghost use Rattle.dt_host.specs.World.{HostPids, ArePids};
     ghost use Rattle.dt_host.specs.inner.Codes.{pids_code};
     ghost use Rattle.dt_memhost.specs.inner.Live.{pids_of};
 
-    ghost Value = { Pids };
+    ghost Value = { HostPids };
 
     ghost coded = { pids_code };
 
@@ -50,7 +50,7 @@ impl MemPids {
 
     /// A pid that isn't live, by a word.
     pub(crate) fn number_by(&self, word: u32) -> u64
-        ensures chosen { Numbers (contains self.now) PID_NUMBERS word result }
+        ensures chosen { IsChosenNumber (contains self.now) PID_NUMBERS word result }
         ensures free { contains self.now result ≡ false }
     {
         number::number_by(&self.live, PID_NUMBERS, word)

@@ -4,7 +4,8 @@ ghost use Rattle.dt_host.specs.declared.error.HostErr.TheVariants.{Failed as hos
 ghost use Rattle.dt_host.specs.declared.error.StoreErr.TheVariants.{Failed as store_failed};
 ghost use Rattle.dt_host.specs.declared.error.SinkErr.TheVariants.{Failed as sink_failed};
 ghost use Rattle.dt_memhost.specs.Picks.{length_by};
-ghost use Rattle.dt_memhost.specs.Script.{script_from, fails_next, counted, failed, picked, picked_all, restarted};
+ghost use Rattle.dt_memhost.specs.Script.{script_from, is_next_listed, after_call, after_fault, after_draw};
+ghost use Rattle.dt_memhost.specs.Script.{after_draws, with_stream};
 ghost use Rattle.dt_memhost.specs.Script.{coming_word, words_of};
 
 use crate::picker::Picker;
@@ -82,10 +83,10 @@ impl Script {
 
     /// Counts a call. It fails because it is listed, or for another reason that is known.
     pub(crate) fn begin(&mut self, refused: bool) -> Result<(), Fault>
-        ensures unlisted { OnOk result ((refused || fails_next self.old) ≡ false) }
-        ensures listed { OnErr result ((refused || fails_next self.old) ≡ true) }
-        ensures ok { OnOk result (self.new ≡ counted self.old) }
-        ensures err { OnErr result (self.new ≡ failed self.old) }
+        ensures unlisted { OnOk result ((refused || is_next_listed self.old) ≡ false) }
+        ensures listed { OnErr result ((refused || is_next_listed self.old) ≡ true) }
+        ensures ok { OnOk result (self.new ≡ after_call self.old) }
+        ensures err { OnErr result (self.new ≡ after_fault self.old) }
         ensures later { self.old.faults ≤ self.new.faults }
     {
         self.calls = self.calls.saturating_add(1);
@@ -98,7 +99,7 @@ impl Script {
 
     /// Begins the stream of a number, and drops the words that are left.
     pub(crate) fn restart(&mut self, alloc: Global, number: u64)
-        ensures { self.new ≡ restarted self.old number }
+        ensures { self.new ≡ with_stream self.old number }
     {
         self.picker = Picker::new(Vec::new(alloc), number);
     }
@@ -106,7 +107,7 @@ impl Script {
     /// The next word, which chooses what the host does where it may do several things.
     pub(crate) fn word(&mut self) -> u32
         ensures word { result ≡ coming_word self.old }
-        ensures after { self.new ≡ picked self.old }
+        ensures after { self.new ≡ after_draw self.old }
     {
         self.picker.word()
     }
@@ -115,7 +116,7 @@ impl Script {
     pub(crate) fn length(&mut self, most: usize) -> usize
         requires { 0 < most }
         ensures word { result ≡ length_by (coming_word self.old) most }
-        ensures after { self.new ≡ picked self.old }
+        ensures after { self.new ≡ after_draw self.old }
     {
         1 + self.index(most)
     }
@@ -124,7 +125,7 @@ impl Script {
     pub(crate) fn index(&mut self, count: usize) -> usize
         requires { 0 < count }
         ensures word { result ≡ coming_word self.old % count }
-        ensures after { self.new ≡ picked self.old }
+        ensures after { self.new ≡ after_draw self.old }
     {
         self.word() as usize % count
     }
@@ -132,7 +133,7 @@ impl Script {
     /// Fills a buffer, each byte by a word.
     pub(crate) fn fill(&mut self, buf: &mut [u8])
         ensures bytes { buf.new ≡ map (λ word. word % 256) (words_of (length buf.old) self.old) }
-        ensures after { self.new ≡ picked_all (length buf.old) self.old }
+        ensures after { self.new ≡ after_draws (length buf.old) self.old }
     {
         for byte in buf.iter_mut() {
             *byte = self.byte();
@@ -142,7 +143,7 @@ impl Script {
     // A byte, by a word.
     fn byte(&mut self) -> u8
         ensures word { result ≡ coming_word self.old % 256 }
-        ensures after { self.new ≡ picked self.old }
+        ensures after { self.new ≡ after_draw self.old }
     {
         (self.word() % 256) as u8
     }

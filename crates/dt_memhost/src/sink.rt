@@ -2,7 +2,7 @@
 ghost use Rattle.std.specs.Prelude.{◌≡◌, ◌<◌, length, take, Ok, Some, IfOk, OnErr, IsErrOf};
 ghost use Rattle.dt_host.specs.Cause.{HasCause};
 ghost use Rattle.dt_host.specs.Sink.{added, MovesSome};
-ghost use Rattle.dt_memhost.specs.Sink.{empty_sink, is_full, fitting, WritesSinkBy};
+ghost use Rattle.dt_memhost.specs.Sink.{empty_sink, is_full, room_for, WritesSinkBy};
 
 use crate::picker::Picker;
 use crate::script::Script;
@@ -63,8 +63,8 @@ impl MemSink {
     }
 
     // How many of so many more bytes have room.
-    fn fitting(&self, more: usize) -> usize
-        ensures { result ≡ fitting self.now.room (length self.now.bytes) more }
+    fn room_for(&self, more: usize) -> usize
+        ensures { result ≡ room_for self.now.room (length self.now.bytes) more }
     {
         match self.room {
             None => more,
@@ -95,7 +95,7 @@ impl Sink for MemSink {
             (IsErrOf result SinkErr.Failed) }
     {
         let full = self.is_full();
-        let most = self.fitting(piece.len());
+        let most = self.room_for(piece.len());
         self.script.begin(full)?;
         let count = self.script.length(most);
         let (prefix, _) = piece.split_at(count);

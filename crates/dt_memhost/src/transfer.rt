@@ -1,6 +1,6 @@
 // Copies of bytes into a buffer and over a file, and changes of its length.
 ghost use Rattle.std.specs.Prelude.{◌≡◌, ◌+◌, ◌≤◌, ◌++◌, length, take, drop, vec_len, OnOk, OnErr};
-ghost use Rattle.dt_base.specs.Bytes.{overwritten, resized};
+ghost use Rattle.dt_base.specs.Bytes.{with_bytes_at, with_length};
 
 use dt_base::NoMemory;
 
@@ -18,7 +18,7 @@ pub(crate) fn copy_into(bytes: &[u8], off: usize, count: usize, buf: &mut [u8])
 /// Writes over bytes from an offset on.
 pub(crate) fn overwrite(bytes: &mut Vec<u8>, off: usize, piece: &[u8]) -> Result<(), NoMemory>
     requires { off ≤ vec_len bytes.old }
-    ensures ok { OnOk result (bytes.new.items ≡ overwritten bytes.old.items off piece.now) }
+    ensures ok { OnOk result (bytes.new.items ≡ with_bytes_at bytes.old.items off piece.now) }
     ensures err { OnErr result (bytes.new.items ≡ bytes.old.items) }
 {
     let inside = piece.len().min(bytes.len() - off);
@@ -30,7 +30,7 @@ pub(crate) fn overwrite(bytes: &mut Vec<u8>, off: usize, piece: &[u8]) -> Result
 
 /// Cuts bytes to a length, or puts zeros behind them up to it.
 pub(crate) fn resize(bytes: &mut Vec<u8>, len: usize) -> Result<(), NoMemory>
-    ensures ok { OnOk result (bytes.new.items ≡ resized bytes.old.items len) }
+    ensures ok { OnOk result (bytes.new.items ≡ with_length bytes.old.items len) }
     ensures err { OnErr result (bytes.new.items ≡ bytes.old.items) }
 {
     bytes.resize(len, 0)?;

@@ -11,9 +11,9 @@ use Rattle.dt_space.specs.Text.{text_at_address}
 use Rattle.dt_space.specs.declared.access.TextErr.{TextErr}
 use Rattle.dt_space.specs.declared.access.TextErr.TheVariants as text_err
 use Rattle.dt_space.proofs.Texts.{text_short}
-use Rattle.dt_space.specs.Argument.{text_or, not_empty, path_argument}
+use Rattle.dt_space.specs.Argument.{text_or, non_empty_text, path_argument}
 
-target_of : (found : Result (List ℕ) TextErr) (text : List ℕ) → ((t : List ℕ) → found ≡ Ok t → length t + 1 ≤ suc PATH_LIMIT) → Ok text ≡ not_empty (text_or NameTooLong found) → IsTrue (has_no_nul text) → IsTrue (is_target text)
+target_of : (found : Result (List ℕ) TextErr) (text : List ℕ) → ((t : List ℕ) → found ≡ Ok t → length t + 1 ≤ suc PATH_LIMIT) → Ok text ≡ non_empty_text (text_or NameTooLong found) → IsTrue (has_no_nul text) → IsTrue (is_target text)
 target_of (Ok []) text short is no_nul = cc
 target_of (Ok (byte ∷ bytes)) text short is no_nul =
     let same : (byte ∷ bytes) ≡ text = cc in

@@ -1,6 +1,6 @@
 -- The call that moves a name: renameat2(2).
 use Rattle.std.specs.Prelude.{ℕ, Bool, not, ◌&&◌, List, Option, None, Some, is_some, if◌then◌else◌}
-use Rattle.dt_base.specs.Abi.{has, low_word}
+use Rattle.dt_base.specs.Abi.{has_flag, low_word}
 use Rattle.dt_base.specs.declared.abi.TheConstants.{RENAME_NOREPLACE}
 use Rattle.dt_base.specs.declared.errno.Errno.{Errno}
 use Rattle.dt_base.specs.declared.errno.Errno.TheVariants.{Busy, Exist, NotDir, IsDir, Inval, NotEmpty}
@@ -10,10 +10,10 @@ use Rattle.dt_tree.specs.Calls.{move_name_of}
 use Rattle.dt_tree.specs.Shape.{is_dir, is_bare}
 use Rattle.dt_walk.specs.declared.place.Place.{Place}
 use Rattle.dt_walk.specs.Placed.{is_special}
-use Rattle.dt_scene.specs.declared.places.LastLink.TheVariants.{Keep}
-use Rattle.dt_scene.specs.Arguments.{argument, has_only}
-use Rattle.dt_scene.specs.Places.{place_at, on_place, on_node}
-use Rattle.dt_scene.specs.Scene.{Scene, Row, answers, refused, unless_refused, stamp, by_done}
+use Rattle.dt_callbase.specs.declared.places.LastLink.TheVariants.{Keep}
+use Rattle.dt_callbase.specs.Arguments.{argument, has_only}
+use Rattle.dt_callbase.specs.Places.{place_at, on_place, on_node}
+use Rattle.dt_callbase.specs.Scene.{Scene, Reply, value_reply, refused_reply, unless_refused, stamp, tree_call_reply}
 
 -- why a node can't replace another, if so: ENOTDIR for a directory in the place of another node, EISDIR for the reverse,
 -- ENOTEMPTY in the place of a directory that has entries
@@ -31,14 +31,14 @@ arrive_refusal v n to (Some replaced) = replace_refusal v n replaced
 arrive_refusal v n to None = if to.slash && not (is_dir v n) then Some NotDir else None
 
 -- a name moves from one place to another, if the tree lets it
-abbrev pub moves_name : Place → Place → Scene → Row
-moves_name from to s = by_done s (move_name_of s.tree from.parent from.name to.parent to.name (stamp s))
+abbrev pub move_name_reply : Place → Place → Scene → Reply
+move_name_reply from to s = tree_call_reply s (move_name_of s.tree from.parent from.name to.parent to.name (stamp s))
 
 -- the name of a node moves: EINVAL where a directory would go into itself or below
-abbrev pub moves_node : Place → ℕ → Place → Scene → Row
-moves_node from n to s =
-    if is_below s.tree.shape to.parent n then refused s Inval
-    else unless_refused s (arrive_refusal s.tree.shape n to to.node) (moves_name from to s)
+abbrev pub move_node_reply : Place → ℕ → Place → Scene → Reply
+move_node_reply from n to s =
+    if is_below s.tree.shape to.parent n then refused_reply s Inval
+    else unless_refused s (arrive_refusal s.tree.shape n to to.node) (move_name_reply from to s)
 
 -- why a place can't have a new name, if so: for a name that no entry can have EEXIST where nothing may be replaced, else EBUSY;
 -- then EEXIST where nothing may be replaced and something is there
@@ -49,20 +49,20 @@ target_refusal noreplace to =
     else None
 
 -- the name of a node moves to a place; where that is a name of the node too, nothing is done
-abbrev pub arrives : (noreplace : Bool) → Place → ℕ → Place → Scene → Row
-arrives noreplace from n to s = unless_refused s (target_refusal noreplace to)
-    (if is_this n to.node then answers s 0 else moves_node from n to s)
+abbrev pub move_to_place_reply : (noreplace : Bool) → Place → ℕ → Place → Scene → Reply
+move_to_place_reply noreplace from n to s = unless_refused s (target_refusal noreplace to)
+    (if is_this n to.node then value_reply s 0 else move_node_reply from n to s)
 
 -- the name of a node moves to the place of the path at an address
-abbrev pub moves_to : (noreplace : Bool) → ℕ → ℕ → Place → ℕ → Scene → Row
-moves_to noreplace dirfd address from n s =
-    on_place s (place_at s dirfd address Keep) (λ to. arrives noreplace from n to s)
+abbrev pub move_to_path_reply : (noreplace : Bool) → ℕ → ℕ → Place → ℕ → Scene → Reply
+move_to_path_reply noreplace dirfd address from n s =
+    on_place s (place_at s dirfd address Keep) (λ to. move_to_place_reply noreplace from n to s)
 
 -- renameat2(2): EBUSY where the old path's last name is one that no entry can have, ENOENT where nothing is there; both before
 -- the new path is read
-unfoldable pub renameat2_row : List ℕ → Scene → Row
+unfoldable pub renameat2_row : List ℕ → Scene → Reply
 renameat2_row args s =
-    if not (has_only (low_word (argument args 4)) RENAME_NOREPLACE) then refused s Inval
+    if not (has_only (low_word (argument args 4)) RENAME_NOREPLACE) then refused_reply s Inval
     else on_place s (place_at s (argument args 0) (argument args 1) Keep)
-    (λ from. if is_special from.name then refused s Busy else on_node s from.node
-    (λ n. moves_to (has (low_word (argument args 4)) RENAME_NOREPLACE) (argument args 2) (argument args 3) from n s))
+    (λ from. if is_special from.name then refused_reply s Busy else on_node s from.node
+    (λ n. move_to_path_reply (has_flag (low_word (argument args 4)) RENAME_NOREPLACE) (argument args 2) (argument args 3) from n s))

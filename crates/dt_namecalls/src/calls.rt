@@ -1,7 +1,7 @@
 // The calls on names, by their numbers.
 ghost use Rattle.std.specs.Prelude.{◌≡◌};
 ghost use Rattle.dt_namecalls.specs.Calls.{is_naming, name_row};
-ghost use Rattle.dt_scene.specs.Sound.{Sound, Serves, stage};
+ghost use Rattle.dt_callbase.specs.Sound.{Sound, HasRowReply, stage};
 
 use crate::link::linkat;
 use crate::names::{mkdirat, symlinkat};
@@ -9,8 +9,8 @@ use crate::rename::renameat2;
 use crate::unlink::unlinkat;
 use dt_base::abi::{LINKAT, MKDIRAT, RENAMEAT2, SYMLINKAT, UNLINKAT};
 use dt_base::{Answer, Caller};
+use dt_callbase::Fs;
 use dt_host::{Host, HostErr};
-use dt_scene::Fs;
 use dt_space::Space;
 use std::alloc::Global;
 
@@ -33,7 +33,7 @@ pub fn name_call<H: Host>(
     args: [u64; 6],
 ) -> Result<Answer, HostErr>
     requires { Sound (stage fs.old (H.view host.old) caller.now space.now) }
-    ensures { Serves (name_row number) args (stage fs.old (H.view host.old) caller.now space.now)
+    ensures { HasRowReply (name_row number) args (stage fs.old (H.view host.old) caller.now space.now)
         (stage fs.new (H.view host.new) caller.now space.now) result
         (H.count host.old) (H.count host.new) }
 {

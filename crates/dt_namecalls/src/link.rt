@@ -4,16 +4,16 @@ ghost use Rattle.dt_base.specs.Abi.{low_word};
 ghost use Rattle.dt_host.specs.World.{IsLive};
 ghost use Rattle.dt_tree.specs.Calls.{MayAdd};
 ghost use Rattle.dt_tree.specs.Table.{shape_of, tree_of};
-ghost use Rattle.dt_scene.specs.Arguments.{argument, has_only};
-ghost use Rattle.dt_namecalls.specs.Names.{adds_name, links, old_rule, linkat_row};
-ghost use Rattle.dt_scene.specs.Places.{IsFound, place_at};
-ghost use Rattle.dt_scene.specs.Sound.{Sound, Serves, Ends, stage, scene};
+ghost use Rattle.dt_callbase.specs.Arguments.{argument, has_only};
+ghost use Rattle.dt_namecalls.specs.Names.{add_name_reply, link_reply, old_rule, linkat_row};
+ghost use Rattle.dt_callbase.specs.Places.{IsFound, place_at};
+ghost use Rattle.dt_callbase.specs.Sound.{Sound, HasRowReply, HasReplyOf, stage, scene};
 
 use crate::names::new_refusal;
-use dt_base::abi::{AT_SYMLINK_FOLLOW, has, low_word};
+use dt_base::abi::{AT_SYMLINK_FOLLOW, has_flag, low_word};
 use dt_base::{Answer, Caller, Errno};
+use dt_callbase::{Fs, LastLink, place_at};
 use dt_host::{CallErr, Host, HostErr};
-use dt_scene::{Fs, LastLink, place_at};
 use dt_space::Space;
 use dt_walk::Place;
 use std::alloc::Global;
@@ -32,7 +32,7 @@ pub fn linkat<H: Host>(
     args: [u64; 6],
 ) -> Result<Answer, HostErr>
     requires { Sound (stage fs.old (H.view host.old) caller.now space.now) }
-    ensures { Serves linkat_row args (stage fs.old (H.view host.old) caller.now space.now)
+    ensures { HasRowReply linkat_row args (stage fs.old (H.view host.old) caller.now space.now)
         (stage fs.new (H.view host.new) caller.now space.now) result
         (H.count host.old) (H.count host.new) }
 {
@@ -58,7 +58,7 @@ pub fn linkat<H: Host>(
 fn old_rule(flags: u32) -> LastLink
     ensures { result ≡ old_rule flags }
 {
-    if has(flags, AT_SYMLINK_FOLLOW) {
+    if has_flag(flags, AT_SYMLINK_FOLLOW) {
         LastLink::Follow
     } else {
         LastLink::KeepWithoutSlash
@@ -81,7 +81,7 @@ fn link<H: Host>(
     requires found { found ≡ place_at (scene (stage fs.old (H.view host.old) caller.now space.now))
         (argument args 0) (argument args 1) (old_rule (low_word (argument args 4))) }
     requires place { IfOk found (IsFound (shape_of fs.old.tree (H.view host.old).forest)) }
-    ensures { Serves linkat_row args (stage fs.old (H.view host.old) caller.now space.now)
+    ensures { HasRowReply linkat_row args (stage fs.old (H.view host.old) caller.now space.now)
         (stage fs.new (H.view host.new) caller.now space.now) result
         (H.count host.old) (H.count host.new) }
 {
@@ -91,14 +91,14 @@ fn link<H: Host>(
         Err(errno) => return Ok(Answer::Refused(errno)),
     };
     match old.node {
-        Some(n) => link_to(alloc, fs, host, caller, space, args, n),
+        Some(n) => link_to_path(alloc, fs, host, caller, space, args, n),
         None => Ok(Answer::Refused(Errno::NoEnt)),
     }
 }
 
 // Gives a node a name at the place of the new path.
 #[tactic(auto, using(crate::proofs::Kept::after_asking))]
-fn link_to<H: Host>(
+fn link_to_path<H: Host>(
     alloc: Global,
     fs: &mut Fs,
     host: &mut H,
@@ -109,7 +109,7 @@ fn link_to<H: Host>(
 ) -> Result<Answer, HostErr>
     requires sound { Sound (stage fs.old (H.view host.old) caller.now space.now) }
     requires live { IsLive (shape_of fs.old.tree (H.view host.old).forest) n }
-    ensures { Ends (links (argument args 2) (argument args 3) n)
+    ensures { HasReplyOf (link_reply (argument args 2) (argument args 3) n)
         (stage fs.old (H.view host.old) caller.now space.now)
         (stage fs.new (H.view host.new) caller.now space.now) result
         (H.count host.old) (H.count host.new) }
@@ -124,12 +124,12 @@ fn link_to<H: Host>(
         args[3],
         LastLink::Keep,
     )?;
-    link_at(fs, host, caller, space, args, n, found)
+    link_to_place(fs, host, caller, space, args, n, found)
 }
 
 // Gives a node a name at a place.
 #[tactic(auto, using(crate::proofs::Kept::in_other_words, crate::proofs::May::may_add))]
-fn link_at<H: Host>(
+fn link_to_place<H: Host>(
     fs: &mut Fs,
     host: &mut H,
     caller: &Caller,
@@ -143,7 +143,7 @@ fn link_at<H: Host>(
     requires found { found ≡ place_at (scene (stage fs.old (H.view host.old) caller.now space.now))
         (argument args 2) (argument args 3) LastLink.Keep }
     requires place { IfOk found (IsFound (shape_of fs.old.tree (H.view host.old).forest)) }
-    ensures { Ends (links (argument args 2) (argument args 3) n)
+    ensures { HasReplyOf (link_reply (argument args 2) (argument args 3) n)
         (stage fs.old (H.view host.old) caller.now space.now)
         (stage fs.new (H.view host.new) caller.now space.now) result
         (H.count host.old) (H.count host.new) }
@@ -172,7 +172,7 @@ fn add_name<H: Host>(
 ) -> Result<Answer, HostErr>
     requires sound { Sound (stage fs.old (H.view host.old) caller.now space.now) }
     requires may { MayAdd (tree_of fs.old.tree (H.view host.old).forest) place.now.parent place.now.name n }
-    ensures { Ends (adds_name place.now n)
+    ensures { HasReplyOf (add_name_reply place.now n)
         (stage fs.old (H.view host.old) caller.now space.now)
         (stage fs.new (H.view host.new) caller.now space.now) result
         (H.count host.old) (H.count host.new) }

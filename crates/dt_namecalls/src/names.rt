@@ -3,15 +3,15 @@ ghost use Rattle.std.specs.Prelude.{◌≡◌, IsTrue, IfOk};
 ghost use Rattle.dt_base.specs.Image.{is_good_what, is_target};
 ghost use Rattle.dt_tree.specs.Calls.{IsNewName};
 ghost use Rattle.dt_tree.specs.Table.{shape_of, tree_of};
-ghost use Rattle.dt_scene.specs.Arguments.{argument};
-ghost use Rattle.dt_scene.specs.Places.{IsFound, place_at};
-ghost use Rattle.dt_namecalls.specs.Names.{makes_node, makes_link, new_refusal, mkdirat_row, symlinkat_row};
-ghost use Rattle.dt_scene.specs.Sound.{Sound, Serves, Ends, stage, scene};
+ghost use Rattle.dt_callbase.specs.Arguments.{argument};
+ghost use Rattle.dt_callbase.specs.Places.{IsFound, place_at};
+ghost use Rattle.dt_namecalls.specs.Names.{make_node_reply, make_link_reply, new_refusal, mkdirat_row, symlinkat_row};
+ghost use Rattle.dt_callbase.specs.Sound.{Sound, HasRowReply, HasReplyOf, stage, scene};
 
 use dt_base::abi::low_word;
 use dt_base::{Answer, Blob, Caller, Errno, LINK_MODE, What};
+use dt_callbase::{Fs, LastLink, masked_mode, place_at};
 use dt_host::{CallErr, Host, HostErr};
-use dt_scene::{Fs, LastLink, masked, place_at};
 use dt_space::{Space, path_argument};
 use dt_walk::Place;
 use std::alloc::Global;
@@ -21,7 +21,7 @@ pub const DIR_MODES: u32 = 0o1777;
 
 // Makes a node under a new name.
 #[tactic(auto, using(crate::proofs::Kept::kept))]
-fn make<H: Host>(
+fn make_node<H: Host>(
     fs: &mut Fs,
     host: &mut H,
     caller: &Caller,
@@ -33,7 +33,7 @@ fn make<H: Host>(
     requires sound { Sound (stage fs.old (H.view host.old) caller.now space.now) }
     requires new { IsNewName (tree_of fs.old.tree (H.view host.old).forest) place.now.parent place.now.name }
     requires good { IsTrue (is_good_what what.now mode) }
-    ensures { Ends (makes_node what.now mode place.now)
+    ensures { HasReplyOf (make_node_reply what.now mode place.now)
         (stage fs.old (H.view host.old) caller.now space.now)
         (stage fs.new (H.view host.new) caller.now space.now) result
         (H.count host.old) (H.count host.new) }
@@ -61,7 +61,7 @@ pub fn mkdirat<H: Host>(
     args: [u64; 6],
 ) -> Result<Answer, HostErr>
     requires { Sound (stage fs.old (H.view host.old) caller.now space.now) }
-    ensures { Serves mkdirat_row args (stage fs.old (H.view host.old) caller.now space.now)
+    ensures { HasRowReply mkdirat_row args (stage fs.old (H.view host.old) caller.now space.now)
         (stage fs.new (H.view host.new) caller.now space.now) result
         (H.count host.old) (H.count host.new) }
 {
@@ -92,7 +92,7 @@ fn make_dir<H: Host>(
     requires found { found ≡ place_at (scene (stage fs.old (H.view host.old) caller.now space.now))
         (argument args 0) (argument args 1) LastLink.Keep }
     requires place { IfOk found (IsFound (shape_of fs.old.tree (H.view host.old).forest)) }
-    ensures { Serves mkdirat_row args (stage fs.old (H.view host.old) caller.now space.now)
+    ensures { HasRowReply mkdirat_row args (stage fs.old (H.view host.old) caller.now space.now)
         (stage fs.new (H.view host.new) caller.now space.now) result
         (H.count host.old) (H.count host.new) }
 {
@@ -104,8 +104,8 @@ fn make_dir<H: Host>(
     if place.node.is_some() {
         return Ok(Answer::Refused(Errno::Exist));
     }
-    let mode = masked(low_word(args[2]) & DIR_MODES, caller.umask);
-    make(fs, host, caller, space, &place, &What::Dir, mode)
+    let mode = masked_mode(low_word(args[2]) & DIR_MODES, caller.umask);
+    make_node(fs, host, caller, space, &place, &What::Dir, mode)
 }
 
 // Why a node that is no directory can't have its name at a place, if so.
@@ -134,7 +134,7 @@ pub fn symlinkat<H: Host>(
     args: [u64; 6],
 ) -> Result<Answer, HostErr>
     requires { Sound (stage fs.old (H.view host.old) caller.now space.now) }
-    ensures { Serves symlinkat_row args (stage fs.old (H.view host.old) caller.now space.now)
+    ensures { HasRowReply symlinkat_row args (stage fs.old (H.view host.old) caller.now space.now)
         (stage fs.new (H.view host.new) caller.now space.now) result
         (H.count host.old) (H.count host.new) }
 {
@@ -158,7 +158,7 @@ fn symlink<H: Host>(
 ) -> Result<Answer, HostErr>
     requires sound { Sound (stage fs.old (H.view host.old) caller.now space.now) }
     requires target { IsTrue (is_target target) }
-    ensures { Ends (makes_link (argument args 1) (argument args 2) target)
+    ensures { HasReplyOf (make_link_reply (argument args 1) (argument args 2) target)
         (stage fs.old (H.view host.old) caller.now space.now)
         (stage fs.new (H.view host.new) caller.now space.now) result
         (H.count host.old) (H.count host.new) }
@@ -192,7 +192,7 @@ fn make_link<H: Host>(
     requires found { found ≡ place_at (scene (stage fs.old (H.view host.old) caller.now space.now))
         (argument args 1) (argument args 2) LastLink.Keep }
     requires place { IfOk found (IsFound (shape_of fs.old.tree (H.view host.old).forest)) }
-    ensures { Ends (makes_link (argument args 1) (argument args 2) target)
+    ensures { HasReplyOf (make_link_reply (argument args 1) (argument args 2) target)
         (stage fs.old (H.view host.old) caller.now space.now)
         (stage fs.new (H.view host.new) caller.now space.now) result
         (H.count host.old) (H.count host.new) }
@@ -204,7 +204,7 @@ fn make_link<H: Host>(
     };
     match new_refusal(&place) {
         Some(errno) => Ok(Answer::Refused(errno)),
-        None => make(
+        None => make_node(
             fs,
             host,
             caller,

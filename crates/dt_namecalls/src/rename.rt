@@ -5,17 +5,18 @@ ghost use Rattle.dt_host.specs.Asks.{Asks};
 ghost use Rattle.dt_tree.specs.Above.{is_below, is_this};
 ghost use Rattle.dt_tree.specs.Calls.{MayMove};
 ghost use Rattle.dt_tree.specs.Table.{Stands, shape_of};
-ghost use Rattle.dt_scene.specs.Arguments.{argument, has_only};
-ghost use Rattle.dt_scene.specs.Places.{IsFound, place_at};
+ghost use Rattle.dt_callbase.specs.Arguments.{argument, has_only};
+ghost use Rattle.dt_callbase.specs.Places.{IsFound, place_at};
 ghost use Rattle.dt_namecalls.specs.Names.{IsNameIn};
-ghost use Rattle.dt_namecalls.specs.Rename.{replace_refusal, arrive_refusal, target_refusal, moves_name, moves_node};
-ghost use Rattle.dt_namecalls.specs.Rename.{moves_to, renameat2_row};
-ghost use Rattle.dt_scene.specs.Sound.{Sound, Serves, Ends, stage, scene};
+ghost use Rattle.dt_namecalls.specs.Rename.{replace_refusal, arrive_refusal, target_refusal, move_name_reply};
+ghost use Rattle.dt_namecalls.specs.Rename.{move_node_reply};
+ghost use Rattle.dt_namecalls.specs.Rename.{move_to_path_reply, renameat2_row};
+ghost use Rattle.dt_callbase.specs.Sound.{Sound, HasRowReply, HasReplyOf, stage, scene};
 
-use dt_base::abi::{RENAME_NOREPLACE, has, low_word};
+use dt_base::abi::{RENAME_NOREPLACE, has_flag, low_word};
 use dt_base::{Answer, Caller, Errno};
+use dt_callbase::{Fs, LastLink, place_at};
 use dt_host::{CallErr, Host, HostErr};
-use dt_scene::{Fs, LastLink, place_at};
 use dt_space::Space;
 use dt_tree::Tree;
 use dt_walk::Place;
@@ -37,7 +38,7 @@ pub fn renameat2<H: Host>(
     args: [u64; 6],
 ) -> Result<Answer, HostErr>
     requires { Sound (stage fs.old (H.view host.old) caller.now space.now) }
-    ensures { Serves renameat2_row args (stage fs.old (H.view host.old) caller.now space.now)
+    ensures { HasRowReply renameat2_row args (stage fs.old (H.view host.old) caller.now space.now)
         (stage fs.new (H.view host.new) caller.now space.now) result
         (H.count host.old) (H.count host.new) }
 {
@@ -74,12 +75,12 @@ fn rename<H: Host>(
     requires found { found ≡ place_at (scene (stage fs.old (H.view host.old) caller.now space.now))
         (argument args 0) (argument args 1) LastLink.Keep }
     requires place { IfOk found (IsFound (shape_of fs.old.tree (H.view host.old).forest)) }
-    ensures { Serves renameat2_row args (stage fs.old (H.view host.old) caller.now space.now)
+    ensures { HasRowReply renameat2_row args (stage fs.old (H.view host.old) caller.now space.now)
         (stage fs.new (H.view host.new) caller.now space.now) result
         (H.count host.old) (H.count host.new) }
 {
     let _before = host.faults();
-    let noreplace = has(low_word(args[4]), RENAME_NOREPLACE);
+    let noreplace = has_flag(low_word(args[4]), RENAME_NOREPLACE);
     let from = match found {
         Ok(from) => from,
         Err(errno) => return Ok(Answer::Refused(errno)),
@@ -88,14 +89,14 @@ fn rename<H: Host>(
         return Ok(Answer::Refused(Errno::Busy));
     }
     match from.node {
-        Some(n) => move_to(alloc, fs, host, caller, space, args, noreplace, &from, n),
+        Some(n) => move_to_path(alloc, fs, host, caller, space, args, noreplace, &from, n),
         None => Ok(Answer::Refused(Errno::NoEnt)),
     }
 }
 
 // Moves the name of a node to the place of the new path.
 #[tactic(auto, using(crate::proofs::Kept::after_asking))]
-fn move_to<H: Host>(
+fn move_to_path<H: Host>(
     alloc: Global,
     fs: &mut Fs,
     host: &mut H,
@@ -109,7 +110,7 @@ fn move_to<H: Host>(
     requires sound { Sound (stage fs.old (H.view host.old) caller.now space.now) }
     requires from { IsNameIn (shape_of fs.old.tree (H.view host.old).forest) from.now }
     requires node { from.now.node ≡ Some n }
-    ensures { Ends (moves_to noreplace (argument args 2) (argument args 3) from.now n)
+    ensures { HasReplyOf (move_to_path_reply noreplace (argument args 2) (argument args 3) from.now n)
         (stage fs.old (H.view host.old) caller.now space.now)
         (stage fs.new (H.view host.new) caller.now space.now) result
         (H.count host.old) (H.count host.new) }
@@ -124,12 +125,12 @@ fn move_to<H: Host>(
         args[3],
         LastLink::Keep,
     )?;
-    arrive(fs, host, caller, space, args, noreplace, from, n, found)
+    move_to_place(fs, host, caller, space, args, noreplace, from, n, found)
 }
 
 // Moves the name of a node to a place. Where that is a name of the node too, nothing is done.
 #[tactic(auto, using(crate::proofs::Kept::in_other_words, crate::proofs::May::target_name))]
-fn arrive<H: Host>(
+fn move_to_place<H: Host>(
     fs: &mut Fs,
     host: &mut H,
     caller: &Caller,
@@ -146,7 +147,7 @@ fn arrive<H: Host>(
     requires found { found ≡ place_at (scene (stage fs.old (H.view host.old) caller.now space.now))
         (argument args 2) (argument args 3) LastLink.Keep }
     requires place { IfOk found (IsFound (shape_of fs.old.tree (H.view host.old).forest)) }
-    ensures { Ends (moves_to noreplace (argument args 2) (argument args 3) from.now n)
+    ensures { HasReplyOf (move_to_path_reply noreplace (argument args 2) (argument args 3) from.now n)
         (stage fs.old (H.view host.old) caller.now space.now)
         (stage fs.new (H.view host.new) caller.now space.now) result
         (H.count host.old) (H.count host.new) }
@@ -202,7 +203,7 @@ fn move_node<H: Host>(
     requires node { from.now.node ≡ Some n }
     requires to { IsNameIn (shape_of fs.old.tree (H.view host.old).forest) to.now }
     requires apart { is_this n to.now.node ≡ false }
-    ensures { Ends (moves_node from.now n to.now)
+    ensures { HasReplyOf (move_node_reply from.now n to.now)
         (stage fs.old (H.view host.old) caller.now space.now)
         (stage fs.new (H.view host.new) caller.now space.now) result
         (H.count host.old) (H.count host.new) }
@@ -212,7 +213,7 @@ fn move_node<H: Host>(
         return Ok(Answer::Refused(Errno::Inval));
     }
     let refusal = arrive_refusal(&fs.tree, host, n, to)?;
-    move_unless(fs, host, caller, space, from, n, to, refusal)
+    move_unless_refused(fs, host, caller, space, from, n, to, refusal)
 }
 
 // Why a node can't replace another, if so.
@@ -261,7 +262,7 @@ fn arrive_refusal<H: Host>(
 
 // Moves the name of a node, unless there is a reason to refuse it.
 #[tactic(auto, using(crate::proofs::Kept::in_other_words, crate::proofs::May::may_move))]
-fn move_unless<H: Host>(
+fn move_unless_refused<H: Host>(
     fs: &mut Fs,
     host: &mut H,
     caller: &Caller,
@@ -278,7 +279,7 @@ fn move_unless<H: Host>(
     requires apart { is_this n to.now.node ≡ false }
     requires outside { is_below (shape_of fs.old.tree (H.view host.old).forest) to.now.parent n ≡ false }
     requires refusal { refusal ≡ arrive_refusal (shape_of fs.old.tree (H.view host.old).forest) n to.now to.now.node }
-    ensures { Ends (moves_node from.now n to.now)
+    ensures { HasReplyOf (move_node_reply from.now n to.now)
         (stage fs.old (H.view host.old) caller.now space.now)
         (stage fs.new (H.view host.new) caller.now space.now) result
         (H.count host.old) (H.count host.new) }
@@ -302,7 +303,7 @@ fn move_name<H: Host>(
     requires sound { Sound (stage fs.old (H.view host.old) caller.now space.now) }
     requires may { MayMove (shape_of fs.old.tree (H.view host.old).forest)
         from.now.parent from.now.name to.now.parent to.now.name }
-    ensures { Ends (moves_name from.now to.now)
+    ensures { HasReplyOf (move_name_reply from.now to.now)
         (stage fs.old (H.view host.old) caller.now space.now)
         (stage fs.new (H.view host.new) caller.now space.now) result
         (H.count host.old) (H.count host.new) }

@@ -4,16 +4,17 @@ ghost use Rattle.dt_base.specs.Abi.{low_word};
 ghost use Rattle.dt_host.specs.Asks.{Asks};
 ghost use Rattle.dt_tree.specs.Calls.{MayDrop};
 ghost use Rattle.dt_tree.specs.Table.{Stands, shape_of};
-ghost use Rattle.dt_scene.specs.Arguments.{argument, has_only};
-ghost use Rattle.dt_scene.specs.Places.{IsFound, place_at};
+ghost use Rattle.dt_callbase.specs.Arguments.{argument, has_only};
+ghost use Rattle.dt_callbase.specs.Places.{IsFound, place_at};
 ghost use Rattle.dt_namecalls.specs.Names.{IsNameIn};
-ghost use Rattle.dt_namecalls.specs.Unlink.{special_refusal, node_refusal, drops_name, drops_node, unlinkat_row};
-ghost use Rattle.dt_scene.specs.Sound.{Sound, Serves, Ends, stage, scene};
+ghost use Rattle.dt_namecalls.specs.Unlink.{special_refusal, node_refusal, drop_name_reply, drop_node_reply};
+ghost use Rattle.dt_namecalls.specs.Unlink.{unlinkat_row};
+ghost use Rattle.dt_callbase.specs.Sound.{Sound, HasRowReply, HasReplyOf, stage, scene};
 
 use dt_base::abi::{AT_REMOVEDIR, low_word};
 use dt_base::{Answer, Caller, Errno};
+use dt_callbase::{Fs, LastLink, place_at};
 use dt_host::{CallErr, Host, HostErr};
-use dt_scene::{Fs, LastLink, place_at};
 use dt_space::Space;
 use dt_tree::Tree;
 use dt_walk::Place;
@@ -33,7 +34,7 @@ pub fn unlinkat<H: Host>(
     args: [u64; 6],
 ) -> Result<Answer, HostErr>
     requires { Sound (stage fs.old (H.view host.old) caller.now space.now) }
-    ensures { Serves unlinkat_row args (stage fs.old (H.view host.old) caller.now space.now)
+    ensures { HasRowReply unlinkat_row args (stage fs.old (H.view host.old) caller.now space.now)
         (stage fs.new (H.view host.new) caller.now space.now) result
         (H.count host.old) (H.count host.new) }
 {
@@ -69,7 +70,7 @@ fn unlink<H: Host>(
     requires found { found ≡ place_at (scene (stage fs.old (H.view host.old) caller.now space.now))
         (argument args 0) (argument args 1) LastLink.Keep }
     requires place { IfOk found (IsFound (shape_of fs.old.tree (H.view host.old).forest)) }
-    ensures { Serves unlinkat_row args (stage fs.old (H.view host.old) caller.now space.now)
+    ensures { HasRowReply unlinkat_row args (stage fs.old (H.view host.old) caller.now space.now)
         (stage fs.new (H.view host.new) caller.now space.now) result
         (H.count host.old) (H.count host.new) }
 {
@@ -142,17 +143,17 @@ fn drop_node<H: Host>(
     requires sound { Sound (stage fs.old (H.view host.old) caller.now space.now) }
     requires place { IsNameIn (shape_of fs.old.tree (H.view host.old).forest) place.now }
     requires node { place.now.node ≡ Some n }
-    ensures { Ends (drops_node removes_dir place.now n)
+    ensures { HasReplyOf (drop_node_reply removes_dir place.now n)
         (stage fs.old (H.view host.old) caller.now space.now) (stage fs.new (H.view host.new) caller.now space.now)
         result (H.count host.old) (H.count host.new) }
 {
     let refusal = node_refusal(&fs.tree, host, removes_dir, n)?;
-    drop_unless(fs, host, caller, space, place, removes_dir, n, refusal)
+    drop_unless_refused(fs, host, caller, space, place, removes_dir, n, refusal)
 }
 
 // Takes the name of a node away, unless there is a reason to refuse it.
 #[tactic(auto, using(crate::proofs::Kept::in_other_words, crate::proofs::May::may_drop))]
-fn drop_unless<H: Host>(
+fn drop_unless_refused<H: Host>(
     fs: &mut Fs,
     host: &mut H,
     caller: &Caller,
@@ -166,7 +167,7 @@ fn drop_unless<H: Host>(
     requires place { IsNameIn (shape_of fs.old.tree (H.view host.old).forest) place.now }
     requires node { place.now.node ≡ Some n }
     requires refusal { refusal ≡ node_refusal (shape_of fs.old.tree (H.view host.old).forest) removes_dir n }
-    ensures { Ends (drops_node removes_dir place.now n)
+    ensures { HasReplyOf (drop_node_reply removes_dir place.now n)
         (stage fs.old (H.view host.old) caller.now space.now) (stage fs.new (H.view host.new) caller.now space.now)
         result (H.count host.old) (H.count host.new) }
 {
@@ -188,7 +189,7 @@ fn drop_name<H: Host>(
 ) -> Result<Answer, HostErr>
     requires sound { Sound (stage fs.old (H.view host.old) caller.now space.now) }
     requires may { MayDrop (shape_of fs.old.tree (H.view host.old).forest) place.now.parent place.now.name }
-    ensures { Ends (drops_name place.now)
+    ensures { HasReplyOf (drop_name_reply place.now)
         (stage fs.old (H.view host.old) caller.now space.now) (stage fs.new (H.view host.new) caller.now space.now)
         result (H.count host.old) (H.count host.new) }
 {

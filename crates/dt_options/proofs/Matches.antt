@@ -10,8 +10,8 @@ use Rattle.clap.specs.declared.parser.matches.Found.{Found}
 use Rattle.clap.specs.declared.builder.value_parser.ValueParser.TheVariants as parser
 use Rattle.clap.proofs.ValueTestLemmas.{accepts-Accepts, Accepts-accepts}
 use Rattle.clap.proofs.WalkLemmas.{first_value-rows, one_text-rows}
-use Rattle.dt_options.specs.Options.{number_of, number_in, image_in, matched, program_app}
-use Rattle.dt_options.specs.UsageErr.{of_kind}
+use Rattle.dt_options.specs.Options.{number_of, number_in, image_in, matched_rows, program_app}
+use Rattle.dt_options.specs.UsageErr.{usage_err_of_kind}
 use Rattle.dt_options.specs.declared.options.UsageErr.TheVariants.{Refused, NoMemory}
 use Rattle.clap.specs.declared.error.Error.{Error}
 use Rattle.clap.specs.declared.error.kind.ErrorKind.{ErrorKind}
@@ -56,19 +56,19 @@ not_empty : (k : ErrorKind) (kinds : Kinds) → IsAmong k kinds → is_empty kin
 not_empty k [] among = absurd among
 not_empty k (x ∷ xs) among = ne_eqb _ _ (λ e. omega arith)
 
-is_refusal : (k : ErrorKind) → of_kind k ≡ Refused → (k ≡ OutOfMemory) → ⊥
-is_refusal k is memory = let bad : NoMemory ≡ Refused = ap of_kind (sym memory) ∙ is in cc
+is_refusal : (k : ErrorKind) → usage_err_of_kind k ≡ Refused → (k ≡ OutOfMemory) → ⊥
+is_refusal k is memory = let bad : NoMemory ≡ Refused = ap usage_err_of_kind (sym memory) ∙ is in cc
 
 -- words that clap refuses for another cause than memory match nothing
-pub matched-refused : (words : List (List ℕ)) (e : Error) → HasKind (fault_of program_app words) e → of_kind (kind_of e) ≡ Refused → matched words ≡ None
-unfolding matched
+pub matched-refused : (words : List (List ℕ)) (e : Error) → HasKind (fault_of program_app words) e → usage_err_of_kind (kind_of e) ≡ Refused → matched_rows words ≡ None
+unfolding matched_rows
 matched-refused words e kind is =
     ap (λ b. cond b (option_map (λ run. run.1) (subcommand_of program_app words)) None)
     (not_empty (kind_of e) (fault_of program_app words) (⊎_elim (λ memory. absurd (is_refusal (kind_of e) is memory)) (λ among. among) kind))
 
 -- words that clap takes match what it says of the subcommand
-pub matched-taken : (words : List (List ℕ)) (m : ArgMatches) (found : Option (List Row)) → fault_of program_app words ≡ [] → subcommand_rows_of m ≡ subcommand_of program_app words → found ≡ option_map (λ run. run.1) (subcommand_rows_of m) → matched words ≡ found
-unfolding matched
+pub matched-taken : (words : List (List ℕ)) (m : ArgMatches) (found : Option (List Row)) → fault_of program_app words ≡ [] → subcommand_rows_of m ≡ subcommand_of program_app words → found ≡ option_map (λ run. run.1) (subcommand_rows_of m) → matched_rows words ≡ found
+unfolding matched_rows
 matched-taken words m found none same is =
     ap (λ kinds. cond (is_empty kinds) (option_map (λ run. run.1) (subcommand_of program_app words)) None) none
     ∙ sym (is ∙ ap (option_map (λ run. run.1)) same)

@@ -9,7 +9,7 @@ use Rattle.clap.proofs.WalkLemmas.{both}
 use Rattle.clap.specs.Words.{Row}
 use Rattle.dt_base.specs.Command.{Words, IsCommand}
 use Rattle.dt_base.specs.Path.{has_no_nul}
-use Rattle.dt_options.specs.Options.{Request, request, request_of, request_in, matched, command_in, command_at, is_assignment, image_in, number_in, default_budget, default_seed}
+use Rattle.dt_options.specs.Options.{Request, request, request_of, request_in, matched_rows, command_in, command_at, is_assignment, image_in, number_in, default_budget, default_seed}
 
 prefix_len-map : {A B : Type 0} (p : B → Bool) (f : A → B) (xs : List A) → prefix_len p (map f xs) ≡ prefix_len (λ x. p (f x)) xs
 prefix_len-map p f [] = refl
@@ -64,10 +64,10 @@ module _ {A : Type 0} (f : A → List ℕ) (words : List A) where
 
 -- ---- the words before and after `--`
 
-pub request_in-none : (before after : List (List ℕ)) → matched before ≡ None → request_in before after ≡ None
+pub request_in-none : (before after : List (List ℕ)) → matched_rows before ≡ None → request_in before after ≡ None
 request_in-none before after none = ap (λ found. option_and_then (λ rows. option_map (request rows) (command_in after)) found) none
 
-pub request_in-some : (before after : List (List ℕ)) (rows : List Row) (r : Request) → matched before ≡ Some rows → command_in after ≡ Some r.command → r.image ≡ image_in rows
+pub request_in-some : (before after : List (List ℕ)) (rows : List Row) (r : Request) → matched_rows before ≡ Some rows → command_in after ≡ Some r.command → r.image ≡ image_in rows
     → r.seed ≡ unwrap_or (number_in (codes "seed") rows) default_seed → r.budget ≡ unwrap_or (number_in (codes "budget") rows) default_budget → r.host ≡ number_in (codes "host") rows → request_in before after ≡ Some r
 request_in-some before after rows r found command image seed budget host =
     ap (option_and_then (λ rows. option_map (request rows) (command_in after))) found

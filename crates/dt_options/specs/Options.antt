@@ -12,6 +12,7 @@ use Rattle.clap.specs.ValueTests.{is_unsigned_in}
 use Rattle.clap.specs.declared.builder.value_parser.ValueParser.TheVariants as parser
 use Rattle.dt_base.specs.Command.{Words}
 use Rattle.dt_base.specs.Path.{has_no_nul}
+use Rattle.dt_base.specs.declared.limits.TheConstants.{BUDGET_LIMIT}
 use Rattle.dt_options.specs.declared.options.Options.{Options}
 
 -- what a run is asked to be: a folder with an image, the command that runs in it, and numbers
@@ -42,7 +43,7 @@ number_rule name = record (new_rule name) { long = Some name; parser = Some (par
 
 -- the option `--budget`, whose value is a number from 1 to 1,000,000,000
 abbrev pub budget_rule : Rule
-budget_rule = record (number_rule (codes "budget")) { parser = Some (parser.Unsigned 1 1000000000) }
+budget_rule = record (number_rule (codes "budget")) { parser = Some (parser.Unsigned 1 BUDGET_LIMIT) }
 
 -- `run IMAGE [--seed N] [--budget N] [--host N]`
 abbrev pub run_shape : Shape
@@ -63,8 +64,8 @@ abbrev pub program_app : App
 program_app = record { top = program_shape; subs = run_shape ∷ [] }
 
 -- the values that clap matches to the arguments of `run`, where it takes the words
-unfoldable pub matched : List (List ℕ) → Option (List Row)
-matched words =
+unfoldable pub matched_rows : List (List ℕ) → Option (List Row)
+matched_rows words =
     if is_empty (fault_of program_app words) then option_map (λ run. run.1) (subcommand_of program_app words) else None
 
 -- what stands for IMAGE in the words
@@ -128,7 +129,7 @@ request rows command = record {
 
 -- what the words before and after `--` ask for
 abbrev pub request_in : List (List ℕ) → List (List ℕ) → Option Request
-request_in before after = option_and_then (λ rows. option_map (request rows) (command_in after)) (matched before)
+request_in before after = option_and_then (λ rows. option_map (request rows) (command_in after)) (matched_rows before)
 
 -- what all words ask for, which have a `--`; the first of them parts them
 unfoldable pub request_of : List (List ℕ) → Option Request

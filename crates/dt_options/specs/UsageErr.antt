@@ -5,6 +5,6 @@ use Rattle.dt_options.specs.declared.options.UsageErr.{UsageErr}
 use Rattle.dt_options.specs.declared.options.UsageErr.TheVariants.{Refused, NoMemory}
 
 -- the error for what clap says of the words before `--`: each refusal is one, and want of memory stays that
-abbrev pub of_kind : ErrorKind → UsageErr
-of_kind OutOfMemory = NoMemory
-of_kind _ = Refused
+abbrev pub usage_err_of_kind : ErrorKind → UsageErr
+usage_err_of_kind OutOfMemory = NoMemory
+usage_err_of_kind _ = Refused

@@ -3,6 +3,7 @@ ghost use Rattle.std.specs.Prelude.{◌≡◌, ◌≤◌, ◌+◌, drop, length,
 ghost use Rattle.std.specs.Prelude.{IfOk, Err, ◌<◌, ◌==◌};
 ghost use Rattle.std.specs.List.{list_all, position};
 ghost use Rattle.std.specs.Str.{bytes_eq};
+ghost use Rattle.dt_base.specs.declared.limits.TheConstants.{BUDGET_LIMIT};
 ghost use Rattle.dt_base.specs.Path.{has_no_nul};
 ghost use Rattle.dt_options.specs.Options.{request_of, request_in, as_request, command_in, is_assignment, is_variable};
 ghost use Rattle.dt_options.specs.Options.{is_variable_start, is_variable_byte};
@@ -57,10 +58,10 @@ impl From<AllocError> for UsageErr {
 }
 
 impl From<clap::Error> for UsageErr {
-    ghost use Rattle.dt_options.specs.UsageErr.{of_kind};
+    ghost use Rattle.dt_options.specs.UsageErr.{usage_err_of_kind};
     ghost use Rattle.clap.specs.Words.{kind_of};
 
-    ghost from_gives = { λ c e. e ≡ of_kind (kind_of c) };
+    ghost from_gives = { λ c e. e ≡ usage_err_of_kind (kind_of c) };
 
     fn from(e: clap::Error) -> Self {
         match e.kind() {
@@ -75,7 +76,7 @@ impl From<clap::Error> for UsageErr {
 pub fn read_options(alloc: Global, argv: &[String]) -> Result<Options, UsageErr>
     ensures ok { IfOk result (λ o. request_of (map string_bytes argv.now) ≡ Some (as_request o)) }
     ensures refused { result ≡ Err UsageErr.Refused → request_of (map string_bytes argv.now) ≡ None }
-    ensures ranges { IfOk result (λ o. (1 ≤ o.budget) × (o.budget ≤ 1000000000)) }
+    ensures ranges { IfOk result (λ o. (1 ≤ o.budget) × (o.budget ≤ BUDGET_LIMIT)) }
 {
     match dashes(argv) {
         Some(index) => read_parts(alloc, &argv[..index], after(argv, index)),
@@ -106,7 +107,7 @@ fn read_parts(alloc: Global, before: &[String], after: &[String]) -> Result<Opti
         request_in (map string_bytes before.now) (map string_bytes after.now) ≡ Some (as_request o)) }
     ensures refused { result ≡ Err UsageErr.Refused →
         request_in (map string_bytes before.now) (map string_bytes after.now) ≡ None }
-    ensures ranges { IfOk result (λ o. (1 ≤ o.budget) × (o.budget ≤ 1000000000)) }
+    ensures ranges { IfOk result (λ o. (1 ≤ o.budget) × (o.budget ≤ BUDGET_LIMIT)) }
 {
     let matches = read_arguments(alloc, before)?;
     let Some((_, run)) = matches.subcommand() else {

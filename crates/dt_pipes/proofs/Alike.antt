@@ -5,10 +5,10 @@ use Rattle.std.specs.Cmp.{nat_cmp_total}
 use Rattle.std.specs.Ordering.{nat_cmp}
 use Rattle.std.specs.FinMap.{FinMap, get, insert, remove, nat_cmp-IsAntisymmetric}
 use Rattle.std.proofs.lemmas.Bool.Decides.{nat_tests}
-use Rattle.dt_host.specs.Values.{map_values}
-use Rattle.dt_host.specs.World.{World, Pipes, IsPipe, without_pipe, without_node, with_forest}
+use Rattle.dt_tables.specs.Values.{map_values}
+use Rattle.dt_host.specs.World.{World, PipeContents, IsPipe, without_pipe, without_node, with_forest}
 use Rattle.dt_host.specs.Legal.{without}
-use Rattle.dt_host.proofs.Maps.{at_insert, at_remove}
+use Rattle.dt_tables.proofs.Maps.{at_insert, at_remove}
 use Rattle.dt_pipes.specs.declared.pipe.Pipe.{Pipe}
 use Rattle.dt_pipes.specs.Table.{Table, table_of, held_in, pipes_of, Stands}
 
@@ -47,11 +47,11 @@ seen-without t pipes now n q next view is same =
     is ∙ ap (remove pipes) same ∙ ap (λ (t : Table). remove t.pipes q) view
 
 -- what pipes hold is a matter of the pipes alone
-pub pipes_of-alike : (t s : Table) (host other : Pipes) → t.pipes ≡ s.pipes → host ≡ other → pipes_of t host ≡ pipes_of s other
+pub pipes_of-alike : (t s : Table) (host other : PipeContents) → t.pipes ≡ s.pipes → host ≡ other → pipes_of t host ≡ pipes_of s other
 unfolding pipes_of
 pipes_of-alike t s host other is same = (λ i. map_values (λ (pipe : Pipe). held_in (same i) pipe.real) (is i))
 
-pub stands-alike : (t s : Table) (host other : Pipes) → t ≡ s → host ≡ other → Stands s other → Stands t host
+pub stands-alike : (t s : Table) (host other : PipeContents) → t ≡ s → host ≡ other → Stands s other → Stands t host
 stands-alike t s host other is same stands = subst (λ t. Stands t host) (sym is) (subst (Stands s) (sym same) stands)
 
 -- what is left of a host without one of its pipes

@@ -5,9 +5,9 @@ use Rattle.std.specs.Cmp.{nat_cmp_total}
 use Rattle.std.specs.FinMap.{get, insert, remove, empty, get-empty, same_map, nat_cmp-IsAntisymmetric}
 use Rattle.std.specs.Ordering.{nat_cmp}
 use Rattle.dt_base.specs.declared.limits.TheConstants.{PIPE_LIMIT}
-use Rattle.dt_host.specs.World.{Pipes}
-use Rattle.dt_host.proofs.Found.{none_there}
-use Rattle.dt_host.proofs.Maps.{at_insert, at_remove, get-insert_same, get-insert_other, get-remove_other}
+use Rattle.dt_host.specs.World.{PipeContents}
+use Rattle.dt_tables.proofs.Found.{none_there}
+use Rattle.dt_tables.proofs.Maps.{at_insert, at_remove, get-insert_same, get-insert_other, get-remove_other}
 use Rattle.dt_pipes.specs.declared.pipe.Pipe.{Pipe}
 use Rattle.dt_pipes.specs.declared.pipe.TheConstants.{FIRST_PIPE}
 use Rattle.dt_pipes.specs.Table.{Table, table_of, held_in, pipes_of, IsBackedPipe, IsKnown, IsGiven, Stands}
@@ -25,14 +25,14 @@ none_some : (a : Pipe) → None ≡ Some a → ⊥
 none_some a e = cc
 
 -- so it is for a pipe that is there
-pub sole-there : (t : Table) (host : Pipes) (q : ℕ) (pipe : Pipe) → Stands t host → get t.pipes q ≡ Some pipe → IsSole t q pipe.real
+pub sole-there : (t : Table) (host : PipeContents) (q : ℕ) (pipe : Pipe) → Stands t host → get t.pipes q ≡ Some pipe → IsSole t q pipe.real
 sole-there t host q pipe stands here = record {
   only = λ p a at same. stands.once p q a pipe at here same;
   here = λ a at. real_of a pipe (sym at ∙ here);
 }
 
 -- and for the next number and one that is free at the host
-pub sole-new : (t : Table) (host : Pipes) (real : ℕ) → Stands t host → get host real ≡ None → IsSole t t.next real
+pub sole-new : (t : Table) (host : PipeContents) (real : ℕ) → Stands t host → get host real ≡ None → IsSole t t.next real
 sole-new t host real stands free = record {
   only = λ p a at same. absurd (none_there (get host real) free (subst (λ n. IsSome (get host n)) same (backed t host p a stands at).live));
   here = λ a at. absurd (let given = stands.given t.next (subst (λ found. IsSome found) (sym at) refl) in let below : t.next < t.next = given.below in omega arith);
@@ -42,7 +42,7 @@ given-later : (next later q : ℕ) → next ≤ later → IsGiven next q → IsG
 given-later next later q more given = record { least = given.least; below = let below : q < next = given.below in omega arith }
 
 -- a change after which the host has what it had at all pipes but one
-module _ (t : Table) (old new : Pipes) (q : ℕ) (same : (p : ℕ) (a : Pipe) → p ≢ q → get t.pipes p ≡ Some a → get new a.real ≡ get old a.real) where
+module _ (t : Table) (old new : PipeContents) (q : ℕ) (same : (p : ℕ) (a : Pipe) → p ≢ q → get t.pipes p ≡ Some a → get new a.real ≡ get old a.real) where
   bytes-other : (p : ℕ) → p ≢ q → option_map (λ a. held_in new a.real) (get t.pipes p) ≡ get (pipes_of t old) p
   bytes-other p apart = by_found (get t.pipes p) refl ∙ sym (get-pipes_of t old p)
     where
@@ -62,8 +62,8 @@ module _ (t : Table) (old new : Pipes) (q : ℕ) (same : (p : ℕ) (a : Pipe) �
       }
 
 -- one pipe is put, in the place of one or as a new one, and holds these bytes
-module _ (t : Table) (host : Pipes) (q : ℕ) (pipe : Pipe) (bytes : List ℕ) (next : ℕ) (sole : IsSole t q pipe.real) where
-  abbrev after : Pipes
+module _ (t : Table) (host : PipeContents) (q : ℕ) (pipe : Pipe) (bytes : List ℕ) (next : ℕ) (sole : IsSole t q pipe.real) where
+  abbrev after : PipeContents
   after = insert host pipe.real bytes
 
   abbrev put : Table
@@ -138,8 +138,8 @@ module _ (t : Table) (host : Pipes) (q : ℕ) (pipe : Pipe) (bytes : List ℕ) (
   }
 
 -- one pipe is taken away, at the host too
-module _ (t : Table) (host : Pipes) (q : ℕ) (pipe : Pipe) (next : ℕ) (stands : Stands t host) (here : get t.pipes q ≡ Some pipe) where
-  abbrev less : Pipes
+module _ (t : Table) (host : PipeContents) (q : ℕ) (pipe : Pipe) (next : ℕ) (stands : Stands t host) (here : get t.pipes q ≡ Some pipe) where
+  abbrev less : PipeContents
   less = remove host pipe.real
 
   abbrev rest : Table

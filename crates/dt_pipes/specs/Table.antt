@@ -4,8 +4,8 @@ use Rattle.std.specs.Prelude.{unwrap_or, IfSome, IsSome}
 use Rattle.std.specs.Ordering.{nat_cmp}
 use Rattle.std.specs.FinMap.{FinMap, get}
 use Rattle.dt_base.specs.declared.limits.TheConstants.{PIPE_LIMIT}
-use Rattle.dt_host.specs.Values.{map_values}
-use Rattle.dt_host.specs.World.{Pipes}
+use Rattle.dt_tables.specs.Values.{map_values}
+use Rattle.dt_host.specs.World.{PipeContents}
 use Rattle.dt_pipes.specs.declared.pipe.Pipe.{Pipe}
 use Rattle.dt_pipes.specs.declared.pipe.TheConstants.{FIRST_PIPE}
 
@@ -23,15 +23,15 @@ abbrev pub has_pipe : Table → ℕ → Bool
 has_pipe t q = is_some (get t.pipes q)
 
 -- what the pipe of a number holds, the oldest byte first; none where there is no pipe
-abbrev pub held_in : Pipes → ℕ → List ℕ
+abbrev pub held_in : PipeContents → ℕ → List ℕ
 held_in pipes q = unwrap_or (get pipes q) []
 
 -- the bytes that each pipe of the container holds, the oldest first, by its number there
-unfoldable pub pipes_of : Table → Pipes → Pipes
+unfoldable pub pipes_of : Table → PipeContents → PipeContents
 pipes_of t host = map_values (λ pipe. held_in host pipe.real) t.pipes
 
 -- a pipe is one of the host's, which holds as many bytes as are counted, and no more than a pipe may
-pub record IsBackedPipe (host : Pipes) (pipe : Pipe) : Type 0 where
+pub record IsBackedPipe (host : PipeContents) (pipe : Pipe) : Type 0 where
   pub live : IsSome (get host pipe.real)
   pub count : pipe.held ≡ length (held_in host pipe.real)
   pub within : pipe.held ≤ PIPE_LIMIT
@@ -49,7 +49,7 @@ pub record IsGiven (next q : ℕ) : Type 0 where
   pub below : q < next
 
 -- the pipes of the container are exactly those of the host, each is one pipe there, and their numbers were given
-pub record Stands (t : Table) (host : Pipes) : Type 0 where
+pub record Stands (t : Table) (host : PipeContents) : Type 0 where
   pub each : (q : ℕ) → IfSome (get t.pipes q) (IsBackedPipe host)
   pub once : (p q : ℕ) (a b : Pipe) → get t.pipes p ≡ Some a → get t.pipes q ≡ Some b → a.real ≡ b.real → p ≡ q
   pub all : (real : ℕ) → IsSome (get host real) → IsKnown t real

@@ -3,7 +3,7 @@ ghost use Rattle.std.specs.Prelude.{◌≡◌, ℕ, ◌+◌, ◌<◌, ◌≤◌,
 ghost use Rattle.std.specs.Prelude.{IfOk, OnOk, IsErrOf};
 ghost use Rattle.std.specs.FinMap.{empty, get, insert, remove};
 ghost use Rattle.dt_host.specs.Cause.{HasCause};
-ghost use Rattle.dt_host.specs.World.{Pipes as HostPipes};
+ghost use Rattle.dt_host.specs.World.{PipeContents};
 ghost use Rattle.dt_pipes.specs.Table.{Stands, held_in, pipes_of, has_pipe};
 ghost use Rattle.dt_pipes.specs.Changes.{OnlyPipes, TakesFromPipe, with_bytes_put};
 ghost use Rattle.dt_pipes.specs.inner.Held.{with_held};
@@ -11,7 +11,7 @@ ghost use Rattle.dt_pipes.specs.inner.Held.{with_held};
 use crate::pipe::{FIRST_PIPE, PIPE_NUMBER_LIMIT, Pipe};
 use dt_base::PIPE_LIMIT;
 use dt_host::{Host, HostErr, NodeKind, put_whole, take_whole};
-use dt_numbered::Numbered;
+use dt_tables::Numbered;
 use std::alloc::Global;
 use std::marker::Model;
 
@@ -38,7 +38,7 @@ impl Pipes {
     pub fn new(alloc: Global) -> Self
         ensures pipes { result.pipes ≡ empty }
         ensures next { result.next ≡ FIRST_PIPE }
-        ensures stands { (host : HostPipes) → host ≡ empty → Stands result host }
+        ensures stands { (host : PipeContents) → host ≡ empty → Stands result host }
     {
         Pipes {
             pipes: Numbered::new(alloc),
@@ -79,9 +79,9 @@ impl Pipes {
     /// How many bytes a pipe holds.
     pub fn held(&self, q: u32) -> usize
         requires { IsSome (get self.now.pipes q) }
-        ensures count { (host : HostPipes) → Stands self.now host
+        ensures count { (host : PipeContents) → Stands self.now host
             → result ≡ length (held_in (pipes_of self.now host) q) }
-        ensures within { (host : HostPipes) → Stands self.now host → result ≤ PIPE_LIMIT }
+        ensures within { (host : PipeContents) → Stands self.now host → result ≤ PIPE_LIMIT }
     {
         self.get(q).held
     }
@@ -158,11 +158,11 @@ impl Pipes {
     fn get(&self, q: u32) -> Pipe
         requires { IsSome (get self.now.pipes q) }
         ensures found { get self.now.pipes q ≡ Some result }
-        ensures live { (host : HostPipes) → Stands self.now host → IsSome (get host result.real) }
-        ensures held { (host : HostPipes) → Stands self.now host
+        ensures live { (host : PipeContents) → Stands self.now host → IsSome (get host result.real) }
+        ensures held { (host : PipeContents) → Stands self.now host
             → result.held ≡ length (held_in host result.real) }
-        ensures within { (host : HostPipes) → Stands self.now host → result.held ≤ PIPE_LIMIT }
-        ensures bytes { (host : HostPipes) → held_in (pipes_of self.now host) q ≡ held_in host result.real }
+        ensures within { (host : PipeContents) → Stands self.now host → result.held ≤ PIPE_LIMIT }
+        ensures bytes { (host : PipeContents) → held_in (pipes_of self.now host) q ≡ held_in host result.real }
     {
         let Some(pipe) = self.pipes.get(u64::from(q)).copied() else {
             unreachable!()

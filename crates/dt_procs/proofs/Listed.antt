@@ -3,13 +3,13 @@ use Rattle.std.proofs.Common.{◌≡◌, ◌∙◌, ℕ, ◌||◌, Bool, true, f
 use Rattle.std.specs.Prelude.{option_map}
 use Rattle.std.specs.List.{find, filter, list_any}
 use Rattle.dt_procs.specs.declared.member.Member.{Member}
-use Rattle.dt_procs.specs.declared.row.Row.{Row}
+use Rattle.dt_procs.specs.declared.row.MemberRow.{MemberRow}
 use Rattle.dt_procs.specs.Members.{has_pid, member_at}
 use Rattle.dt_procs.specs.Table.{member_of}
 use Rattle.dt_procs.specs.inner.Rows.{row_at}
 
 -- the first process that passes a test is that of the first row
-pub find-rows : (p : Member → Bool) (rows : List Row)
+pub find-rows : (p : Member → Bool) (rows : List MemberRow)
     → find p (map member_of rows) ≡ option_map member_of (find (λ row. p row.member) rows)
 find-rows p [] = refl
 find-rows p (row ∷ rows) =
@@ -19,13 +19,13 @@ find-rows p (row ∷ rows) =
     ]
 
 -- some process passes a test where some row's does
-pub list_any-rows : (p : Member → Bool) (rows : List Row)
+pub list_any-rows : (p : Member → Bool) (rows : List MemberRow)
     → list_any p (map member_of rows) ≡ list_any (λ row. p row.member) rows
 list_any-rows p [] = refl
 list_any-rows p (row ∷ rows) = ap (λ b. p row.member || b) (list_any-rows p rows)
 
 -- the processes that pass a test are those of the rows whose process does
-pub filter-rows : (p : Member → Bool) (rows : List Row)
+pub filter-rows : (p : Member → Bool) (rows : List MemberRow)
     → filter p (map member_of rows) ≡ map member_of (filter (λ row. p row.member) rows)
 filter-rows p [] = refl
 filter-rows p (row ∷ rows) =
@@ -37,14 +37,14 @@ filter-rows p (row ∷ rows) =
 pub ruleset by_rows = (find-rows, list_any-rows, filter-rows)
 
 -- the process of a pid is that of its row
-pub member_at-row : (rows : List Row) (vpid : ℕ) (row : Row) → row_at rows vpid ≡ Some row
+pub member_at-row : (rows : List MemberRow) (vpid : ℕ) (row : MemberRow) → row_at rows vpid ≡ Some row
     → member_at (map member_of rows) vpid ≡ Some row.member
 member_at-row rows vpid row is = find-rows (has_pid vpid) rows ∙ ap (option_map member_of) is
 
-pub member_at-none : (rows : List Row) (vpid : ℕ) → row_at rows vpid ≡ None → member_at (map member_of rows) vpid ≡ None
+pub member_at-none : (rows : List MemberRow) (vpid : ℕ) → row_at rows vpid ≡ None → member_at (map member_of rows) vpid ≡ None
 member_at-none rows vpid is = find-rows (has_pid vpid) rows ∙ ap (option_map member_of) is
 
 -- what was found in a list that is seen again
-pub row_seen : (rows seen : List Row) (vpid : ℕ) (found what : Option Row) → seen ≡ rows → found ≡ row_at seen vpid
+pub row_seen : (rows seen : List MemberRow) (vpid : ℕ) (found what : Option MemberRow) → seen ≡ rows → found ≡ row_at seen vpid
     → found ≡ what → row_at rows vpid ≡ what
-row_seen rows seen vpid found what same is there = ap (λ (l : List Row). row_at l vpid) (sym same) ∙ sym is ∙ there
+row_seen rows seen vpid found what same is there = ap (λ (l : List MemberRow). row_at l vpid) (sym same) ∙ sym is ∙ there

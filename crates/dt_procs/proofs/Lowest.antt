@@ -7,8 +7,8 @@ use Rattle.dt_base.specs.declared.event.End.{End}
 use Rattle.dt_procs.specs.declared.member.Member.{Member}
 use Rattle.dt_procs.specs.declared.member.Reaped.{Reaped}
 use Rattle.dt_procs.specs.declared.member.Reaped.TheVariants.{Got, NoneReady, NoChild}
-use Rattle.dt_procs.specs.declared.row.Row.{Row}
-use Rattle.dt_procs.specs.Members.{member_at, is_child, is_ready, unready, found, ready, look_for}
+use Rattle.dt_procs.specs.declared.row.MemberRow.{MemberRow}
+use Rattle.dt_procs.specs.Members.{member_at, is_child, is_ready, no_zombie, got_or, ready_or, look_for}
 use Rattle.dt_procs.specs.Table.{Table, table_of, member_of, members_of, IsRising}
 use Rattle.dt_procs.specs.Laws.{WaitFindsTheLowest}
 use Rattle.dt_procs.specs.inner.Rows.{ready_row}
@@ -17,25 +17,25 @@ use Rattle.dt_procs.proofs.Listed.{find-rows, list_any-rows}
 use Rattle.dt_procs.proofs.Standing.{Rises}
 
 -- a wait over rows
-pub look_for-rows : (rows : List Row) (parent : ℕ) (which : Option ℕ)
+pub look_for-rows : (rows : List MemberRow) (parent : ℕ) (which : Option ℕ)
     → look_for (map member_of rows) parent which
-    ≡ ready (unready (list_any (λ row. is_child parent which row.member) rows)) (option_map member_of (ready_row rows parent which))
+    ≡ ready_or (no_zombie (list_any (λ row. is_child parent which row.member) rows)) (option_map member_of (ready_row rows parent which))
 unfolding look_for
 look_for-rows rows parent which =
     rw (find-rows (is_ready parent which) rows, list_any-rows (is_child parent which) rows) refl
 
 -- a wait over the rows of a table, which it reads twice
-pub looked : (t : Table) (rows seen again : List Row) (next parent : ℕ) (which : Option ℕ) (rest : Reaped) (first : Option Row)
-    → table_of rows next ≡ t → seen ≡ rows → rest ≡ unready (list_any (λ row. is_child parent which row.member) seen)
+pub looked : (t : Table) (rows seen again : List MemberRow) (next parent : ℕ) (which : Option ℕ) (rest : Reaped) (first : Option MemberRow)
+    → table_of rows next ≡ t → seen ≡ rows → rest ≡ no_zombie (list_any (λ row. is_child parent which row.member) seen)
     → again ≡ rows → ready_row again parent which ≡ first
-    → ready rest (option_map member_of first) ≡ look_for (members_of t) parent which
+    → ready_or rest (option_map member_of first) ≡ look_for (members_of t) parent which
 looked t rows seen again next parent which rest first view same other same_again is =
-    let there : ready_row rows parent which ≡ first = subst (λ (l : List Row). ready_row l parent which ≡ first) same_again is in
-    let lacking : rest ≡ unready (list_any (λ row. is_child parent which row.member) rows) =
-    subst (λ (l : List Row). rest ≡ unready (list_any (λ row. is_child parent which row.member) l)) same other in
-    subst (λ (t : Table). ready rest (option_map member_of first) ≡ look_for (members_of t) parent which) view
-    (sym (look_for-rows rows parent which ∙ ap (λ r. ready r (option_map member_of (ready_row rows parent which))) (sym lacking)
-    ∙ ap (λ (r : Option Row). ready rest (option_map member_of r)) there))
+    let there : ready_row rows parent which ≡ first = subst (λ (l : List MemberRow). ready_row l parent which ≡ first) same_again is in
+    let lacking : rest ≡ no_zombie (list_any (λ row. is_child parent which row.member) rows) =
+    subst (λ (l : List MemberRow). rest ≡ no_zombie (list_any (λ row. is_child parent which row.member) l)) same other in
+    subst (λ (t : Table). ready_or rest (option_map member_of first) ≡ look_for (members_of t) parent which) view
+    (sym (look_for-rows rows parent which ∙ ap (λ r. ready_or r (option_map member_of (ready_row rows parent which))) (sym lacking)
+    ∙ ap (λ (r : Option MemberRow). ready_or rest (option_map member_of r)) there))
 
 -- a wait found this zombie
 record Finds (members : List Member) (parent : ℕ) (which : Option ℕ) (vpid : ℕ) (end : End) : Type 0 where
@@ -44,20 +44,20 @@ record Finds (members : List Member) (parent : ℕ) (which : Option ℕ) (vpid :
   pid : zombie.vpid ≡ vpid
   ended : zombie.end ≡ Some end
 
-not_got : (b : Bool) (vpid : ℕ) (end : End) → unready b ≢ Got vpid end
+not_got : (b : Bool) (vpid : ℕ) (end : End) → no_zombie b ≢ Got vpid end
 not_got true vpid end is = let e : NoneReady ≡ Got vpid end = is in cc
 not_got false vpid end is = let e : NoChild ≡ Got vpid end = is in cc
 
 finds-end : (members : List Member) (parent : ℕ) (which : Option ℕ) (vpid : ℕ) (end : End) (b : Bool) (zombie : Member)
     → find (is_ready parent which) members ≡ Some zombie → (how : Option End) → zombie.end ≡ how
-    → found (unready b) zombie.vpid how ≡ Got vpid end → Finds members parent which vpid end
+    → got_or (no_zombie b) zombie.vpid how ≡ Got vpid end → Finds members parent which vpid end
 finds-end members parent which vpid end b zombie first None how is = absurd (not_got b vpid end is)
 finds-end members parent which vpid end b zombie first (Some other) how is =
     let same : Got zombie.vpid other ≡ Got vpid end = is in
     record { zombie = zombie; first = first; pid = cc; ended = let e : other ≡ end = cc in how ∙ ap Some e }
 
 finds-by : (members : List Member) (parent : ℕ) (which : Option ℕ) (vpid : ℕ) (end : End) (b : Bool) (first : Option Member)
-    → find (is_ready parent which) members ≡ first → ready (unready b) first ≡ Got vpid end → Finds members parent which vpid end
+    → find (is_ready parent which) members ≡ first → ready_or (no_zombie b) first ≡ Got vpid end → Finds members parent which vpid end
 finds-by members parent which vpid end b None none is = absurd (not_got b vpid end is)
 finds-by members parent which vpid end b (Some zombie) first is =
     finds-end members parent which vpid end b zombie first zombie.end refl is
@@ -101,7 +101,7 @@ contained p (x ∷ members) m is =
 
 lowest-at : (p : Member → Bool) (members : List Member) (first m : Member) (k : ℕ) → IsRising members → find p members ≡ Some first
     → IsTrue (p m) → k < length members → get_or members k m ≡ m → first.vpid ≤ m.vpid
-lowest-at p [] first m k rising is ready below at = absurd (omega arith)
+lowest-at p [] first m k rising is ready_or below at = absurd (omega arith)
 lowest-at p (x ∷ members) first m zero rising is ready below at =
     let passed : p x ≡ true = subst (λ y. p y ≡ true) (sym at) ready in
     let head : cond (p x) (Some x) (find p members) ≡ Some first = is in

@@ -30,8 +30,8 @@ abbrev pub is_live : ℕ → Member → Bool
 is_live vpid m = has_pid vpid m && is_none m.end
 
 -- whether a process is there and has not ended
-abbrev pub lives : List Member → ℕ → Bool
-lives members vpid = list_any (is_live vpid) members
+abbrev pub has_live : List Member → ℕ → Bool
+has_live members vpid = list_any (is_live vpid) members
 
 -- the parent of a process, a zombie's too; that of the first is 0
 abbrev pub parent_pid : List Member → ℕ → Option ℕ
@@ -58,12 +58,12 @@ abbrev pub end_after : ℕ → End → Member → Option End
 end_after vpid end m = if m.vpid == vpid then Some end else m.end
 
 -- what the end of a process makes of one
-abbrev pub ended_member : ℕ → End → Member → Member
-ended_member vpid end m = record { vpid = m.vpid; parent = parent_after vpid m; end = end_after vpid end m }
+abbrev pub member_after_end : ℕ → End → Member → Member
+member_after_end vpid end m = record { vpid = m.vpid; parent = parent_after vpid m; end = end_after vpid end m }
 
 -- a process ends: it is a zombie, and its children go to the first process
-unfoldable pub ended : ℕ → End → List Member → List Member
-ended vpid end members = map (ended_member vpid end) members
+unfoldable pub members_after_end : ℕ → End → List Member → List Member
+members_after_end vpid end members = map (member_after_end vpid end) members
 
 -- whether a process is the one that is asked for, if one is
 abbrev pub is_asked : Option ℕ → ℕ → Bool
@@ -79,25 +79,25 @@ abbrev pub is_ready : ℕ → Option ℕ → Member → Bool
 is_ready parent which m = is_child parent which m && is_some m.end
 
 -- what there is where no child has ended: one that lives, or none
-abbrev pub unready : Bool → Reaped
-unready true = NoneReady
-unready false = NoChild
+abbrev pub no_zombie : Bool → Reaped
+no_zombie true = NoneReady
+no_zombie false = NoChild
 
 -- a zombie that was found
-abbrev pub found : Reaped → ℕ → Option End → Reaped
-found rest vpid None = rest
-found rest vpid (Some end) = Got vpid end
+abbrev pub got_or : Reaped → ℕ → Option End → Reaped
+got_or rest vpid None = rest
+got_or rest vpid (Some end) = Got vpid end
 
 -- the first zombie, or else what there is
-abbrev pub ready : Reaped → Option Member → Reaped
-ready rest None = rest
-ready rest (Some m) = found rest m.vpid m.end
+abbrev pub ready_or : Reaped → Option Member → Reaped
+ready_or rest None = rest
+ready_or rest (Some m) = got_or rest m.vpid m.end
 
 -- what wait(2) finds: of the children that are asked for the zombie of the lowest pid, since the members stand in the order
 -- of their pids
 unfoldable pub look_for : List Member → ℕ → Option ℕ → Reaped
 look_for members parent which =
-    ready (unready (list_any (is_child parent which) members)) (find (is_ready parent which) members)
+    ready_or (no_zombie (list_any (is_child parent which) members)) (find (is_ready parent which) members)
 
 -- a zombie was found
 abbrev pub is_got : Reaped → Bool
@@ -110,7 +110,7 @@ abbrev pub without_member : List Member → ℕ → List Member
 without_member members vpid = filter (λ m. not (has_pid vpid m)) members
 
 -- a zombie that was found is reaped
-abbrev pub reaped : List Member → Reaped → List Member
-reaped members (Got vpid end) = without_member members vpid
-reaped members NoneReady = members
-reaped members NoChild = members
+abbrev pub members_after_reap : List Member → Reaped → List Member
+members_after_reap members (Got vpid end) = without_member members vpid
+members_after_reap members NoneReady = members
+members_after_reap members NoChild = members

@@ -2,22 +2,22 @@
 use Rattle.std.specs.Prelude.{◌≡◌, ◌≢◌, ℕ, ◌<◌, ◌≤◌, ◌==◌, Bool, List, map, length}
 use Rattle.std.specs.List.{list_any, All, AllPairs}
 use Rattle.std.specs.FinSet.{contains}
-use Rattle.dt_host.specs.World.{Pids}
+use Rattle.dt_host.specs.World.{HostPids}
 use Rattle.dt_procs.specs.declared.member.Member.{Member}
 use Rattle.dt_procs.specs.declared.member.TheConstants.{FIRST_PID, PID_LIMIT, PROCESS_LIMIT}
-use Rattle.dt_procs.specs.declared.row.Row.{Row}
+use Rattle.dt_procs.specs.declared.row.MemberRow.{MemberRow}
 
 -- the processes, each with its pid at the host, and the pid that the next child gets
 pub record Table : Type 0 where
-  pub rows : List Row
+  pub rows : List MemberRow
   pub next : ℕ
 
 -- a table with these parts
-abbrev pub table_of : List Row → ℕ → Table
+abbrev pub table_of : List MemberRow → ℕ → Table
 table_of rows next = record { rows = rows; next = next }
 
 -- the process of a row
-abbrev pub member_of : Row → Member
+abbrev pub member_of : MemberRow → Member
 member_of row = row.member
 
 -- the processes as their kin see them
@@ -42,10 +42,10 @@ pub record IsTable (t : Table) : Type 0 where
   pub few : length t.rows ≤ PROCESS_LIMIT
 
 -- a process has this pid at the host
-abbrev pub is_real : List Row → ℕ → Bool
-is_real rows pid = list_any (λ row. row.real == pid) rows
+abbrev pub has_host_pid : List MemberRow → ℕ → Bool
+has_host_pid rows pid = list_any (λ row. row.host_pid == pid) rows
 
 -- the live pids of the host are exactly those of the processes, zombies included, and no two processes share one there
-pub record Stands (t : Table) (pids : Pids) : Type 0 where
-  pub exact : (pid : ℕ) → contains pids pid ≡ is_real t.rows pid
-  pub apart : AllPairs (λ a b. a.real ≢ b.real) t.rows
+pub record Stands (t : Table) (pids : HostPids) : Type 0 where
+  pub exact : (pid : ℕ) → contains pids pid ≡ has_host_pid t.rows pid
+  pub apart : AllPairs (λ a b. a.host_pid ≢ b.host_pid) t.rows

@@ -1,7 +1,8 @@
 // A process as its kin see it, and what a wait for a child finds.
 ghost use Rattle.std.specs.Prelude.{◌≡◌, ◌==◌, ◌&&◌};
 ghost use Rattle.std.specs.Option.{is_none};
-ghost use Rattle.dt_procs.specs.Members.{newborn, has_pid, is_live, ended_member, is_asked, is_child, is_ready, found};
+ghost use Rattle.dt_procs.specs.Members.{newborn, has_pid, is_live, member_after_end, is_asked, is_child, is_ready};
+ghost use Rattle.dt_procs.specs.Members.{got_or};
 
 use dt_base::End;
 
@@ -87,7 +88,7 @@ impl Member {
 
     // What a wait finds that comes to it first: its end, or else what there is.
     pub(crate) fn found_or(self, rest: Reaped) -> Reaped
-        ensures { result ≡ found rest self.vpid self.end }
+        ensures { result ≡ got_or rest self.vpid self.end }
     {
         match self.end {
             None => rest,
@@ -98,7 +99,7 @@ impl Member {
     // What the end of a process makes of it: if it is that process, it is a zombie, and if it is a child of that
     // process, the first process becomes its parent.
     pub(crate) fn after_end(self, vpid: u32, end: End) -> Self
-        ensures { result ≡ ended_member vpid end self }
+        ensures { result ≡ member_after_end vpid end self }
     {
         Member {
             vpid: self.vpid,

@@ -2,17 +2,18 @@
 ghost use Rattle.std.specs.Prelude.{◌≡◌, ◌+◌, ◌<◌, ◌≤◌, ◌↔◌, IsTrue, IsSome, IfOk, OnOk, IsErrOf, false, true};
 ghost use Rattle.std.specs.FinSet.{empty};
 ghost use Rattle.dt_host.specs.Cause.{HasCause};
-ghost use Rattle.dt_host.specs.World.{OnlyPids, Pids as HostPids};
+ghost use Rattle.dt_host.specs.World.{OnlyPids, HostPids};
 ghost use Rattle.dt_procs.specs.declared.error.ProcErr.TheVariants.{Full, Host as host_failed};
-ghost use Rattle.dt_procs.specs.Members.{first_members, with_child, is_full, ended, look_for, reaped, without_member};
+ghost use Rattle.dt_procs.specs.Members.{first_members, with_child, is_full, members_after_end, look_for};
+ghost use Rattle.dt_procs.specs.Members.{members_after_reap, without_member};
 ghost use Rattle.dt_procs.specs.Members.{is_got};
-ghost use Rattle.dt_procs.specs.Members.{member_at, parent_pid, end_of, lives};
+ghost use Rattle.dt_procs.specs.Members.{member_at, parent_pid, end_of, has_live};
 ghost use Rattle.dt_procs.specs.Table.{members_of, Stands, IsTable};
 
 use crate::error::ProcErr;
 use crate::member::{FIRST_PID, Member, PID_LIMIT, PROCESS_LIMIT, Reaped};
 use crate::row;
-use crate::row::Row;
+use crate::row::MemberRow;
 use dt_base::End;
 use dt_host::{Host, HostErr};
 use std::alloc::Global;
@@ -21,7 +22,7 @@ use std::marker::Model;
 /// The processes of a container, in the order of their pids, each with its pid at the host.
 #[derive(Drop)]
 pub struct Pids {
-    rows: Vec<Row>,
+    rows: Vec<MemberRow>,
     next: u32,
 }
 
@@ -41,16 +42,16 @@ impl Pids {
     pub fn first<H: Host>(alloc: Global, host: &mut H) -> Result<Self, HostErr>
         requires no_pids { (H.view host.old).pids ≡ empty }
         ensures members { IfOk result (λ pids. members_of pids ≡ first_members) }
-        ensures next { IfOk result (λ pids. pids.next ≡ 2) }
+        ensures next { IfOk result (λ pids. pids.next ≡ FIRST_PID + 1) }
         ensures stands { IfOk result (λ pids. Stands pids (H.view host.new).pids) }
         ensures rest { OnlyPids (H.view host.old) (H.view host.new) }
         ensures cause { HasCause (H.count host.old) (H.count host.new)
             (IsErrOf result HostErr.Failed) }
     {
-        let real = host.new_pid()?;
+        let host_pid = host.new_pid()?;
         let mut rows = Vec::new(alloc);
-        rows.push(Row {
-            real,
+        rows.push(MemberRow {
+            host_pid,
             member: Member::new(FIRST_PID, 0),
         })?;
         Ok(Pids {
@@ -101,9 +102,9 @@ impl Pids {
         if vpid >= PID_LIMIT {
             return Err(HostErr::NoMemory);
         }
-        let real = host.new_pid()?;
-        self.rows.push(Row {
-            real,
+        let host_pid = host.new_pid()?;
+        self.rows.push(MemberRow {
+            host_pid,
             member: Member::new(vpid, parent),
         })?;
         self.next = vpid + 1;
@@ -112,7 +113,7 @@ impl Pids {
 
     /// A process ends (exit(2)): it is a zombie from now on, and its children go to the first process.
     pub fn ended(&mut self, vpid: u32, end: End)
-        ensures members { members_of self.new ≡ ended vpid end (members_of self.old) }
+        ensures members { members_of self.new ≡ members_after_end vpid end (members_of self.old) }
         ensures next { self.new.next ≡ self.old.next }
         ensures stands { (pids : HostPids) → Stands self.old pids → Stands self.new pids }
     {
@@ -123,7 +124,7 @@ impl Pids {
     pub fn look_for(&self, parent: u32, which: Option<u32>) -> Reaped
         ensures { result ≡ look_for (members_of self.now) parent which }
     {
-        let rest = row::unready(&self.rows, parent, which);
+        let rest = row::no_zombie(&self.rows, parent, which);
         match row::ready_row(&self.rows, parent, which) {
             Some(row) => row.member.found_or(rest),
             None => rest,
@@ -141,7 +142,7 @@ impl Pids {
         requires stands { Stands self.old (H.view host.old).pids }
         ensures found { IfOk result (λ found. found ≡ look_for (members_of self.old) parent which) }
         ensures members { IfOk result
-            (λ found. members_of self.new ≡ reaped (members_of self.old) found) }
+            (λ found. members_of self.new ≡ members_after_reap (members_of self.old) found) }
         ensures next { OnOk result (self.new.next ≡ self.old.next) }
         ensures stands { OnOk result (Stands self.new (H.view host.new).pids) }
         ensures kept { is_got (look_for (members_of self.old) parent which) ≡ false
@@ -172,10 +173,10 @@ impl Pids {
             (IsErrOf result HostErr.Failed) }
     {
         let _before = host.faults();
-        let Some(Row { real, .. }) = row::row_at(&self.rows, vpid) else {
+        let Some(MemberRow { host_pid, .. }) = row::row_at(&self.rows, vpid) else {
             unreachable!()
         };
-        host.drop_pid(real)?;
+        host.drop_pid(host_pid)?;
         self.rows.retain(|row| !row.member.has_pid(vpid));
         Ok(())
     }
@@ -191,7 +192,7 @@ impl Pids {
     /// Whether a process is there and has not ended.
     #[tactic(auto, using(crate::proofs::Listed::by_rows))]
     pub fn lives(&self, vpid: u32) -> bool
-        ensures { result ≡ lives (members_of self.now) vpid }
+        ensures { result ≡ has_live (members_of self.now) vpid }
     {
         row::lives(&self.rows, vpid)
     }

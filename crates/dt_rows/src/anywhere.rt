@@ -9,11 +9,10 @@ ghost use Rattle.dt_run.specs.Run.{status_of_run};
 ghost use Rattle.dt_run.specs.Statuses.{is_run_status};
 ghost use Rattle.dt_run.specs.Wanted.{run_on};
 
+use crate::program::{HELLO_INDEX, RUN_HELLO, hello, strings};
 use crate::twice::{InMemory, outside};
-use dt_agreement::Outside;
 use dt_host::{Host, NoGate, Sink, Store};
-use dt_run::dettrace;
-use dt_testing::{HELLO_INDEX, RUN_HELLO, hello, strings};
+use dt_run::{Outside, dettrace};
 use std::alloc::Global;
 use std::test::Fail;
 

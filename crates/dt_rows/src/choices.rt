@@ -1,8 +1,8 @@
 // What a number for the host does to its choices.
+use crate::program::{HELLO_INDEX, HELLO_REPORT, RUN_HELLO, hello, strings};
 use crate::twice::{InMemory, outside};
 use dt_host::{Host, NoGate};
 use dt_run::dettrace;
-use dt_testing::{HELLO_INDEX, HELLO_SHOWN, RUN_HELLO, hello, hello_report, strings};
 use std::alloc::Global;
 use std::test::Fail;
 
@@ -42,7 +42,6 @@ fn a_number_among_the_words_disturbs_the_host_as_it_does_by_hand(
     rt: HostRuntime,
 ) -> Result<(), Fail> {
     let alloc = rt.alloc();
-    let want = hello_report(alloc, HELLO_SHOWN)?;
     let mut seen = Vec::new(alloc);
     seen.push(run(alloc, RUN_HELLO, None)?.next)?;
     for number in [0, 1, 7, 1 << 32, (1 << 32) + 7, 1 << 63, u64::MAX] {
@@ -54,7 +53,7 @@ fn a_number_among_the_words_disturbs_the_host_as_it_does_by_hand(
         seen.push(by_words.next)?;
         for ran in [by_words, by_hand] {
             assert_eq!(rt; ran.status, 0, "{number}");
-            assert_eq!(rt; ran.report.as_slice(), want.as_bytes(), "{number}");
+            assert_eq!(rt; ran.report.as_slice(), HELLO_REPORT, "{number}");
         }
     }
     Ok(())

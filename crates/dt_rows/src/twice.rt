@@ -3,10 +3,10 @@ ghost use Rattle.std.specs.Prelude.{◌≡◌, IfOk, codes};
 ghost use Rattle.std.specs.FinMap.{empty, insert};
 ghost use Rattle.dt_host.specs.World.{IsEmptyStart};
 
-use dt_agreement::{Outside, run_twice};
+use crate::program::{HELLO_INDEX, HELLO_REPORT, RUN_HELLO, hello, strings};
 use dt_host::NoGate;
 use dt_memhost::{MemHost, MemSink, MemStore, Picker};
-use dt_testing::{HELLO_INDEX, HELLO_SHOWN, RUN_HELLO, hello, hello_report, strings};
+use dt_run::{Outside, run_twice};
 use std::alloc::Global;
 use std::test::Fail;
 
@@ -41,13 +41,12 @@ fn two_runs_of_the_same_words_agree(rt: HostRuntime) -> Result<(), Fail> {
     let alloc = rt.alloc();
     let program = hello(alloc)?;
     let words = strings(alloc, RUN_HELLO)?;
-    let want = hello_report(alloc, HELLO_SHOWN)?;
     let program = program.as_slice();
     let mut first = outside(alloc, 1, HELLO_INDEX, program)?;
     let mut second = outside(alloc, u64::MAX, HELLO_INDEX, program)?;
     let statuses = run_twice(alloc, &words, &words, &mut first, &mut second, &NoGate);
     assert_eq!(rt; statuses, (0, 0));
-    assert_eq!(rt; first.out.bytes(), want.as_bytes());
-    assert_eq!(rt; second.out.bytes(), want.as_bytes());
+    assert_eq!(rt; first.out.bytes(), HELLO_REPORT);
+    assert_eq!(rt; second.out.bytes(), HELLO_REPORT);
     Ok(())
 }

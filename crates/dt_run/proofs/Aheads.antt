@@ -3,22 +3,22 @@ use Rattle.std.proofs.Common.{◌≡◌, ℕ, Bool, true, false, cond, Option, S
 use Rattle.std.specs.Prelude.{option_map}
 use Rattle.std.specs.Cmp.{nat_cmp_total}
 use Rattle.std.specs.FinMap.{empty, get, insert, remove, same_map, nat_cmp-IsAntisymmetric}
-use Rattle.dt_host.specs.Values.{map_values}
-use Rattle.dt_host.proofs.Maps.{put_back}
-use Rattle.dt_host.proofs.Valued.{get-map_values, map_values-insert, map_values-remove}
+use Rattle.dt_tables.specs.Values.{map_values}
+use Rattle.dt_tables.proofs.Maps.{put_back}
+use Rattle.dt_tables.proofs.Valued.{get-map_values, map_values-insert, map_values-remove}
 use Rattle.dt_rv64.specs.declared.machine.Machine.{Machine}
 use Rattle.dt_calls.specs.Settle.{next_after, with_own}
 use Rattle.dt_run.specs.declared.phase.Phase.{Phase}
 use Rattle.dt_run.specs.declared.phase.Phase.TheVariants.{Owes, Ran, Waits}
-use Rattle.dt_run.specs.Work.{Work, Works, owing_work, ran_in, with_segment}
-use Rattle.dt_run.specs.Turn.{State, Act, act, acted, works_after, verdict_is_ended, with_child_work, stuck, turn_taken, headed, head_pid, turn}
-use Rattle.dt_run.specs.Ahead.{ahead, ahead_of, ran, ran_where, TurnAhead, RanAhead}
+use Rattle.dt_run.specs.Work.{Work, Works, owing_work, with_segment_in, with_segment}
+use Rattle.dt_run.specs.Turn.{State, Act, act, turn_of_act, works_after_act, is_ended_verdict, with_child_work, stuck_turn, turn_of_work, turn_of_head, head_pid, turn}
+use Rattle.dt_run.specs.Ahead.{with_all_segments, turn_with_all_segments, with_segment_of, works_with_segment, TurnAhead, RanAhead}
 
-ran_in-again : (w : Work) (phase : Phase) → w.phase ≡ phase → with_segment (ran_in w phase) ≡ ran_in w phase
+ran_in-again : (w : Work) (phase : Phase) → w.phase ≡ phase → with_segment (with_segment_in w phase) ≡ with_segment_in w phase
 unfolding with_segment
 ran_in-again w Owes is = refl
-ran_in-again w (Ran seg) is = ap (ran_in w) is
-ran_in-again w Waits is = ap (ran_in w) is
+ran_in-again w (Ran seg) is = ap (with_segment_in w) is
+ran_in-again w Waits is = ap (with_segment_in w) is
 
 -- a segment that was run isn't run again
 pub with_segment-again : (w : Work) → with_segment (with_segment w) ≡ with_segment w
@@ -48,8 +48,8 @@ map-again works = same_map nat_cmp_total nat_cmp-IsAntisymmetric _ _ (λ q.
     ∙ sym (get-ran works q))
 
 -- running ahead twice is running ahead
-pub ahead-again : (s : State) → ahead (ahead s) ≡ ahead s
-unfolding ahead
+pub ahead-again : (s : State) → with_all_segments (with_all_segments s) ≡ with_all_segments s
+unfolding with_all_segments
 ahead-again s = ap (λ works. record s { works = works }) (map-again s.works)
 
 map-own : (works : Works) (p : ℕ) (own : Option Work)
@@ -77,13 +77,13 @@ map-left true x y is = refl
 map-left false x y is = is
 
 map-changed : (works : Works) (p next : ℕ) (a : Act)
-    → map_values with_segment (works_after (map_values with_segment works) p next a)
-    ≡ map_values with_segment (works_after works p next a)
-unfolding works_after
-map-changed works p next a = map-left (verdict_is_ended a.verdict) _ _ (map-child _ _ next a.child (map-own works p a.own))
+    → map_values with_segment (works_after_act (map_values with_segment works) p next a)
+    ≡ map_values with_segment (works_after_act works p next a)
+unfolding works_after_act
+map-changed works p next a = map-left (is_ended_verdict a.verdict) _ _ (map-child _ _ next a.child (map-own works p a.own))
 
-acted-ahead : (s : State) (p : ℕ) (a : Act) → ahead_of (acted (ahead s) p a) ≡ ahead_of (acted s p a)
-unfolding ahead
+acted-ahead : (s : State) (p : ℕ) (a : Act) → turn_with_all_segments (turn_of_act (with_all_segments s) p a) ≡ turn_with_all_segments (turn_of_act s p a)
+unfolding with_all_segments
 acted-ahead s p a =
     ap (λ works. record {
       next
@@ -95,28 +95,28 @@ acted-ahead s p a =
     (map-changed s.works p s.next a)
 
 taken-ahead : (s : State) (p : ℕ) (found : Option Work)
-    → ahead_of (turn_taken (ahead s) p (option_map with_segment found)) ≡ ahead_of (turn_taken s p found)
-unfolding ahead
-taken-ahead s p None = ap stuck (ahead-again s)
+    → turn_with_all_segments (turn_of_work (with_all_segments s) p (option_map with_segment found)) ≡ turn_with_all_segments (turn_of_work s p found)
+unfolding with_all_segments
+taken-ahead s p None = ap stuck_turn (ahead-again s)
 taken-ahead s p (Some w) =
-    ap (λ v. ahead_of (acted (ahead s) p (act s.shared s.queue s.next p v))) (with_segment-again w)
+    ap (λ v. turn_with_all_segments (turn_of_act (with_all_segments s) p (act s.shared s.queue s.next p v))) (with_segment-again w)
     ∙ acted-ahead s p (act s.shared s.queue s.next p (with_segment w))
 
-headed-ahead : (s : State) (head : Option ℕ) → ahead_of (headed (ahead s) head) ≡ ahead_of (headed s head)
-unfolding ahead
-headed-ahead s None = ap stuck (ahead-again s)
-headed-ahead s (Some p) = ap (λ found. ahead_of (turn_taken (ahead s) p found)) (get-ran s.works p) ∙ taken-ahead s p (get s.works p)
+headed-ahead : (s : State) (head : Option ℕ) → turn_with_all_segments (turn_of_head (with_all_segments s) head) ≡ turn_with_all_segments (turn_of_head s head)
+unfolding with_all_segments
+headed-ahead s None = ap stuck_turn (ahead-again s)
+headed-ahead s (Some p) = ap (λ found. turn_with_all_segments (turn_of_work (with_all_segments s) p found)) (get-ran s.works p) ∙ taken-ahead s p (get s.works p)
 
 pub turn-ahead : TurnAhead
-unfolding turn ahead
+unfolding turn with_all_segments
 turn-ahead s = headed-ahead s (head_pid s.queue.order)
 
 -- turns of states that are the same once all segments were run come to the same
-pub turn-same : (a b : State) → ahead a ≡ ahead b → ahead_of (turn a) ≡ ahead_of (turn b)
-turn-same a b is = sym (turn-ahead a) ∙ ap (λ s. ahead_of (turn s)) is ∙ turn-ahead b
+pub turn-same : (a b : State) → with_all_segments a ≡ with_all_segments b → turn_with_all_segments (turn a) ≡ turn_with_all_segments (turn b)
+turn-same a b is = sym (turn-ahead a) ∙ ap (λ s. turn_with_all_segments (turn s)) is ∙ turn-ahead b
 
 map-ran : (works : Works) (p : ℕ) (found : Option Work) → get works p ≡ found
-    → map_values with_segment (ran_where works p found) ≡ map_values with_segment works
+    → map_values with_segment (works_with_segment works p found) ≡ map_values with_segment works
 map-ran works p None is = refl
 map-ran works p (Some w) is =
     map-insert works p (with_segment w)
@@ -125,5 +125,5 @@ map-ran works p (Some w) is =
     ∙ ap (map_values with_segment) (put_back nat_cmp_total nat_cmp-IsAntisymmetric works p w is)
 
 pub ran-ahead : RanAhead
-unfolding ahead ran
+unfolding with_all_segments with_segment_of
 ran-ahead p s = ap (λ works. record s { works = works }) (map-ran s.works p (get s.works p) refl)

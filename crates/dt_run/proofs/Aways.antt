@@ -4,12 +4,12 @@ use Rattle.std.specs.Prelude.{IsSome}
 use Rattle.std.specs.Ordering.{is_eq, nat_cmp}
 use Rattle.std.specs.Cmp.{nat_cmp_total}
 use Rattle.std.specs.FinMap.{find, get, insert, empty, remove, get-insert, same_map, nat_cmp-IsAntisymmetric}
-use Rattle.dt_host.proofs.Maps.{at_insert, at_remove, get-remove_same, get-remove_other, get-insert_same, get-insert_other}
+use Rattle.dt_tables.proofs.Maps.{at_insert, at_remove, get-remove_same, get-remove_other, get-insert_same, get-insert_other}
 use Rattle.dt_rv64.specs.declared.machine.Machine.{Machine}
 use Rattle.dt_calls.specs.Settle.{next_after, with_own}
 use Rattle.dt_run.specs.Work.{Work, Works, owing_work, with_segment}
-use Rattle.dt_run.specs.Turn.{State, Act, act, works_after, verdict_is_ended, with_child_work, turn_taken, headed, head_pid, turn}
-use Rattle.dt_run.specs.Ahead.{Away, put_all, home, home_after, IsAway, HasHead, TurnAway}
+use Rattle.dt_run.specs.Turn.{State, Act, act, works_after_act, is_ended_verdict, with_child_work, turn_of_work, turn_of_head, head_pid, turn}
+use Rattle.dt_run.specs.Ahead.{Away, with_works, state_with_works, turn_with_works, IsAway, HasHead, TurnAway}
 
 -- the first of two that is there
 abbrev over : Option Work → Option Work → Option Work
@@ -23,10 +23,10 @@ over-choice false x y z = refl
 over-none : (x y : Option Work) → x ≡ None → over x y ≡ y
 over-none x y is = ap (λ x. over x y) is
 
-get-put_all : (ws : Away) (works : Works) (q : ℕ) → get (put_all ws works) q ≡ over (find nat_cmp q ws) (get works q)
+get-put_all : (ws : Away) (works : Works) (q : ℕ) → get (with_works ws works) q ≡ over (find nat_cmp q ws) (get works q)
 get-put_all [] works q = refl
 get-put_all (w ∷ ws) works q =
-    get-insert nat_cmp_total (put_all ws works) w.0 w.1 q
+    get-insert nat_cmp_total (with_works ws works) w.0 w.1 q
     ∙ ap (cond (is_eq (nat_cmp q w.0)) (Some w.1)) (get-put_all ws works q)
     ∙ over-choice (is_eq (nat_cmp q w.0)) w.1 (find nat_cmp q ws) (get works q)
 
@@ -65,24 +65,24 @@ module _ (ws : Away) where
   over-child m n next None q apart is = is
   over-child m n next (Some x) q apart is = over-insert m n next (owing_work x) q apart is
 
-  left-away : (b : Bool) (x y : Works) → x ≡ put_all ws y → cond b empty x ≡ put_all (cond b [] ws) (cond b empty y)
+  left-away : (b : Bool) (x y : Works) → x ≡ with_works ws y → cond b empty x ≡ with_works (cond b [] ws) (cond b empty y)
   left-away true x y is = refl
   left-away false x y is = is
 
   changed-away : (works : Works) (p next : ℕ) (a : Act) → find nat_cmp p ws ≡ None → find nat_cmp next ws ≡ None
-      → works_after (put_all ws works) p next a ≡ put_all (cond (verdict_is_ended a.verdict) [] ws) (works_after works p next a)
-  unfolding works_after
-  changed-away works p next a own child = left-away (verdict_is_ended a.verdict) _ _
+      → works_after_act (with_works ws works) p next a ≡ with_works (cond (is_ended_verdict a.verdict) [] ws) (works_after_act works p next a)
+  unfolding works_after_act
+  changed-away works p next a own child = left-away (is_ended_verdict a.verdict) _ _
       (same_map nat_cmp_total nat_cmp-IsAntisymmetric _ _ (λ q.
-      over-child _ _ next a.child q child (over-own (put_all ws works) works p a.own q own (get-put_all ws works q))
+      over-child _ _ next a.child q child (over-own (with_works ws works) works p a.own q own (get-put_all ws works q))
       ∙ sym (get-put_all ws _ q)))
 
   next-fresh : (s : State) → IsAway s ws → find nat_cmp s.next ws ≡ None
   next-fresh s away = unless_some (find nat_cmp s.next ws) (λ h. let less = away.given s.next h in omega arith)
 
   taken-away : (s : State) (p : ℕ) (found : Option Work) → get s.works p ≡ found → IsSome found → IsAway s ws
-      → turn_taken (home ws s) p found ≡ home_after ws (turn_taken s p found)
-  unfolding home
+      → turn_of_work (state_with_works ws s) p found ≡ turn_with_works ws (turn_of_work s p found)
+  unfolding state_with_works
   taken-away s p None is some away = cc
   taken-away s p (Some w) is some away =
       let a = act s.shared s.queue s.next p (with_segment w) in
@@ -96,14 +96,14 @@ module _ (ws : Away) where
       (changed-away s.works p s.next a (home-apart s p (subst IsSome (sym is) some) away) (next-fresh s away))
 
   headed-away : (s : State) (head : Option ℕ) → head_pid s.queue.order ≡ head → HasHead s → IsAway s ws
-      → headed (home ws s) head ≡ home_after ws (headed s head)
-  unfolding home
+      → turn_of_head (state_with_works ws s) head ≡ turn_with_works ws (turn_of_head s head)
+  unfolding state_with_works
   headed-away s None is has away = refl
   headed-away s (Some p) is has away =
-      ap (turn_taken (home ws s) p)
+      ap (turn_of_work (state_with_works ws s) p)
       (get-put_all ws s.works p ∙ over-none (find nat_cmp p ws) (get s.works p) (home-apart s p (has p is) away))
       ∙ taken-away s p (get s.works p) refl (has p is) away
 
 pub turn-away : TurnAway
-unfolding turn home
+unfolding turn state_with_works
 turn-away ws s has away = headed-away ws s (head_pid s.queue.order) refl has away

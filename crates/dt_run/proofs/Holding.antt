@@ -5,9 +5,9 @@ use Rattle.std.specs.FinMap.{get}
 use Rattle.dt_host.specs.World.{World, Forest, Node, file, dir, link, node_at, entry}
 use Rattle.dt_tree.specs.declared.inode.Inode.{Inode}
 use Rattle.dt_tree.specs.declared.limits.TheConstants.{ROOT}
-use Rattle.dt_tree.specs.Table.{Table, virtual, real_of, renumbered, shape_of, tree_of, Pairs, Stands}
+use Rattle.dt_tree.specs.Table.{Table, vino_of, real_of, renumbered_node, shape_of, tree_of, IsPairing, Stands}
 use Rattle.dt_tree.proofs.Mirroring.{node_at-inode, entry-inode, has_number}
-use Rattle.dt_image.specs.Paths.{reached_from, reached}
+use Rattle.dt_image.specs.Paths.{node_from, node_from_root}
 use Rattle.dt_run.specs.HoldsTree.{what_of, HoldsTree}
 
 -- a number of the host, if there is one, is for that inode, if there is one
@@ -22,13 +22,13 @@ found_inode : (t : Table) (real n : ℕ) (found : Option Inode) → get t.inodes
 found_inode t real n None at is = cc
 found_inode t real n (Some inode) at is = (inode, at, cc)
 
-what-renumbered : (f : ℕ → ℕ) (found : Option Node) → option_map what_of found ≡ option_map what_of (option_map (renumbered f) found)
+what-renumbered : (f : ℕ → ℕ) (found : Option Node) → option_map what_of found ≡ option_map what_of (option_map (renumbered_node f) found)
 what-renumbered f None = refl
 what-renumbered f (Some (file bytes)) = refl
 what-renumbered f (Some (dir names)) = refl
 what-renumbered f (Some (link target)) = refl
 
-module _ (t : Table) (v : Forest) (s : Pairs t v) where
+module _ (t : Table) (v : Forest) (s : IsPairing t v) where
   inode-at : (real n : ℕ) → get t.by_real real ≡ Some n → (inode : Inode) × (get t.inodes n ≡ Some inode) × (inode.real ≡ real)
   inode-at real n is = found_inode t real n (get t.inodes n) refl (s.back real n is)
 
@@ -37,25 +37,25 @@ module _ (t : Table) (v : Forest) (s : Pairs t v) where
       let inode = found_inode t v.root ROOT (get t.inodes ROOT) refl s.root in
       subst (λ real. get t.by_real real ≡ Some ROOT) inode.2 (s.forth ROOT inode.0 inode.1)
 
-  pair-from : (names : List (List ℕ)) (real n : ℕ) → get t.by_real real ≡ Some n → Pair t (reached_from v real names) (reached_from (shape_of t v) n names)
-  unfolding reached_from
+  pair-from : (names : List (List ℕ)) (real n : ℕ) → get t.by_real real ≡ Some n → Pair t (node_from v real names) (node_from (shape_of t v) n names)
+  unfolding node_from
   pair-from [] real n is = is
   pair-from (name ∷ names) real n is =
       let at = inode-at real n is in
-      let here : entry (shape_of t v) n name ≡ option_map (virtual t) (entry v real name) =
-      entry-inode t v s n at.0 name at.1 ∙ ap (λ r. option_map (virtual t) (entry v r name)) at.2 in
-      subst (λ found. Pair t (option_and_then (λ m. reached_from v m names) (entry v real name)) (option_and_then (λ m. reached_from (shape_of t v) m names) found))
+      let here : entry (shape_of t v) n name ≡ option_map (vino_of t) (entry v real name) =
+      entry-inode t v s n at.0 name at.1 ∙ ap (λ r. option_map (vino_of t) (entry v r name)) at.2 in
+      subst (λ found. Pair t (option_and_then (λ m. node_from v m names) (entry v real name)) (option_and_then (λ m. node_from (shape_of t v) m names) found))
       (sym here) (by_entry (entry v real name) (λ m e. has_number t v s n at.0 name at.1 m (ap (λ r. entry v r name) at.2 ∙ e)) (λ m k e. pair-from names m k e))
     where
-      by_number : (m : ℕ) (found : Option ℕ) → get t.by_real m ≡ found → IsSome found → ((k : ℕ) → get t.by_real m ≡ Some k → Pair t (reached_from v m names) (reached_from (shape_of t v) k names)) → Pair t (reached_from v m names) (reached_from (shape_of t v) (unwrap_or found 0) names)
+      by_number : (m : ℕ) (found : Option ℕ) → get t.by_real m ≡ found → IsSome found → ((k : ℕ) → get t.by_real m ≡ Some k → Pair t (node_from v m names) (node_from (shape_of t v) k names)) → Pair t (node_from v m names) (node_from (shape_of t v) (unwrap_or found 0) names)
       by_number m None e h further = cc
       by_number m (Some k) e h further = further k e
 
-      by_entry : (found : Option ℕ) → ((m : ℕ) → found ≡ Some m → IsSome (get t.by_real m)) → ((m k : ℕ) → get t.by_real m ≡ Some k → Pair t (reached_from v m names) (reached_from (shape_of t v) k names)) → Pair t (option_and_then (λ m. reached_from v m names) found) (option_and_then (λ m. reached_from (shape_of t v) m names) (option_map (virtual t) found))
+      by_entry : (found : Option ℕ) → ((m : ℕ) → found ≡ Some m → IsSome (get t.by_real m)) → ((m k : ℕ) → get t.by_real m ≡ Some k → Pair t (node_from v m names) (node_from (shape_of t v) k names)) → Pair t (option_and_then (λ m. node_from v m names) found) (option_and_then (λ m. node_from (shape_of t v) m names) (option_map (vino_of t) found))
       by_entry None numbered further = tt
       by_entry (Some m) numbered further = by_number m (get t.by_real m) refl (numbered m refl) (further m)
 
-  pair-reached : (names : List (List ℕ)) → Pair t (reached v names) (reached (shape_of t v) names)
+  pair-reached : (names : List (List ℕ)) → Pair t (node_from_root v names) (node_from_root (shape_of t v) names)
   unfolding shape_of
   pair-reached names = pair-from names v.root ROOT pair-root
 
@@ -65,8 +65,8 @@ module _ (t : Table) (v : Forest) (s : Pairs t v) where
   shown-pair (Some real) None p = absurd p
   shown-pair (Some real) (Some n) p =
       let at = inode-at real n p in
-      what-renumbered (virtual t) (node_at v real)
-      ∙ ap (λ r. option_map what_of (option_map (λ node. renumbered (virtual t) node) (node_at v r))) (sym at.2)
+      what-renumbered (vino_of t) (node_at v real)
+      ∙ ap (λ r. option_map what_of (option_map (λ node. renumbered_node (vino_of t) node) (node_at v r))) (sym at.2)
       ∙ sym (ap (option_map what_of) (node_at-inode t v s n at.0 at.1))
 
   together-pairs : (a b x y : Option ℕ) → Pair t a x → Pair t b y → a ≡ b → x ≡ y
@@ -99,7 +99,7 @@ holds_tree t w stands =
     let s = stands.mirrors.pairs in
     let pair = pair-reached t w.forest s in
     record {
-      shown = λ names. shown-pair t w.forest s (reached w.forest names) (reached (shape_of t w.forest) names) (pair names);
+      shown = λ names. shown-pair t w.forest s (node_from_root w.forest names) (node_from_root (shape_of t w.forest) names) (pair names);
       together = λ a b same. together-pairs t w.forest s _ _ _ _ (pair a) (pair b) same;
       apart = λ a b same. apart-pairs t w.forest s _ _ _ _ (pair a) (pair b) same;
     }

@@ -15,3 +15,4 @@ pub mod Failing
 pub mod Lines
 pub mod Causes
 pub mod Ran
+pub mod Answered

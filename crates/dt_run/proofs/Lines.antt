@@ -3,14 +3,14 @@ use Rattle.std.proofs.Common.{◌≡◌, ◌≢◌, ℕ, List, [], Option, refl,
 use Rattle.std.proofs.lemmas.Bool.{cases_eq}
 use Rattle.std.proofs.lemmas.Bool.Decides.{nat_tests}
 use Rattle.std.specs.Prelude.{IsTrue}
-use Rattle.dt_host.specs.Store.{Files}
+use Rattle.dt_host.specs.Store.{StoreFiles}
 use Rattle.dt_host.proofs.Growth.{added-nil, adds_none}
 use Rattle.dt_run.specs.declared.failure.Failure.{Failure}
 use Rattle.dt_run.specs.declared.failure.Failure.TheVariants.{Usage, Image, Store, Host, Output, NoMemory}
 use Rattle.dt_run.specs.Failure.{failure_status, failure_line}
 use Rattle.dt_run.specs.Wanted.{wanted}
 use Rattle.dt_run.specs.Statuses.{is_run_status, status_line, AddsLine, AddsRefusal}
-use Rattle.dt_run.specs.inner.Fails.{Fails}
+use Rattle.dt_run.specs.inner.Fails.{HasFailureCause}
 use Rattle.dt_run.proofs.Failing.{Answers, own_status, image}
 
 status_line-failure : (f : Failure) → failure_status f ≢ 3 → failure_status f ≢ 7 → status_line (failure_status f) ≡ failure_line f
@@ -29,7 +29,7 @@ own_line f status old new before now by no_image other line =
     subst (λ found. AddsLine found old new before now) (sym same) line
 
 -- at 3 it is the line of the refusal
-pub refusal_line : (f : Failure) (status : ℕ) (told : Option Files) (words : List (List ℕ)) (out out_now old new : Option (List ℕ)) (before now : ℕ) → Answers f status → Fails f told words out out_now → status ≡ 3 → AddsLine (failure_line f) old new before now → AddsRefusal (wanted told words) old new before now
+pub refusal_line : (f : Failure) (status : ℕ) (told : Option StoreFiles) (words : List (List ℕ)) (out out_now old new : Option (List ℕ)) (before now : ℕ) → Answers f status → HasFailureCause f told words out out_now → status ≡ 3 → AddsLine (failure_line f) old new before now → AddsRefusal (wanted told words) old new before now
 refusal_line f status told words out out_now old new before now by fails three line =
     let r = image status told words out out_now f by fails three in
     record { refusal = r.refusal; first = r.first; line = subst (λ found. AddsLine (failure_line found) old new before now) r.is line }

@@ -11,12 +11,12 @@ use Rattle.dt_sched.specs.declared.settled.Head.TheVariants.{NotArrived, Ready, 
 use Rattle.dt_sched.specs.declared.settled.Settled.{Settled}
 use Rattle.dt_sched.specs.declared.settled.Settled.TheVariants.{Again, Child, LastChild, Waits as Blocked, Moved, Gone, Stopped}
 use Rattle.dt_sched.specs.Core as sched
-use Rattle.dt_sched.specs.Core.{CoreView, IsCore, head, head_by, owes, owing, is_owing, is_counted, arrived, arrived_at, settled, settled_at, verdict_after}
+use Rattle.dt_sched.specs.Core.{CoreView, IsCore, head, head_unless_over, owing_process, owing_vpids, is_owing, has_segment_count, core_after_arrival, process_after_arrival, core_after_turn, core_after_turn_of, verdict_after}
 use Rattle.dt_run.specs.declared.phase.Phase.{Phase}
 use Rattle.dt_run.specs.declared.phase.Phase.TheVariants.{Owes, Ran, Waits}
 use Rattle.dt_run.specs.Work.{turn_cost}
-use Rattle.dt_run.specs.Queue.{Queue, order_after, run_queue_after, verdict_by}
-use Rattle.dt_run.specs.inner.InCode.{queue_of, known}
+use Rattle.dt_run.specs.Queue.{Queue, order_after_turn, run_queue_after_turn, queue_verdict}
+use Rattle.dt_run.specs.inner.InCode.{queue_of, queue_phase}
 
 -- the pids of processes
 abbrev pub pids : List Process → List ℕ
@@ -40,7 +40,7 @@ ready-tests x p false true is = (refl, (refl, cc))
 ready-tests x p false false is = cc
 
 ready-by : (core : CoreView) (p : ℕ) (v : Option Verdict) (queue : List Process) → core.verdict ≡ v → core.queue ≡ queue
-    → head_by v core.left queue ≡ Ready p → IsHead core p
+    → head_unless_over v core.left queue ≡ Ready p → IsHead core p
 ready-by core p (Some v) queue running is ready = cc
 ready-by core p None [] running is ready = cc
 ready-by core p None (x ∷ rest) running is ready =
@@ -53,20 +53,20 @@ ready-head core p ready = ready-by core p core.verdict core.queue refl refl read
 -- where no segment has arrived of the head, some are owed
 owed-tests : (x : Process) (rest : List Process) (p : ℕ) (a b : Bool) → is_owing x.phase ≡ a
     → cond a (NotArrived x.vpid) (cond b (Ready x.vpid) (Over verdict.Budget)) ≡ NotArrived p
-    → 0 < length (owing (x ∷ rest))
-owed-tests x rest p true b owed is = subst (λ t. 0 < length (cond t (x.vpid ∷ owing rest) (owing rest))) (sym owed) (omega arith)
+    → 0 < length (owing_vpids (x ∷ rest))
+owed-tests x rest p true b owed is = subst (λ t. 0 < length (cond t (x.vpid ∷ owing_vpids rest) (owing_vpids rest))) (sym owed) (omega arith)
 owed-tests x rest p false true owed is = cc
 owed-tests x rest p false false owed is = cc
 
 owed-by : (core : CoreView) (p : ℕ) (v : Option Verdict) (queue : List Process)
-    → head_by v core.left queue ≡ NotArrived p → (v ≡ None) × (0 < length (owing queue))
+    → head_unless_over v core.left queue ≡ NotArrived p → (v ≡ None) × (0 < length (owing_vpids queue))
 owed-by core p (Some v) queue is = cc
 owed-by core p None [] is = cc
 owed-by core p None (x ∷ rest) is =
     (refl, owed-tests x rest p (is_owing x.phase) (nat_le (sched.cost_of x.phase) core.left) refl is)
 
 pub owed-head : (core : CoreView) (p : ℕ) → head core ≡ NotArrived p
-    → (core.verdict ≡ None) × (0 < length (owing core.queue))
+    → (core.verdict ≡ None) × (0 < length (owing_vpids core.queue))
 owed-head core p is = owed-by core p core.verdict core.queue is
 
 -- a queue whose head the budget doesn't pay for
@@ -89,11 +89,11 @@ over-tests x v false true is = cc
 over-tests x v false false is = (refl, (refl, cc))
 
 over-by : (core : CoreView) (w : Verdict) (v : Option Verdict) (queue : List Process) → core.verdict ≡ v
-    → core.queue ≡ queue → (core.verdict ≡ None → IsTrue (sched.holds 1 core.queue))
-    → head_by v core.left queue ≡ Over w → IsOver core w
+    → core.queue ≡ queue → (core.verdict ≡ None → IsTrue (sched.is_queued 1 core.queue))
+    → head_unless_over v core.left queue ≡ Over w → IsOver core w
 over-by core w (Some v) queue running is first over = inl (let same : v ≡ w = cc in running ∙ ap Some same)
 over-by core w None [] running is first over = absurd
-    (let held = first running in let bad = subst (λ l. IsTrue (sched.holds 1 l)) is held in cc)
+    (let held = first running in let bad = subst (λ l. IsTrue (sched.is_queued 1 l)) is held in cc)
 over-by core w None (x ∷ rest) running is first over =
     let tests = over-tests x w (is_owing x.phase) (nat_le (sched.cost_of x.phase) core.left) over in
     inr (running, (tests.1.1, record { first = x; rest = rest; queue = is; arrived = tests.0; spent = tests.1.0 }))
@@ -114,10 +114,10 @@ left-pids true ns ps is = refl
 left-pids false ns ps is = is
 
 order-settled : (q : Process) (rest : List Process) (t : Settled)
-    → order_after (q.vpid ∷ pids rest) q.vpid (pids rest) t ≡ pids (sched.queue_after q rest t)
-order-settled q rest Again = sym (pids-append rest (owes q.vpid))
-order-settled q rest (Child vpid) = sym (pids-two rest (owes q.vpid) (owes vpid))
-order-settled q rest (LastChild vpid) = left-pids (q.vpid == 1) _ (rest ++ owes vpid ∷ []) (sym (pids-append rest (owes vpid)))
+    → order_after_turn (q.vpid ∷ pids rest) q.vpid (pids rest) t ≡ pids (sched.queue_after_turn_of q rest t)
+order-settled q rest Again = sym (pids-append rest (owing_process q.vpid))
+order-settled q rest (Child vpid) = sym (pids-two rest (owing_process q.vpid) (owing_process vpid))
+order-settled q rest (LastChild vpid) = left-pids (q.vpid == 1) _ (rest ++ owing_process vpid ∷ []) (sym (pids-append rest (owing_process vpid)))
 order-settled q rest Blocked = sym (pids-append rest _)
 order-settled q rest Moved = sym (pids-append rest _)
 order-settled q rest Gone = left-pids (q.vpid == 1) _ rest refl
@@ -126,11 +126,11 @@ order-settled q rest (Stopped number) = refl
 -- the queue after a turn of its head
 pub queue-settled : (core : CoreView) (q : Process) (rest : List Process) (t : Settled) (cost : ℕ)
     → core.queue ≡ q ∷ rest → sched.cost_of q.phase ≡ cost
-    → run_queue_after (record (queue_of core) { left = core.left - cost }) q.vpid t ≡ queue_of (settled core t)
-unfolding run_queue_after
+    → run_queue_after_turn (record (queue_of core) { left = core.left - cost }) q.vpid t ≡ queue_of (core_after_turn core t)
+unfolding run_queue_after_turn
 queue-settled core q rest t cost is costs =
     ap (λ l. record {
-      order = order_after (pids l) q.vpid (drop 1 (pids l)) t;
+      order = order_after_turn (pids l) q.vpid (drop 1 (pids l)) t;
       blocked
           = sched.blocked_after core.blocked t;
       left = core.left - cost;
@@ -138,28 +138,28 @@ queue-settled core q rest t cost is costs =
     ∙ ap (λ order. record { order = order; blocked = sched.blocked_after core.blocked t; left = core.left - cost })
     (order-settled q rest t)
     ∙ ap (λ n. record {
-      order = pids (sched.queue_after q rest t);
+      order = pids (sched.queue_after_turn_of q rest t);
       blocked = sched.blocked_after core.blocked t;
       left
           = core.left - n;
     }) (sym costs)
-    ∙ ap (λ l. queue_of (settled_at core l t)) (sym is)
+    ∙ ap (λ l. queue_of (core_after_turn_of core l t)) (sym is)
 
 -- its verdict
 pub verdict-settled : (core : CoreView) (q : Process) (rest : List Process) (t : Settled) (to : Queue)
-    → core.queue ≡ q ∷ rest → to ≡ queue_of (settled core t)
-    → let new = settled core t in verdict_by to q.vpid t ≡ new.verdict
-unfolding verdict_by
+    → core.queue ≡ q ∷ rest → to ≡ queue_of (core_after_turn core t)
+    → let new = core_after_turn core t in queue_verdict to q.vpid t ≡ new.verdict
+unfolding queue_verdict
 verdict-settled core q rest t to is same =
     ap (λ (to : Queue). verdict_after q.vpid to.blocked (length to.order) t) same
-    ∙ ap (λ l. let new = settled_at core l t in verdict_after q.vpid new.blocked (length (pids new.queue)) t) is
+    ∙ ap (λ l. let new = core_after_turn_of core l t in verdict_after q.vpid new.blocked (length (pids new.queue)) t) is
     ∙ ap (λ n. verdict_after q.vpid (sched.blocked_after core.blocked t) n t)
-    (length-map (sched.queue_after q rest t) (λ (p : Process). p.vpid))
-    ∙ ap (λ l. let new = settled_at core l t in new.verdict) (sym is)
+    (length-map (sched.queue_after_turn_of q rest t) (λ (p : Process). p.vpid))
+    ∙ ap (λ l. let new = core_after_turn_of core l t in new.verdict) (sym is)
 
 -- what a turn costs is known to the queue
-pub cost-known : (phase : Phase) → is_owing (known phase) ≡ false → IsTrue (is_counted (known phase))
-    → sched.cost_of (known phase) ≡ turn_cost phase
+pub cost-known : (phase : Phase) → is_owing (queue_phase phase) ≡ false → IsTrue (has_segment_count (queue_phase phase))
+    → sched.cost_of (queue_phase phase) ≡ turn_cost phase
 cost-known Owes arrived counted = cc
 cost-known (Ran seg) arrived counted = grind (arith, nat_tests)
 cost-known Waits arrived counted = refl
@@ -169,7 +169,7 @@ same-pid : (b : Bool) (p q : Process) → q.vpid ≡ p.vpid → (let x : Process
 same-pid true p q is = is
 same-pid false p q is = refl
 
-pub pids-arrived : (vpid cost : ℕ) (ps : List Process) → pids (map (arrived_at vpid cost) ps) ≡ pids ps
+pub pids-arrived : (vpid cost : ℕ) (ps : List Process) → pids (map (process_after_arrival vpid cost) ps) ≡ pids ps
 pids-arrived vpid cost [] = refl
 pids-arrived vpid cost (p ∷ ps) = λ i. same-pid (p.vpid == vpid) p
     (record p { phase = as_queued.Arrived cost }) refl i ∷ pids-arrived vpid cost ps i

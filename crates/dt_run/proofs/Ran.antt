@@ -5,7 +5,7 @@ use Rattle.std.proofs.Common.{arith}
 use Rattle.std.specs.Prelude.{IsTrue}
 use Rattle.dt_base.specs.declared.event.End.{End}
 use Rattle.dt_base.specs.declared.event.End.TheVariants.{Code, Signal}
-use Rattle.dt_host.specs.Store.{Files}
+use Rattle.dt_host.specs.Store.{StoreFiles}
 use Rattle.dt_host.specs.World.{World}
 use Rattle.dt_procs.specs.declared.member.TheConstants.{FIRST_PID}
 use Rattle.dt_procs.specs.Members.{end_of}
@@ -27,7 +27,7 @@ pub completes-status : (run : Run) (status : ℕ) (old new : Option (List ℕ)) 
 completes-status run status old new w c = subst (λ s. IsTrue (is_run_status s)) (sym c.status) (status_by-end (end_of run.last.members FIRST_PID))
 
 -- and so is that of a run on some image
-pub status-of : (told : Option Files) (words : List (List ℕ)) (status : ℕ) (old new : Option (List ℕ)) (w : World) → SomeRun told words (λ run. Completes run status old new w) → IsTrue (is_run_status status)
+pub status-of : (told : Option StoreFiles) (words : List (List ℕ)) (status : ℕ) (old new : Option (List ℕ)) (w : World) → SomeRun told words (λ run. Completes run status old new w) → IsTrue (is_run_status status)
 status-of told words status old new w run = completes-status _ status old new w run.holds
 
 pub ends_with : (status : ℕ) → IsTrue (is_run_status status) → IsTrue (is_status status)

@@ -6,7 +6,7 @@ use Rattle.dt_base.specs.declared.refusal.Refusal.{Refusal}
 use Rattle.dt_base.specs.declared.refusal.ImageErr.{ImageErr}
 use Rattle.dt_base.specs.declared.refusal.ImageErr.TheVariants.{Refused as ImageRefused, Store as StoreFailed, NoMemory as NoImageMemory}
 use Rattle.dt_base.specs.Image.{IsImage}
-use Rattle.dt_host.specs.Store.{Files}
+use Rattle.dt_host.specs.Store.{StoreFiles}
 use Rattle.dt_options.specs.Options.{Request, request_of}
 use Rattle.dt_options.specs.declared.options.UsageErr.{UsageErr}
 use Rattle.dt_options.specs.declared.options.UsageErr.TheVariants.{Refused as WordsRefused, NoMemory as NoWordsMemory}
@@ -16,18 +16,18 @@ use Rattle.dt_run.specs.declared.error.RunErr.TheVariants.{Host as HostFailed, S
 use Rattle.dt_run.specs.declared.failure.Failure.{Failure}
 use Rattle.dt_run.specs.declared.failure.Failure.TheVariants.{Usage, Image}
 use Rattle.dt_run.specs.Run.{Run}
-use Rattle.dt_run.specs.Wanted.{run_on, run_or_refusal, wanted, wanted_by}
+use Rattle.dt_run.specs.Wanted.{run_on, run_or_refusal, wanted, request_run}
 use Rattle.dt_run.specs.SomeRun.{SomeRun, AddsReportPart}
-use Rattle.dt_run.specs.inner.Fails.{Fails}
-use Rattle.dt_run.specs.inner.Failures.{of_usage, of_image, of_run}
+use Rattle.dt_run.specs.inner.Fails.{HasFailureCause}
+use Rattle.dt_run.specs.inner.Failures.{failure_of_usage, failure_of_image, failure_of_run}
 
 -- what a request wants, for words that make it
-wanted-request : (told : Option Files) (words : List (List ℕ)) (request : Option Request) → request_of words ≡ request → wanted told words ≡ wanted_by request told
+wanted-request : (told : Option StoreFiles) (words : List (List ℕ)) (request : Option Request) → request_of words ≡ request → wanted told words ≡ request_run request told
 unfolding wanted
-wanted-request told words request is = ap (λ found. wanted_by found told) is
+wanted-request told words request is = ap (λ found. request_run found told) is
 
 -- words that make a request are not refused
-pub not_refused : (told : Option Files) (words : List (List ℕ)) → IsSome (request_of words) → wanted told words ≡ Some (Err Usage) → ⊥
+pub not_refused : (told : Option StoreFiles) (words : List (List ℕ)) → IsSome (request_of words) → wanted told words ≡ Some (Err Usage) → ⊥
 unfolding wanted
 not_refused told words some is = by_request (request_of words) told some is
   where
@@ -35,22 +35,22 @@ not_refused told words some is = by_request (request_of words) told some is
     by_found request (Ok image) is = cc
     by_found request (Err refusal) is = cc
 
-    by_request : (request : Option Request) (told : Option Files) → IsSome request → wanted_by request told ≡ Some (Err Usage) → ⊥
+    by_request : (request : Option Request) (told : Option StoreFiles) → IsSome request → request_run request told ≡ Some (Err Usage) → ⊥
     by_request None told some is = cc
     by_request (Some request) None some is = cc
     by_request (Some request) (Some files) some is = by_found request (image_of files request.image) (cc)
 
 -- the run on the image that was read is wanted
-read_run : (told : Option Files) (request : Request) (image : List Entry) → IfSome told (λ files. image_of files request.image ≡ Ok image) → IfSome (wanted_by (Some request) told) (λ found. found ≡ Ok (run_on request image))
+read_run : (told : Option StoreFiles) (request : Request) (image : List Entry) → IfSome told (λ files. image_of files request.image ≡ Ok image) → IfSome (request_run (Some request) told) (λ found. found ≡ Ok (run_on request image))
 read_run None request image read = tt
 read_run (Some files) request image read = rw read
 
 -- the refusal of the image is wanted
-read_refusal : (told : Option Files) (request : Request) (refusal : Refusal) → IfSome told (λ files. image_of files request.image ≡ Err refusal) → IfSome (wanted_by (Some request) told) (λ found. found ≡ Err (Image refusal))
+read_refusal : (told : Option StoreFiles) (request : Request) (refusal : Refusal) → IfSome told (λ files. image_of files request.image ≡ Err refusal) → IfSome (request_run (Some request) told) (λ found. found ≡ Err (Image refusal))
 read_refusal None request refusal read = tt
 read_refusal (Some files) request refusal read = rw read
 
-pub some_run : (told : Option Files) (words : List (List ℕ)) (request : Request) (folder : List ℕ) (image : List Entry) (P : Run → Type 0) → request_of words ≡ Some request → folder ≡ request.image → IsImage image → IfSome told (λ files. image_of files folder ≡ Ok image) → P (run_on request image) → SomeRun told words P
+pub some_run : (told : Option StoreFiles) (words : List (List ℕ)) (request : Request) (folder : List ℕ) (image : List Entry) (P : Run → Type 0) → request_of words ≡ Some request → folder ≡ request.image → IsImage image → IfSome told (λ files. image_of files folder ≡ Ok image) → P (run_on request image) → SomeRun told words P
 some_run told words request folder image P is at good read holds = record {
   request = request;
   parsed = is;
@@ -66,12 +66,12 @@ on_err (Ok x) P f is h = tt
 on_err (Err found) P f is h = subst P (sym is) h
 
 -- where the words are refused, or memory was wanting for them
-pub fails_words : (e : UsageErr) (told : Option Files) (words : List (List ℕ)) (out : Option (List ℕ)) → (e ≡ WordsRefused → request_of words ≡ None) → Fails (of_usage e) told words out out
+pub fails_words : (e : UsageErr) (told : Option StoreFiles) (words : List (List ℕ)) (out : Option (List ℕ)) → (e ≡ WordsRefused → request_of words ≡ None) → HasFailureCause (failure_of_usage e) told words out out
 fails_words WordsRefused told words out refused = (wanted-request told words None (refused refl), refl)
 fails_words NoWordsMemory told words out refused = inr refl
 
 -- where the image was not read
-pub fails_image : (e : ImageErr) (told : Option Files) (words : List (List ℕ)) (request : Request) (folder : List ℕ) (out : Option (List ℕ)) → request_of words ≡ Some request → folder ≡ request.image → ((refusal : Refusal) → e ≡ ImageRefused refusal → IfSome told (λ files. image_of files folder ≡ Err refusal)) → Fails (of_image e) told words out out
+pub fails_image : (e : ImageErr) (told : Option StoreFiles) (words : List (List ℕ)) (request : Request) (folder : List ℕ) (out : Option (List ℕ)) → request_of words ≡ Some request → folder ≡ request.image → ((refusal : Refusal) → e ≡ ImageRefused refusal → IfSome told (λ files. image_of files folder ≡ Err refusal)) → HasFailureCause (failure_of_image e) told words out out
 fails_image (ImageRefused refusal) told words request folder out is at refused =
     let read = subst (λ name. IfSome told (λ files. image_of files name ≡ Err refusal)) at (refused refusal refl) in
     (subst (λ found. IfSome found (λ run. run ≡ Err (Image refusal))) (sym (wanted-request told words (Some request) is)) (read_refusal told request refusal read), refl)
@@ -79,7 +79,7 @@ fails_image StoreFailed told words request folder out is at refused = (subst (λ
 fails_image NoImageMemory told words request folder out is at refused = inr refl
 
 -- where the run on the image was not completed
-pub fails_run_of : (e : RunErr) (told : Option Files) (words : List (List ℕ)) (old new : Option (List ℕ)) → AddsReportPart told words old new → Fails (of_run e) told words old new
+pub fails_run_of : (e : RunErr) (told : Option StoreFiles) (words : List (List ℕ)) (old new : Option (List ℕ)) → AddsReportPart told words old new → HasFailureCause (failure_of_run e) told words old new
 fails_run_of HostFailed told words old new part = part
 fails_run_of SinkFailed told words old new part = part
 fails_run_of NoRunMemory told words old new part = inl part

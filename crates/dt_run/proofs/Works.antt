@@ -5,9 +5,9 @@ use Rattle.std.specs.declared.cmp.Ordering.TheVariants.{Less, Equal, Greater}
 use Rattle.std.specs.Ordering.{is_eq, nat_cmp}
 use Rattle.std.specs.Cmp.{nat_cmp_total}
 use Rattle.std.specs.FinMap.{find, empty, get, insert, remove, entries, get-empty, get-entries, get-from_entries, same_map, nat_cmp-IsAntisymmetric}
-use Rattle.dt_host.specs.Values.{map_values}
-use Rattle.dt_host.proofs.Maps.{at_insert, at_remove, get-insert_same, get-insert_other, get-remove_same, get-remove_other}
-use Rattle.dt_host.proofs.Valued.{get-map_values}
+use Rattle.dt_tables.specs.Values.{map_values}
+use Rattle.dt_tables.proofs.Maps.{at_insert, at_remove, get-insert_same, get-insert_other, get-remove_same, get-remove_other}
+use Rattle.dt_tables.proofs.Valued.{get-map_values}
 use Rattle.dt_rv64.specs.declared.machine.Machine.{Machine}
 use Rattle.dt_calls.specs.Container.{Machines}
 use Rattle.dt_run.specs.Work.{owing_work}

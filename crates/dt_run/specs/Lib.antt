@@ -8,4 +8,5 @@ pub mod Ahead
 pub mod Wanted
 pub mod SomeRun
 pub mod Statuses
+pub mod Agree
 pub mod inner

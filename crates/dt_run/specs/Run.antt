@@ -7,7 +7,7 @@ use Rattle.dt_base.specs.declared.event.Event.{Event}
 use Rattle.dt_base.specs.declared.event.Verdict.{Verdict}
 use Rattle.dt_base.specs.declared.event.Verdict.TheVariants as verdict
 use Rattle.dt_base.specs.Command.{Words}
-use Rattle.dt_host.specs.Values.{map_values}
+use Rattle.dt_tables.specs.Values.{map_values}
 use Rattle.dt_procs.specs.declared.member.TheConstants.{FIRST_PID}
 use Rattle.dt_procs.specs.Members.{end_of}
 use Rattle.dt_tree.specs.ImageTree.{image_tree}
@@ -27,13 +27,13 @@ pub record Run : Type 0 where
   pub last : Shared
 
 -- the same with earlier events before it
-abbrev pub after : List Event → Run → Run
-after events r = record { events = events ++ r.events; verdict = r.verdict; last = r.last }
+abbrev pub after_events : List Event → Run → Run
+after_events events r = record { events = events ++ r.events; verdict = r.verdict; last = r.last }
 
 -- after a turn the run is over, or it goes on from the next state
 abbrev pub run_after_turn : Turn → Option Verdict → (State → Run) → Run
 run_after_turn t (Some verdict) rest = record { events = t.events; verdict = verdict; last = t.next.shared }
-run_after_turn t None rest = after t.events (rest t.next)
+run_after_turn t None rest = after_events t.events (rest t.next)
 
 -- at most so many turns; after them the budget is spent
 unfoldable pub run_at_most : ℕ → State → Run
@@ -41,8 +41,8 @@ run_at_most zero s = record { events = []; verdict = verdict.Budget; last = s.sh
 run_at_most (suc most) s = let t = turn s in run_after_turn t t.verdict (run_at_most most)
 
 -- turns until a verdict: each costs at least 1, and one more than the budget finds it spent
-unfoldable pub run_turns : State → Run
-run_turns s = run_at_most (s.queue.left + 1) s
+unfoldable pub run_of_turns : State → Run
+run_of_turns s = run_at_most (s.queue.left + 1) s
 
 -- a run that begins: each process whose machine is at home owes a segment, and the first has the first turn
 abbrev pub first_state : Container → ℕ → State
@@ -55,7 +55,7 @@ first_state c budget = record {
 
 -- a program that was started runs until a verdict, and else the run is over at once
 abbrev pub run_from : ℕ → Container → Launch → Run
-run_from budget c Started = run_turns (first_state c budget)
+run_from budget c Started = run_of_turns (first_state c budget)
 run_from budget c (NoStart errno) = record { events = []; verdict = verdict.NoStart errno; last = c.shared }
 
 -- the run of a command in a container
@@ -67,14 +67,14 @@ unfoldable pub run_of : List Entry → Words → ℕ → ℕ → Run
 run_of entries words seed budget = run_in budget (first_container (image_tree entries) seed) words
 
 -- the status of a run whose first process ended so
-abbrev pub ended_status : End → ℕ
-ended_status (Code code) = if code == 0 then ENDED_ZERO else ENDED_OTHERWISE
-ended_status (Signal signal) = ENDED_OTHERWISE
+abbrev pub end_status : End → ℕ
+end_status (Code code) = if code == 0 then ENDED_ZERO else ENDED_OTHERWISE
+end_status (Signal signal) = ENDED_OTHERWISE
 
 -- the status of a run by its first process's end
 abbrev pub status_by : Option End → ℕ
 status_by None = NOT_ENDED
-status_by (Some end) = ended_status end
+status_by (Some end) = end_status end
 
 -- with which status the program ends after a run: its first process, whose pid is 1, decides
 abbrev pub status_of_run : Run → ℕ

@@ -1,7 +1,7 @@
 -- What each status of the program says of what was written, and why it comes.
 use Rattle.std.specs.Prelude.{◌≡◌, ◌⊎◌, ◌||◌, ◌==◌, ℕ, Bool, List, [], Option, Result, Err, IfSome, nat_le, if◌then◌else◌}
 use Rattle.dt_base.specs.declared.refusal.Refusal.{Refusal}
-use Rattle.dt_host.specs.Cause.{Rose}
+use Rattle.dt_host.specs.Cause.{HasRisen}
 use Rattle.dt_host.specs.Sink.{added, AddsPart}
 use Rattle.dt_host.specs.World.{World}
 use Rattle.dt_run.specs.declared.failure.Failure.{Failure}
@@ -29,7 +29,7 @@ fails_run status = (status == HOST_FAULT) || (status == OUTPUT_FAULT)
 
 -- no call failed, as far as the count shows: it did not rise, and doesn't stand at its last value
 abbrev pub Stayed : ℕ → ℕ → Type 0
-Stayed before now = ¬ Rose before now
+Stayed before now = ¬ HasRisen before now
 
 -- the run was completed: its status is the answer, its report was added, and the host holds its last tree
 pub record Completes (run : Run) (answer : ℕ) (old new : Option (List ℕ)) (w : World) : Type 0 where
@@ -54,7 +54,7 @@ status_line status =
 -- a line was added whole, or a prefix of it and then the stream failed
 pub record AddsLine (line : List ℕ) (old new : Option (List ℕ)) (before now : ℕ) : Type 0 where
   pub part : AddsPart old new line
-  pub whole : (new ≡ added old line) ⊎ Rose before now
+  pub whole : (new ≡ added old line) ⊎ HasRisen before now
 
 -- a prefix of some failure's line was added
 pub record AddsSomeLine (old new : Option (List ℕ)) : Type 0 where

@@ -8,11 +8,11 @@ use Rattle.dt_rv64.specs.declared.machine.Machine.{Machine}
 use Rattle.dt_calls.specs.declared.container.Served.{Served}
 use Rattle.dt_calls.specs.declared.container.Served.TheVariants.{Done, Child, LastChild, Blocked, Progress, Ended, Unsupported}
 use Rattle.dt_calls.specs.Container.{Shared}
-use Rattle.dt_calls.specs.Settle.{Settled, serve_machine, next_after, with_own}
+use Rattle.dt_calls.specs.Settle.{ProcessTurn, turn_of_machine, next_after, with_own}
 use Rattle.dt_run.specs.declared.phase.Phase.{Phase}
 use Rattle.dt_run.specs.declared.phase.Phase.TheVariants.{Owes, Waits}
 use Rattle.dt_run.specs.Work.{Work, Works, owing_work, with_segment, turn_cost, stop_of}
-use Rattle.dt_run.specs.Queue.{Queue, told, run_queue_after, verdict_by}
+use Rattle.dt_run.specs.Queue.{Queue, settled_of, run_queue_after_turn, queue_verdict}
 
 -- a run between two turns: what processes share, each one's work, the queue, and the pid that the next child gets
 pub record State : Type 0 where
@@ -48,45 +48,45 @@ phase_after phase Ended = phase
 phase_after phase (Unsupported number) = phase
 
 -- its work then, or none where it has ended
-abbrev pub own_after : Phase → Served → Option Machine → Option Work
-own_after phase served machine = option_map (λ m. record { machine = m; phase = phase_after phase served }) machine
+abbrev pub own_work_after : Phase → Served → Option Machine → Option Work
+own_work_after phase served machine = option_map (λ m. record { machine = m; phase = phase_after phase served }) machine
 
 -- what becomes of the process and of the queue
-unfoldable pub settled_act : Queue → ℕ → Phase → Settled → Act
-settled_act q p phase r =
-    let t = told r.served in
-    let to = run_queue_after q p t in
+unfoldable pub act_of_turn : Queue → ℕ → Phase → ProcessTurn → Act
+act_of_turn q p phase r =
+    let t = settled_of r.served in
+    let to = run_queue_after_turn q p t in
     record {
       shared = r.shared;
       queue = to;
-      own = own_after phase r.served r.own;
+      own = own_work_after phase r.served r.own;
       child = r.child;
       events = r.events;
-      verdict = verdict_by to p t;
+      verdict = queue_verdict to p t;
     }
 
 -- a turn that was paid for: the stop is served, or a waiting call again
-unfoldable pub paid : Shared → Queue → ℕ → ℕ → Work → Act
-paid c q next p w = settled_act q p w.phase (serve_machine c next p (stop_of w.phase) w.machine)
+unfoldable pub paid_act : Shared → Queue → ℕ → ℕ → Work → Act
+paid_act c q next p w = act_of_turn q p w.phase (turn_of_machine c next p (stop_of w.phase) w.machine)
 
 -- the budget doesn't pay for the turn, and nothing of it happens
-abbrev pub unpaid : Shared → Queue → Work → Act
-unpaid c q w = record { shared = c; queue = q; own = Some w; child = None; events = []; verdict = Some verdict.Budget }
+abbrev pub unpaid_act : Shared → Queue → Work → Act
+unpaid_act c q w = record { shared = c; queue = q; own = Some w; child = None; events = []; verdict = Some verdict.Budget }
 
 -- what a process does in its turn once its segment was run
 unfoldable pub act : Shared → Queue → ℕ → ℕ → Work → Act
 act c q next p w =
-    if nat_le (turn_cost w.phase) q.left then paid c (record q { left = q.left - turn_cost w.phase }) next p w
-    else unpaid c q w
+    if nat_le (turn_cost w.phase) q.left then paid_act c (record q { left = q.left - turn_cost w.phase }) next p w
+    else unpaid_act c q w
 
 -- whether all processes have ended
-abbrev pub verdict_is_ended : Option Verdict → Bool
-verdict_is_ended None = false
-verdict_is_ended (Some verdict.Ended) = true
-verdict_is_ended (Some verdict.Deadlock) = false
-verdict_is_ended (Some verdict.Budget) = false
-verdict_is_ended (Some (verdict.Unsupported vpid number)) = false
-verdict_is_ended (Some (verdict.NoStart errno)) = false
+abbrev pub is_ended_verdict : Option Verdict → Bool
+is_ended_verdict None = false
+is_ended_verdict (Some verdict.Ended) = true
+is_ended_verdict (Some verdict.Deadlock) = false
+is_ended_verdict (Some verdict.Budget) = false
+is_ended_verdict (Some (verdict.Unsupported vpid number)) = false
+is_ended_verdict (Some (verdict.NoStart errno)) = false
 
 -- with a child, which owes a segment
 abbrev pub with_child_work : Works → ℕ → Option Machine → Works
@@ -94,15 +94,15 @@ with_child_work works next None = works
 with_child_work works next (Some m) = insert works next (owing_work m)
 
 -- the works after a turn: the process's own, that of a child, and the others' as they were; at the end of all none
-unfoldable pub works_after : Works → ℕ → ℕ → Act → Works
-works_after works p next a = if verdict_is_ended a.verdict then empty else with_child_work (with_own works p a.own) next a.child
+unfoldable pub works_after_act : Works → ℕ → ℕ → Act → Works
+works_after_act works p next a = if is_ended_verdict a.verdict then empty else with_child_work (with_own works p a.own) next a.child
 
 -- the state after what a process did
-abbrev pub acted : State → ℕ → Act → Turn
-acted s p a = record {
+abbrev pub turn_of_act : State → ℕ → Act → Turn
+turn_of_act s p a = record {
   next = record {
     shared = a.shared;
-    works = works_after s.works p s.next a;
+    works = works_after_act s.works p s.next a;
     queue = a.queue;
     next = next_after s.next a.child;
   };
@@ -111,19 +111,19 @@ acted s p a = record {
 }
 
 -- nobody stands in the queue, or the first of it has no work at home; no run comes here
-abbrev pub stuck : State → Turn
-stuck s = record { next = s; events = []; verdict = Some verdict.Deadlock }
+abbrev pub stuck_turn : State → Turn
+stuck_turn s = record { next = s; events = []; verdict = Some verdict.Deadlock }
 
 -- the turn of a process whose work is at home: the segment that it owes is run, its cost is paid, and its stop is
 -- served
-abbrev pub turn_taken : State → ℕ → Option Work → Turn
-turn_taken s p None = stuck s
-turn_taken s p (Some w) = acted s p (act s.shared s.queue s.next p (with_segment w))
+abbrev pub turn_of_work : State → ℕ → Option Work → Turn
+turn_of_work s p None = stuck_turn s
+turn_of_work s p (Some w) = turn_of_act s p (act s.shared s.queue s.next p (with_segment w))
 
 -- the turn of the process that stands first, if one does
-abbrev pub headed : State → Option ℕ → Turn
-headed s None = stuck s
-headed s (Some p) = turn_taken s p (get s.works p)
+abbrev pub turn_of_head : State → Option ℕ → Turn
+turn_of_head s None = stuck_turn s
+turn_of_head s (Some p) = turn_of_work s p (get s.works p)
 
 -- the pid at the head of an order, if it has one
 abbrev pub head_pid : List ℕ → Option ℕ
@@ -132,4 +132,4 @@ head_pid (p ∷ rest) = Some p
 
 -- a turn: that of the head of the queue
 unfoldable pub turn : State → Turn
-turn s = headed s (head_pid s.queue.order)
+turn s = turn_of_head s (head_pid s.queue.order)

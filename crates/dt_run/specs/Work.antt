@@ -23,18 +23,18 @@ abbrev pub owing_work : Machine → Work
 owing_work m = record { machine = m; phase = Owes }
 
 -- a process whose machine has just run a segment
-abbrev pub ran_work : SegmentRun → Work
-ran_work r = record { machine = r.machine; phase = Ran (record { count = r.count; stop = r.stop }) }
+abbrev pub work_after_segment : SegmentRun → Work
+work_after_segment r = record { machine = r.machine; phase = Ran (record { count = r.count; stop = r.stop }) }
 
 -- a process in a phase, with its segment run where it owes one
-abbrev pub ran_in : Work → Phase → Work
-ran_in w Owes = ran_work (segment_of w.machine)
-ran_in w (Ran seg) = w
-ran_in w Waits = w
+abbrev pub with_segment_in : Work → Phase → Work
+with_segment_in w Owes = work_after_segment (segment_of w.machine)
+with_segment_in w (Ran seg) = w
+with_segment_in w Waits = w
 
 -- a process with its segment run, where it owes one
 unfoldable pub with_segment : Work → Work
-with_segment w = ran_in w w.phase
+with_segment w = with_segment_in w w.phase
 
 -- what a turn costs once the segment was run: the steps of the segment, and 1 where a call is tried again. Nothing owes
 -- then, and a segment has a step at least, so that neither the 1 of `Owes` nor `max` is seen in a run: they make a cost of

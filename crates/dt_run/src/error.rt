@@ -1,6 +1,6 @@
 // Why a run was not completed.
 ghost use Rattle.std.specs.Prelude.{◌≡◌};
-ghost use Rattle.dt_run.specs.inner.Errors.{of_host, of_sink};
+ghost use Rattle.dt_run.specs.inner.Errors.{run_err_of_host, run_err_of_sink};
 
 use dt_host::{HostErr, SinkErr};
 use thiserror::Error;
@@ -17,7 +17,7 @@ pub enum RunErr {
 }
 
 impl From<HostErr> for RunErr {
-    ghost from_gives = { λ e r. r ≡ of_host e };
+    ghost from_gives = { λ e r. r ≡ run_err_of_host e };
 
     fn from(e: HostErr) -> Self {
         match e {
@@ -28,7 +28,7 @@ impl From<HostErr> for RunErr {
 }
 
 impl From<SinkErr> for RunErr {
-    ghost from_gives = { λ e r. r ≡ of_sink e };
+    ghost from_gives = { λ e r. r ≡ run_err_of_sink e };
 
     fn from(e: SinkErr) -> Self {
         match e {

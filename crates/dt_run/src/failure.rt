@@ -75,9 +75,9 @@ fn image_line(refusal: Refusal) -> &'static str
 }
 
 impl From<UsageErr> for Failure {
-    ghost use Rattle.dt_run.specs.inner.Failures.{of_usage};
+    ghost use Rattle.dt_run.specs.inner.Failures.{failure_of_usage};
 
-    ghost from_gives = { λ e f. f ≡ of_usage e };
+    ghost from_gives = { λ e f. f ≡ failure_of_usage e };
 
     fn from(e: UsageErr) -> Self {
         match e {
@@ -88,9 +88,9 @@ impl From<UsageErr> for Failure {
 }
 
 impl From<ImageErr> for Failure {
-    ghost use Rattle.dt_run.specs.inner.Failures.{of_image};
+    ghost use Rattle.dt_run.specs.inner.Failures.{failure_of_image};
 
-    ghost from_gives = { λ e f. f ≡ of_image e };
+    ghost from_gives = { λ e f. f ≡ failure_of_image e };
 
     fn from(e: ImageErr) -> Self {
         match e {
@@ -102,9 +102,9 @@ impl From<ImageErr> for Failure {
 }
 
 impl From<RunErr> for Failure {
-    ghost use Rattle.dt_run.specs.inner.Failures.{of_run};
+    ghost use Rattle.dt_run.specs.inner.Failures.{failure_of_run};
 
-    ghost from_gives = { λ e f. f ≡ of_run e };
+    ghost from_gives = { λ e f. f ≡ failure_of_run e };
 
     fn from(e: RunErr) -> Self {
         match e {

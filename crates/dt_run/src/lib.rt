@@ -13,6 +13,7 @@ mod state;
 pub mod status;
 mod top;
 mod turn;
+mod twice;
 
 pub use error::RunErr;
 pub use failure::Failure;
@@ -22,3 +23,4 @@ pub use laws::{
 };
 pub use run::run_container;
 pub use top::{dettrace, write_failure};
+pub use twice::{Outside, run_twice};

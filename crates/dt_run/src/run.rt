@@ -7,7 +7,7 @@ ghost use Rattle.dt_host.specs.Sink.{AddsPart};
 ghost use Rattle.dt_host.specs.World.{IsEmptyStart};
 ghost use Rattle.dt_procs.specs.declared.member.TheConstants.{FIRST_PID};
 ghost use Rattle.dt_tree.specs.Table.{Stands, tree_of};
-ghost use Rattle.dt_calls.specs.InCode.{container_of, home_of};
+ghost use Rattle.dt_calls.specs.InCode.{container_of, machines_at_home};
 ghost use Rattle.dt_calls.specs.Sound.{IsSoundContainer};
 ghost use Rattle.dt_image.specs.Report.{report};
 ghost use Rattle.dt_run.specs.Run.{run_from, run_of, status_by, report_of};
@@ -93,7 +93,7 @@ fn run_from<H: Host>(
     launch: Launch,
 ) -> Result<Run, HostErr>
     requires sound { IsSoundContainer container (H.view host.old) }
-    requires home { launch ≡ Launch.Started → IsSome (get (home_of container.places) FIRST_PID) }
+    requires home { launch ≡ Launch.Started → IsSome (get (machines_at_home container.places) FIRST_PID) }
     ensures ok { IfOk result (λ run. run_from budget (container_of container (H.view host.old)) launch
         ≡ run_as run (H.view host.new)) }
     ensures sound { IfOk result (λ run. IsSoundContainer run.last (H.view host.new)) }

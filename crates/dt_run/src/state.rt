@@ -4,9 +4,9 @@ ghost use Rattle.std.specs.List.{slice_index_or};
 ghost use Rattle.std.specs.FinMap.{empty, get};
 ghost use Rattle.dt_host.specs.Cause.{HasCause};
 ghost use Rattle.dt_host.specs.World.{World};
-ghost use Rattle.dt_sched.specs.Core.{started, owing};
+ghost use Rattle.dt_sched.specs.Core.{first_core, owing_vpids};
 ghost use Rattle.dt_calls.specs.Sound.{IsSoundContainer};
-ghost use Rattle.dt_run.specs.Ahead.{ahead, ran};
+ghost use Rattle.dt_run.specs.Ahead.{with_all_segments, with_segment_of};
 ghost use Rattle.dt_run.specs.inner.InCode.{state_of, phase_in};
 ghost use Rattle.dt_run.specs.inner.Good.{IsGood, steps_left};
 
@@ -14,8 +14,8 @@ use crate::phase::Phase;
 use dt_base::NoMemory;
 use dt_calls::Container;
 use dt_host::{Host, HostErr};
-use dt_numbered::Numbered;
 use dt_sched::Core;
+use dt_tables::Numbered;
 use std::alloc::Global;
 
 /// A run between two turns: the container, the queue, and where each process stands that has run a segment.
@@ -30,7 +30,7 @@ impl State {
     /// A run that begins, with a budget in steps.
     pub fn new(alloc: Global, container: Container, budget: u64) -> Result<Self, NoMemory>
         ensures { IfOk result
-            (λ s. s ≡ record { container = container; core = started budget; phases = empty }) }
+            (λ s. s ≡ record { container = container; core = first_core budget; phases = empty }) }
     {
         Ok(State {
             container,
@@ -52,9 +52,9 @@ impl State {
     /// Lets a segment arrive that is owed, of the process that the host chooses.
     pub fn arrive_next<H: Host>(&mut self, host: &mut H) -> Result<(), HostErr>
         requires good { IsGood self.old }
-        requires some { 0 < length (owing self.old.core.queue) }
-        ensures alike { OnOk result (ahead (state_of self.new (H.view host.new))
-            ≡ ahead (state_of self.old (H.view host.old))) }
+        requires some { 0 < length (owing_vpids self.old.core.queue) }
+        ensures alike { OnOk result (with_all_segments (state_of self.new (H.view host.new))
+            ≡ with_all_segments (state_of self.old (H.view host.old))) }
         ensures good { OnOk result (IsGood self.new) }
         ensures sound { IsSoundContainer self.old.container (H.view host.old)
             → OnOk result (IsSoundContainer self.new.container (H.view host.new)) }
@@ -69,9 +69,9 @@ impl State {
     // Runs a segment that is owed, by its process's index among those that owe one, and lets it arrive.
     fn arrive(&mut self, index: usize) -> Result<(), NoMemory>
         requires good { IsGood self.old }
-        requires owing { index < length (owing self.old.core.queue) }
+        requires owing { index < length (owing_vpids self.old.core.queue) }
         ensures ran { (w : World) → OnOk result (state_of self.new w
-            ≡ ran (slice_index_or (owing self.old.core.queue) index 0) (state_of self.old w)) }
+            ≡ with_segment_of (slice_index_or (owing_vpids self.old.core.queue) index 0) (state_of self.old w)) }
         ensures good { OnOk result (IsGood self.new) }
         ensures sound { (w : World) → IsSoundContainer self.old.container w
             → OnOk result (IsSoundContainer self.new.container w) }

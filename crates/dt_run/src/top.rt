@@ -13,7 +13,7 @@ ghost use Rattle.dt_run.specs.Wanted.{wanted};
 ghost use Rattle.dt_run.specs.SomeRun.{SomeRun, AddsReportPart};
 ghost use Rattle.dt_run.specs.Statuses.{is_status, is_run_status, precedes_run, fails_run, Stayed, Completes};
 ghost use Rattle.dt_run.specs.Statuses.{RefusesImage, status_line, AddsLine, AddsSomeLine, AddsRefusal};
-ghost use Rattle.dt_run.specs.inner.Fails.{Fails};
+ghost use Rattle.dt_run.specs.inner.Fails.{HasFailureCause};
 
 use crate::error::RunErr;
 use crate::failure::Failure;
@@ -115,7 +115,7 @@ fn run_words<S: Store, H: Host + Send, O: Sink + Send, G: Gate + Sync>(
     ensures completed { IfOk result (λ status. SomeRun (S.told store.old) (map string_bytes words.now)
         (λ run. Completes run status (O.told out.old) (O.told out.new) (H.view host.new))) }
     ensures failed { IfErr result
-        (λ f. Fails f (S.told store.old) (map string_bytes words.now) (O.told out.old) (O.told out.new)) }
+        (λ f. HasFailureCause f (S.told store.old) (map string_bytes words.now) (O.told out.old) (O.told out.new)) }
     ensures store { HasCause (S.count store.old) (S.count store.new) (IsErrOf result Failure.Store) }
     ensures host { HasCause (H.count host.old) (H.count host.new) (IsErrOf result Failure.Host) }
     ensures output { HasCause (O.count out.old) (O.count out.new) (IsErrOf result Failure.Output) }

@@ -4,13 +4,13 @@ ghost use Rattle.std.specs.FinMap.{get};
 ghost use Rattle.dt_host.specs.Cause.{HasCause};
 ghost use Rattle.dt_sched.specs.Core.{head, IsCore};
 ghost use Rattle.dt_sched.specs.declared.settled.Head.TheVariants.{Ready};
-ghost use Rattle.dt_calls.specs.InCode.{container_of, home_of, turned_as};
-ghost use Rattle.dt_calls.specs.Settle.{serve};
+ghost use Rattle.dt_calls.specs.InCode.{container_of, machines_at_home, container_turn_as};
+ghost use Rattle.dt_calls.specs.Settle.{turn_of_container};
 ghost use Rattle.dt_calls.specs.Sound.{IsSoundContainer};
-ghost use Rattle.dt_run.specs.Queue.{told};
+ghost use Rattle.dt_run.specs.Queue.{settled_of};
 ghost use Rattle.dt_run.specs.Turn.{turn};
 ghost use Rattle.dt_run.specs.Work.{stop_of};
-ghost use Rattle.dt_run.specs.inner.InCode.{state_of, turn_as, phase_in, noted};
+ghost use Rattle.dt_run.specs.inner.InCode.{state_of, turn_as, phase_in, phases_after};
 ghost use Rattle.dt_run.specs.inner.Good.{IsGood, steps_left};
 
 use crate::phase::Phase;
@@ -18,9 +18,9 @@ use crate::state::State;
 use dt_base::Event;
 use dt_calls::{Container, Served};
 use dt_host::{Host, HostErr};
-use dt_numbered::Numbered;
 use dt_rv64::Stop;
 use dt_sched::Settled;
+use dt_tables::Numbered;
 
 impl State {
     /// Takes the turn of the head of the queue, which is ready, and answers what it shows.
@@ -39,7 +39,7 @@ impl State {
         let phase = self.phase(vpid);
         let served = serve_phase(host, &mut self.container, vpid, phase)?;
         note(&mut self.phases, vpid, served);
-        self.core.settle(told(served));
+        self.core.settle(settled_of(served));
         Ok(self.container.take_events())
     }
 }
@@ -52,9 +52,10 @@ fn serve_phase<H: Host>(
     phase: Phase,
 ) -> Result<Served, HostErr>
     requires sound { IsSoundContainer container.old (H.view host.old) }
-    requires home { IsSome (get (home_of container.old.places) vpid) }
-    ensures ok { IfOk result (λ served. serve (container_of container.old (H.view host.old)) vpid (stop_of phase)
-        ≡ Some (turned_as (container_of container.new (H.view host.new)) served)) }
+    requires home { IsSome (get (machines_at_home container.old.places) vpid) }
+    ensures ok { IfOk result (λ served. turn_of_container (container_of container.old (H.view host.old)) vpid
+        (stop_of phase)
+        ≡ Some (container_turn_as (container_of container.new (H.view host.new)) served)) }
     ensures sound { OnOk result (IsSoundContainer container.new (H.view host.new)) }
     ensures cause { HasCause (H.count host.old) (H.count host.new) (IsErrOf result HostErr.Failed) }
 {
@@ -68,7 +69,7 @@ fn serve_phase<H: Host>(
 // Notes where a process stands after its stop was served.
 fn note(phases: &mut Numbered<Phase>, vpid: u32, served: Served)
     requires { IsSome (get phases.old vpid) }
-    ensures { phases.new ≡ noted phases.old vpid served }
+    ensures { phases.new ≡ phases_after phases.old vpid served }
 {
     match served {
         Served::Done | Served::Child(_) => phases.set(u64::from(vpid), Phase::Owes),
@@ -81,8 +82,8 @@ fn note(phases: &mut Numbered<Phase>, vpid: u32, served: Served)
 }
 
 // What the queue is told of a turn.
-fn told(served: Served) -> Settled
-    ensures { result ≡ told served }
+fn settled_of(served: Served) -> Settled
+    ensures { result ≡ settled_of served }
 {
     match served {
         Served::Done => Settled::Again,

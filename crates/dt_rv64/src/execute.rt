@@ -2,7 +2,7 @@
 ghost use Rattle.std.specs.Prelude.{◌≡◌};
 ghost use Rattle.dt_rv64.specs.inner.Classes.{IsFrom, Branch, Load, Store, Immediate, Register, Word, Multiply};
 ghost use Rattle.dt_rv64.specs.inner.Classes.{MultiplyWord};
-ghost use Rattle.dt_rv64.specs.Machine.{executed};
+ghost use Rattle.dt_rv64.specs.Machine.{instr_result};
 
 use crate::instruction::Instr;
 use crate::machine::{Machine, Step};
@@ -14,12 +14,12 @@ use dt_space::PageHint;
 
 impl Machine {
     /// Carries out an instruction: here jumps and stops, and each class below hands on what is not its own.
-    #[tactic(auto, unfolding(crate::specs::Machine::executed))]
+    #[tactic(auto, unfolding(crate::specs::Machine::instr_result))]
     pub(crate) fn execute(&mut self, instruction: Instr, data: &mut PageHint) -> Step
-        ensures { executed self.old instruction ≡ record { step = result; machine = self.new } }
+        ensures { instr_result self.old instruction ≡ record { step = result; machine = self.new } }
     {
         match instruction {
-            Instr::Jal { rd, imm } => self.jump(rd, self.relative(imm)),
+            Instr::Jal { rd, imm } => self.jump(rd, self.pc_relative(imm)),
             Instr::Jalr { rd, rs1, imm } => self.jump_register(rd, rs1, imm),
             Instr::Fence => self.advance(),
             Instr::Ecall => Step::Call,
@@ -30,10 +30,10 @@ impl Machine {
         }
     }
 
-    #[tactic(auto, unfolding(crate::specs::Machine::executed))]
+    #[tactic(auto, unfolding(crate::specs::Machine::instr_result))]
     fn branch_where(&mut self, instruction: Instr, data: &mut PageHint) -> Step
         requires { IsFrom Branch instruction }
-        ensures { executed self.old instruction ≡ record { step = result; machine = self.new } }
+        ensures { instr_result self.old instruction ≡ record { step = result; machine = self.new } }
     {
         match instruction {
             Instr::Beq { rs1, rs2, imm } => self.branch(self.reg(rs1) == self.reg(rs2), imm),
@@ -52,10 +52,10 @@ impl Machine {
         }
     }
 
-    #[tactic(auto, unfolding(crate::specs::Machine::executed))]
+    #[tactic(auto, unfolding(crate::specs::Machine::instr_result))]
     fn load(&mut self, instruction: Instr, data: &mut PageHint) -> Step
         requires { IsFrom Load instruction }
-        ensures { executed self.old instruction ≡ record { step = result; machine = self.new } }
+        ensures { instr_result self.old instruction ≡ record { step = result; machine = self.new } }
     {
         match instruction {
             Instr::Lb { rd, rs1, imm } => {
@@ -90,10 +90,10 @@ impl Machine {
         }
     }
 
-    #[tactic(auto, unfolding(crate::specs::Machine::executed))]
+    #[tactic(auto, unfolding(crate::specs::Machine::instr_result))]
     fn store(&mut self, instruction: Instr, data: &mut PageHint) -> Step
         requires { IsFrom Store instruction }
-        ensures { executed self.old instruction ≡ record { step = result; machine = self.new } }
+        ensures { instr_result self.old instruction ≡ record { step = result; machine = self.new } }
     {
         match instruction {
             Instr::Sb { rs1, rs2, imm } => self.store_1(
@@ -120,14 +120,14 @@ impl Machine {
         }
     }
 
-    #[tactic(auto, unfolding(crate::specs::Machine::executed))]
+    #[tactic(auto, unfolding(crate::specs::Machine::instr_result))]
     fn compute_immediate(&mut self, instruction: Instr) -> Step
         requires { IsFrom Immediate instruction }
-        ensures { executed self.old instruction ≡ record { step = result; machine = self.new } }
+        ensures { instr_result self.old instruction ≡ record { step = result; machine = self.new } }
     {
         match instruction {
             Instr::Lui { rd, imm } => self.put(rd, word_of(imm)),
-            Instr::Auipc { rd, imm } => self.put(rd, self.relative(imm)),
+            Instr::Auipc { rd, imm } => self.put(rd, self.pc_relative(imm)),
             Instr::Addi { rd, rs1, imm } => self.put(rd, self.reg(rs1).wrapping_add(word_of(imm))),
             Instr::Slti { rd, rs1, imm } => self.put(rd, slt(self.reg(rs1), word_of(imm))),
             Instr::Sltiu { rd, rs1, imm } => self.put(rd, sltu(self.reg(rs1), word_of(imm))),
@@ -141,10 +141,10 @@ impl Machine {
         }
     }
 
-    #[tactic(auto, unfolding(crate::specs::Machine::executed))]
+    #[tactic(auto, unfolding(crate::specs::Machine::instr_result))]
     fn compute(&mut self, instruction: Instr) -> Step
         requires { IsFrom Register instruction }
-        ensures { executed self.old instruction ≡ record { step = result; machine = self.new } }
+        ensures { instr_result self.old instruction ≡ record { step = result; machine = self.new } }
     {
         match instruction {
             Instr::Add { rd, rs1, rs2 } => self.put(rd, self.reg(rs1).wrapping_add(self.reg(rs2))),
@@ -161,10 +161,10 @@ impl Machine {
         }
     }
 
-    #[tactic(auto, unfolding(crate::specs::Machine::executed))]
+    #[tactic(auto, unfolding(crate::specs::Machine::instr_result))]
     fn compute_32(&mut self, instruction: Instr) -> Step
         requires { IsFrom Word instruction }
-        ensures { executed self.old instruction ≡ record { step = result; machine = self.new } }
+        ensures { instr_result self.old instruction ≡ record { step = result; machine = self.new } }
     {
         match instruction {
             Instr::Addiw { rd, rs1, imm } => self.put(rd, addw(self.reg(rs1), word_of(imm))),
@@ -181,10 +181,10 @@ impl Machine {
     }
 
     // Multiplies and divides.
-    #[tactic(auto, unfolding(crate::specs::Machine::executed))]
+    #[tactic(auto, unfolding(crate::specs::Machine::instr_result))]
     fn multiply(&mut self, instruction: Instr) -> Step
         requires { IsFrom Multiply instruction }
-        ensures { executed self.old instruction ≡ record { step = result; machine = self.new } }
+        ensures { instr_result self.old instruction ≡ record { step = result; machine = self.new } }
     {
         match instruction {
             Instr::Mul { rd, rs1, rs2 } => self.put(rd, self.reg(rs1).wrapping_mul(self.reg(rs2))),
@@ -200,10 +200,10 @@ impl Machine {
     }
 
     // Multiplies and divides 32 bits.
-    #[tactic(auto, unfolding(crate::specs::Machine::executed))]
+    #[tactic(auto, unfolding(crate::specs::Machine::instr_result))]
     fn multiply_word(&mut self, instruction: Instr) -> Step
         requires { IsFrom MultiplyWord instruction }
-        ensures { executed self.old instruction ≡ record { step = result; machine = self.new } }
+        ensures { instr_result self.old instruction ≡ record { step = result; machine = self.new } }
     {
         match instruction {
             Instr::Mulw { rd, rs1, rs2 } => self.put(rd, mulw(self.reg(rs1), self.reg(rs2))),

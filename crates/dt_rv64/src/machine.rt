@@ -1,7 +1,8 @@
 // The machine: registers, a program counter and a space, and one step of it.
 ghost use Rattle.std.specs.Prelude.{◌≡◌, ◌≢◌};
-ghost use Rattle.dt_rv64.specs.Effects.{register, with_register, wrote, jumped, branched, passed, relative, even};
-ghost use Rattle.dt_rv64.specs.Effects.{address, answered, counter_read};
+ghost use Rattle.dt_rv64.specs.Effects.{register, with_register, register_result, jump_result, branch_result};
+ghost use Rattle.dt_rv64.specs.Effects.{advance_result, pc_relative, even};
+ghost use Rattle.dt_rv64.specs.Effects.{address, machine_after_answer, machine_after_counter};
 ghost use Rattle.dt_rv64.specs.Machine.{exec};
 ghost use Rattle.dt_rv64.specs.Valid.{IsMachine};
 
@@ -53,7 +54,7 @@ impl Machine {
 
     /// Ends a system call: its answer in a0, and on to the next instruction.
     pub fn answer(&mut self, value: u64)
-        ensures answered { self.new ≡ answered self.old value }
+        ensures answered { self.new ≡ machine_after_answer self.old value }
         ensures sound { IsMachine self.old → IsMachine self.new }
     {
         self.set_reg(A0, value);
@@ -62,7 +63,7 @@ impl Machine {
 
     /// Ends the read of a counter: its value in the register, and on to the next instruction.
     pub fn read_counter(&mut self, rd: u8, value: u64)
-        ensures read { self.new ≡ counter_read self.old rd value }
+        ensures read { self.new ≡ machine_after_counter self.old rd value }
         ensures sound { IsMachine self.old → IsMachine self.new }
     {
         self.set_reg(rd, value);
@@ -96,7 +97,7 @@ impl Machine {
 
     /// Goes on to the next instruction.
     pub(crate) fn advance(&mut self) -> Step
-        ensures { passed self.old ≡ record { step = result; machine = self.new } }
+        ensures { advance_result self.old ≡ record { step = result; machine = self.new } }
     {
         self.pc = self.pc.wrapping_add(4);
         Step::Ran
@@ -104,7 +105,7 @@ impl Machine {
 
     /// Writes a register.
     pub(crate) fn put(&mut self, rd: u8, value: u64) -> Step
-        ensures { wrote self.old rd value ≡ record { step = result; machine = self.new } }
+        ensures { register_result self.old rd value ≡ record { step = result; machine = self.new } }
     {
         self.set_reg(rd, value);
         self.pc = self.pc.wrapping_add(4);
@@ -113,7 +114,7 @@ impl Machine {
 
     /// Jumps, and keeps the address after the jump.
     pub(crate) fn jump(&mut self, rd: u8, target: u64) -> Step
-        ensures { jumped self.old rd target ≡ record { step = result; machine = self.new } }
+        ensures { jump_result self.old rd target ≡ record { step = result; machine = self.new } }
     {
         if target % 4 != 0 {
             return Step::Fault(SIGBUS);
@@ -124,15 +125,16 @@ impl Machine {
     }
 
     /// The address at an offset from this instruction.
-    pub(crate) fn relative(&self, offset: i64) -> u64
-        ensures { result ≡ relative self.now offset }
+    pub(crate) fn pc_relative(&self, offset: i64) -> u64
+        ensures { result ≡ pc_relative self.now offset }
     {
         self.pc.wrapping_add(word_of(offset))
     }
 
     /// Jumps to an offset from what a register held before the jump, with bit 0 cleared.
     pub(crate) fn jump_register(&mut self, rd: u8, rs1: u8, imm: i64) -> Step
-        ensures { jumped self.old rd (even (address self.old rs1 imm)) ≡ record { step = result; machine = self.new } }
+        ensures { jump_result self.old rd (even (address self.old rs1 imm)) ≡
+            record { step = result; machine = self.new } }
     {
         let target = even(self.address(rs1, imm));
         self.jump(rd, target)
@@ -140,11 +142,11 @@ impl Machine {
 
     /// Jumps by an offset where the branch is taken.
     pub(crate) fn branch(&mut self, taken: bool, offset: i64) -> Step
-        ensures { branched self.old taken (relative self.old offset) ≡
+        ensures { branch_result self.old taken (pc_relative self.old offset) ≡
             record { step = result; machine = self.new } }
     {
         if taken {
-            self.jump(0, self.relative(offset))
+            self.jump(0, self.pc_relative(offset))
         } else {
             self.advance()
         }

@@ -6,12 +6,12 @@ use Rattle.dt_sched.specs.declared.process.Process.{Process}
 use Rattle.dt_sched.specs.declared.process.Phase.TheVariants.{Waits as PhaseWaits}
 use Rattle.dt_sched.specs.declared.settled.Settled.{Settled}
 use Rattle.dt_sched.specs.declared.settled.Settled.TheVariants.{Again, Child, LastChild, Waits as Blocked, Moved, Gone, Stopped}
-use Rattle.dt_sched.specs.Core.{CoreView, arrived_at, arrived, cost_of, owes, queue_after, blocked_after, verdict_after, settled_at, settled}
-use Rattle.dt_sched.specs.Laws.{MakesNo}
+use Rattle.dt_sched.specs.Core.{CoreView, process_after_arrival, core_after_arrival, cost_of, owing_process, queue_after_turn_of, blocked_after, verdict_after, core_after_turn_of, core_after_turn}
+use Rattle.dt_sched.specs.Laws.{HasNoChild}
 
 module _ (vpid cost : ℕ) where
   abbrev at : Process → Process
-  at = arrived_at vpid cost
+  at = process_after_arrival vpid cost
 
   at-other : (x : Process) → x.vpid ≢ vpid → at x ≡ x
   at-other x apart = grind (arith, nat_tests)
@@ -28,33 +28,33 @@ module _ (vpid cost : ℕ) where
   ended true xs ys is = refl
   ended false xs ys is = is
 
-  queue-beside : (p : Process) (rest : List Process) (turn : Settled) → p.vpid ≢ vpid → MakesNo vpid turn
-      → map at (queue_after p rest turn) ≡ queue_after p (map at rest) turn
-  queue-beside p rest Again apart none = one-behind rest (owes p.vpid) apart
-  queue-beside p rest (Child child) apart none = two-behind rest (owes p.vpid) (owes child) apart none
-  queue-beside p rest (LastChild child) apart none = ended (p.vpid == 1) _ _ (one-behind rest (owes child) none)
+  queue-beside : (p : Process) (rest : List Process) (turn : Settled) → p.vpid ≢ vpid → HasNoChild vpid turn
+      → map at (queue_after_turn_of p rest turn) ≡ queue_after_turn_of p (map at rest) turn
+  queue-beside p rest Again apart none = one-behind rest (owing_process p.vpid) apart
+  queue-beside p rest (Child child) apart none = two-behind rest (owing_process p.vpid) (owing_process child) apart none
+  queue-beside p rest (LastChild child) apart none = ended (p.vpid == 1) _ _ (one-behind rest (owing_process child) none)
   queue-beside p rest Blocked apart none = one-behind rest (record p { phase = PhaseWaits }) apart
   queue-beside p rest Moved apart none = one-behind rest (record p { phase = PhaseWaits }) apart
   queue-beside p rest Gone apart none = ended (p.vpid == 1) rest (map at rest) refl
   queue-beside p rest (Stopped number) apart none = ap (λ x. x ∷ map at rest) (at-other p apart)
 
-  settled-beside : (core : CoreView) (p : Process) (ps : List Process) (turn : Settled) → p.vpid ≢ vpid → MakesNo vpid turn
-      → arrived vpid cost (settled_at core (p ∷ ps) turn) ≡ settled_at (arrived vpid cost core) (map at (p ∷ ps)) turn
+  settled-beside : (core : CoreView) (p : Process) (ps : List Process) (turn : Settled) → p.vpid ≢ vpid → HasNoChild vpid turn
+      → core_after_arrival vpid cost (core_after_turn_of core (p ∷ ps) turn) ≡ core_after_turn_of (core_after_arrival vpid cost core) (map at (p ∷ ps)) turn
   settled-beside core p ps turn apart none =
       let queue = queue-beside p ps turn apart none in
-      let count = sym (length-map (queue_after p ps turn) at) ∙ ap length queue in
+      let count = sym (length-map (queue_after_turn_of p ps turn) at) ∙ ap length queue in
       (λ i. record {
         queue = queue i;
         blocked = blocked_after core.blocked turn;
         left = core.left - cost_of p.phase;
         verdict = verdict_after p.vpid (blocked_after core.blocked turn) (count i) turn;
       })
-      ∙ ap (λ x. settled_at (arrived vpid cost core) (x ∷ map at ps) turn) (sym (at-other p apart))
+      ∙ ap (λ x. core_after_turn_of (core_after_arrival vpid cost core) (x ∷ map at ps) turn) (sym (at-other p apart))
 
 pub arrival-beside : (core : CoreView) (p : Process) (ps : List Process) (vpid cost : ℕ) (turn : Settled) → core.queue ≡ p ∷ ps
-    → p.vpid ≢ vpid → MakesNo vpid turn
-    → arrived vpid cost (settled core turn) ≡ settled (arrived vpid cost core) turn
+    → p.vpid ≢ vpid → HasNoChild vpid turn
+    → core_after_arrival vpid cost (core_after_turn core turn) ≡ core_after_turn (core_after_arrival vpid cost core) turn
 arrival-beside core p ps vpid cost turn queue apart none =
-    ap (λ q. arrived vpid cost (settled_at core q turn)) queue
+    ap (λ q. core_after_arrival vpid cost (core_after_turn_of core q turn)) queue
     ∙ settled-beside vpid cost core p ps turn apart none
-    ∙ ap (λ q. settled_at (arrived vpid cost core) (map (arrived_at vpid cost) q) turn) (sym queue)
+    ∙ ap (λ q. core_after_turn_of (core_after_arrival vpid cost core) (map (process_after_arrival vpid cost) q) turn) (sym queue)

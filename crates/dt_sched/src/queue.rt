@@ -2,9 +2,11 @@
 ghost use Rattle.std.specs.Prelude.{◌≡◌, ◌<◌, ◌≤◌, ◌++◌, ◌∷◌, [], IfOk, IsTrue, false, length, vec_len, vec_capacity};
 ghost use Rattle.std.specs.Prelude.{map, if◌then◌else◌, ◌==◌};
 ghost use Rattle.std.specs.List.{slice_index_or};
-ghost use Rattle.dt_sched.specs.Core.{owes, holds, each_once, owing, waits, arrived_at, is_owing, is_waiting, has_room};
+ghost use Rattle.dt_sched.specs.Core.{owing_process, is_queued, is_distinct, owing_vpids, is_vpid_waiting};
+ghost use Rattle.dt_sched.specs.Core.{process_after_arrival, is_owing, is_waiting, has_room};
 ghost use Rattle.dt_sched.specs.declared.queue.TheConstants.{QUEUE_LIMIT};
-ghost use Rattle.dt_sched.specs.inner.Queue.{head_of, head_is_ready, queue_at, moved_up, owing_from};
+ghost use Rattle.dt_sched.specs.inner.Queue.{first_process, has_ready_head, queue_after_turn, indices_without_head};
+ghost use Rattle.dt_sched.specs.inner.Queue.{owing_indices};
 
 use crate::process::{Phase, Process};
 use crate::settled::Settled;
@@ -45,7 +47,7 @@ impl Model for Queue {
     ghost use Rattle.std.specs.Prelude.{List, vec_capacity};
     ghost use Rattle.std.specs.VecDeque.{deque_capacity};
     ghost use Rattle.dt_sched.specs.declared.process.Process.{Process};
-    ghost use Rattle.dt_sched.specs.inner.Queue.{IsQueue, HasRoom};
+    ghost use Rattle.dt_sched.specs.inner.Queue.{IsQueue, HasCapacity};
 
     ghost Value = { List Process };
 
@@ -53,13 +55,13 @@ impl Model for Queue {
 
     ghost invariant = { λ q. record {
       table : IsQueue q.processes.items q.owed.items q.indices.items;
-      room : HasRoom (deque_capacity q.processes) (vec_capacity q.owed) (vec_capacity q.indices);
+      room : HasCapacity (deque_capacity q.processes) (vec_capacity q.owed) (vec_capacity q.indices);
     } };
 }
 
 // Whether the process of this virtual pid is one of these and waits.
 fn waits(processes: &[Process], vpid: u32) -> bool
-    ensures { result ≡ waits vpid processes.now }
+    ensures { result ≡ is_vpid_waiting vpid processes.now }
 {
     for process in processes {
         if process.vpid == vpid && process.phase.is_waiting() {
@@ -71,7 +73,7 @@ fn waits(processes: &[Process], vpid: u32) -> bool
 
 // Takes one off each index, as the head goes.
 fn move_up(indices: &mut [usize])
-    ensures { indices.new ≡ moved_up indices.old }
+    ensures { indices.new ≡ indices_without_head indices.old }
 {
     for index in indices.iter_mut() {
         *index = index.saturating_sub(1);
@@ -79,7 +81,7 @@ fn move_up(indices: &mut [usize])
 }
 
 // Puts an item at the end, where there is room for it.
-fn put<T: Drop>(items: &mut Vec<T>, item: T)
+fn push_within<T: Drop>(items: &mut Vec<T>, item: T)
     requires { vec_len items.old < vec_capacity items.old }
     ensures items { items.new.items ≡ items.old.items ++ item ∷ [] }
     ensures room { vec_capacity items.old ≤ vec_capacity items.new }
@@ -94,21 +96,21 @@ fn put<T: Drop>(items: &mut Vec<T>, item: T)
 fn owe(owed: &mut Vec<u32>, indices: &mut Vec<usize>, process: Process, index: usize)
     requires owed { vec_len owed.old < vec_capacity owed.old }
     requires indices { vec_len indices.old < vec_capacity indices.old }
-    ensures owed { owed.new.items ≡ owed.old.items ++ owing (process ∷ []) }
-    ensures indices { indices.new.items ≡ indices.old.items ++ owing_from index (process ∷ []) }
+    ensures owed { owed.new.items ≡ owed.old.items ++ owing_vpids (process ∷ []) }
+    ensures indices { indices.new.items ≡ indices.old.items ++ owing_indices index (process ∷ []) }
     ensures owed_room { vec_capacity owed.old ≤ vec_capacity owed.new }
     ensures indices_room { vec_capacity indices.old ≤ vec_capacity indices.new }
 {
     if process.phase.is_owing() {
-        put(owed, process.vpid);
-        put(indices, index);
+        push_within(owed, process.vpid);
+        push_within(indices, index);
     }
 }
 
 impl Queue {
     /// Process 1 alone, which owes a segment.
     pub fn new(alloc: Global) -> Result<Self, NoMemory>
-        ensures { IfOk result (λ queue. queue ≡ owes 1 ∷ []) }
+        ensures { IfOk result (λ queue. queue ≡ owing_process 1 ∷ []) }
     {
         let mut processes = VecDeque::with_capacity(alloc, QUEUE_LIMIT)?;
         let mut owed = Vec::with_capacity(alloc, QUEUE_LIMIT)?;
@@ -128,7 +130,7 @@ impl Queue {
 
     /// The virtual pids of those that owe a segment which has not arrived, in the order of their turns.
     pub fn owing(&self) -> &[u32]
-        ensures { result.now ≡ owing self.now }
+        ensures { result.now ≡ owing_vpids self.now }
     {
         &self.owed
     }
@@ -136,7 +138,7 @@ impl Queue {
     /// How many processes there are.
     pub fn len(&self) -> usize
         ensures count { result ≡ length self.now }
-        ensures each_once { IsTrue (each_once self.now) }
+        ensures each_once { IsTrue (is_distinct self.now) }
         ensures few { length self.now ≤ QUEUE_LIMIT }
     {
         self.processes.len()
@@ -144,7 +146,7 @@ impl Queue {
 
     /// The head: the process whose turn it is.
     pub fn first(&self) -> Option<Process>
-        ensures { result ≡ head_of self.now }
+        ensures { result ≡ first_process self.now }
     {
         self.processes.front().copied()
     }
@@ -152,7 +154,7 @@ impl Queue {
     /// Whether the process of this virtual pid waits.
     #[tactic(auto, using(crate::proofs::Tables::waits_append))]
     pub fn waits(&self, vpid: u32) -> bool
-        ensures { result ≡ waits vpid self.now }
+        ensures { result ≡ is_vpid_waiting vpid self.now }
     {
         // The queue is a ring, so what it holds lies in two rows.
         let (first, second) = self.processes.as_slices();
@@ -161,8 +163,8 @@ impl Queue {
 
     /// Lets the segment of the process at an index of `owing` arrive, with its cost in instructions.
     pub fn arrived(&mut self, index: usize, cost: u32)
-        requires { index < length (owing self.old) }
-        ensures { self.new ≡ map (arrived_at (slice_index_or (owing self.old) index 0) cost) self.old }
+        requires { index < length (owing_vpids self.old) }
+        ensures { self.new ≡ map (process_after_arrival (slice_index_or (owing_vpids self.old) index 0) cost) self.old }
     {
         let at = self.indices.remove(index);
         self.owed.remove(index);
@@ -170,10 +172,10 @@ impl Queue {
     }
 
     // Takes the head away, whose segment has arrived.
-    fn take(&mut self) -> Process
-        requires { IsTrue (head_is_ready self.old) }
+    fn take_head(&mut self) -> Process
+        requires { IsTrue (has_ready_head self.old) }
         ensures first { self.old ≡ result ∷ self.new }
-        ensures apart { holds result.vpid self.new ≡ false }
+        ensures apart { is_queued result.vpid self.new ≡ false }
         ensures room { length self.new < QUEUE_LIMIT }
     {
         let Some(first) = self.processes.pop_front() else {
@@ -186,7 +188,7 @@ impl Queue {
     // Puts a process at the tail.
     #[tactic(auto, using(crate::proofs::Tables::at_the_tail))]
     fn add(&mut self, vpid: u32, phase: Phase)
-        requires apart { holds vpid self.old ≡ false }
+        requires apart { is_queued vpid self.old ≡ false }
         requires room { length self.old < QUEUE_LIMIT }
         ensures { self.new ≡ self.old ++ record { vpid = vpid; phase = phase } ∷ [] }
     {
@@ -220,14 +222,14 @@ impl Queue {
     /// Moves the head to the tail, and a child behind it, or takes it away.
     #[tactic(auto, using(crate::proofs::Tables::at_the_tail))]
     pub fn settle(&mut self, turn: Settled)
-        requires ready { IsTrue (head_is_ready self.old) }
+        requires ready { IsTrue (has_ready_head self.old) }
         requires room { IsTrue (has_room self.old turn) }
-        ensures { self.new ≡ queue_at self.old turn }
+        ensures { self.new ≡ queue_after_turn self.old turn }
     {
         if matches!(turn, Settled::Stopped(_)) {
             return;
         }
-        let Process { vpid, .. } = self.take();
+        let Process { vpid, .. } = self.take_head();
         match turn {
             Settled::Again => self.add(vpid, Phase::Owes),
             Settled::Child(child) => {

@@ -2,8 +2,9 @@
 ghost use Rattle.std.specs.Prelude.{◌≡◌, ◌<◌, ◌≤◌, IfOk, IsTrue, true, length};
 ghost use Rattle.std.specs.List.{slice_index_or};
 ghost use Rattle.dt_sched.specs.declared.queue.TheConstants.{QUEUE_LIMIT};
-ghost use Rattle.dt_sched.specs.Core.{started, owing, waits, arrived, cost_of, head, IsReady, settled, has_room};
-ghost use Rattle.dt_sched.specs.Core.{is_count, blocked_after, verdict_after, IsCore};
+ghost use Rattle.dt_sched.specs.Core.{first_core, owing_vpids, is_vpid_waiting, core_after_arrival, cost_of, head};
+ghost use Rattle.dt_sched.specs.Core.{IsReady, core_after_turn, has_room};
+ghost use Rattle.dt_sched.specs.Core.{is_segment_count, blocked_after, verdict_after, IsCore};
 ghost use Rattle.dt_sched.specs.Laws.{ArrivalsCommute, ArrivalBesideTurn, HeadStays};
 
 use crate::process::{Phase, Process};
@@ -82,7 +83,7 @@ impl Core {
     /// The process 1 alone, which owes a segment, and a budget in instructions. There is room for 64 processes, so that
     /// no other call takes memory; NoMemory where there is none for them.
     pub fn new(alloc: Global, budget: u64) -> Result<Self, NoMemory>
-        ensures { IfOk result (λ core. core ≡ started budget) }
+        ensures { IfOk result (λ core. core ≡ first_core budget) }
     {
         Ok(Core {
             queue: Queue::new(alloc)?,
@@ -94,7 +95,7 @@ impl Core {
 
     /// The virtual pids of the processes whose segment has not arrived, in queue order.
     pub fn owing(&self) -> &[u32]
-        ensures order { result.now ≡ owing self.now.queue }
+        ensures order { result.now ≡ owing_vpids self.now.queue }
         ensures sound { IsCore self.now }
     {
         self.queue.owing()
@@ -103,9 +104,9 @@ impl Core {
     /// The segment of the process at this index of `owing` arrives, with its cost of 1 to 65,536 instructions; nothing
     /// is charged.
     pub fn arrived(&mut self, index: usize, cost: u32)
-        requires owing { index < length (owing self.old.queue) }
-        requires count { IsTrue (is_count cost) }
-        ensures { self.new ≡ arrived (slice_index_or (owing self.old.queue) index 0) cost self.old }
+        requires owing { index < length (owing_vpids self.old.queue) }
+        requires count { IsTrue (is_segment_count cost) }
+        ensures { self.new ≡ core_after_arrival (slice_index_or (owing_vpids self.old.queue) index 0) cost self.old }
     {
         self.queue.arrived(index, cost);
     }
@@ -130,7 +131,7 @@ impl Core {
     pub fn settle(&mut self, turn: Settled)
         requires ready { IsReady (head self.old) }
         requires room { IsTrue (has_room self.old.queue turn) }
-        ensures core { self.new ≡ settled self.old turn }
+        ensures core { self.new ≡ core_after_turn self.old turn }
         ensures falls { self.new.left < self.old.left }
     {
         if let Some(Process { vpid, phase }) = self.queue.first() {
@@ -143,7 +144,7 @@ impl Core {
 
     /// Whether the process of this virtual pid waits, so that its call is tried again at its turn.
     pub fn waits(&self, vpid: u32) -> bool
-        ensures { result ≡ waits vpid self.now.queue }
+        ensures { result ≡ is_vpid_waiting vpid self.now.queue }
     {
         self.queue.waits(vpid)
     }

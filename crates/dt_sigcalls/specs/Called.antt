@@ -6,29 +6,29 @@ use Rattle.dt_base.specs.declared.errno.Errno.{Errno}
 use Rattle.dt_base.specs.declared.errno.Errno.TheVariants.{Fault as BadAddress}
 use Rattle.dt_space.specs.declared.access.Miss.{Miss}
 use Rattle.dt_space.specs.Space.{PageView}
-use Rattle.dt_space.specs.Write.{stored}
+use Rattle.dt_space.specs.Write.{pages_after_store}
 use Rattle.dt_signals.specs.declared.signals.Sig.{Sig}
 
 -- the process's signal state and its pages after a call, and what the call answers
-pub record Called : Type 0 where
+pub record SignalCallResult : Type 0 where
   pub signals : Sig
   pub pages : List PageView
   pub answer : Answer
 
 -- the signal state, the pages and the answer are these
-abbrev pub called : Sig → List PageView → Answer → Called
-called g pages answer = record { signals = g; pages = pages; answer = answer }
+abbrev pub signal_call_result : Sig → List PageView → Answer → SignalCallResult
+signal_call_result g pages answer = record { signals = g; pages = pages; answer = answer }
 
 -- the call was refused, and all stays
-abbrev pub refused : Sig → List PageView → Errno → Called
-refused g pages errno = record { signals = g; pages = pages; answer = Refused errno }
+abbrev pub refused_signal_call : Sig → List PageView → Errno → SignalCallResult
+refused_signal_call g pages errno = record { signals = g; pages = pages; answer = Refused errno }
 
 -- the old value was put into its buffer, and then the signal state is this; EFAULT where it can't be put there, and all
 -- stays
-abbrev pub told_then : Sig → List PageView → Sig → Result (List PageView) Miss → Called
-told_then g pages next (Err miss) = refused g pages BadAddress
-told_then g pages next (Ok told) = record { signals = next; pages = told; answer = Value 0 }
+abbrev pub signal_call_by_store : Sig → List PageView → Sig → Result (List PageView) Miss → SignalCallResult
+signal_call_by_store g pages next (Err miss) = refused_signal_call g pages BadAddress
+signal_call_by_store g pages next (Ok told) = record { signals = next; pages = told; answer = Value 0 }
 
 -- the pages with these bytes in a buffer, unless its address is 0
-abbrev pub stored_unless_null : List PageView → ℕ → List ℕ → Result (List PageView) Miss
-stored_unless_null pages address bytes = if address == 0 then Ok pages else stored pages address bytes
+abbrev pub after_store_unless_null : List PageView → ℕ → List ℕ → Result (List PageView) Miss
+after_store_unless_null pages address bytes = if address == 0 then Ok pages else pages_after_store pages address bytes

@@ -12,7 +12,7 @@ use Rattle.dt_signals.specs.declared.signals.Sig.{Sig}
 use Rattle.dt_signals.specs.Frame.{word_in}
 use Rattle.dt_signals.specs.Signals.{action_of, is_signal, with_action}
 use Rattle.dt_sigcalls.specs.declared.numbers.TheConstants.{SIGACTION_SIZE, SA_HANDLER, SA_FLAGS, SA_MASK}
-use Rattle.dt_sigcalls.specs.Called.{Called, refused, stored_unless_null, told_then}
+use Rattle.dt_sigcalls.specs.Called.{SignalCallResult, refused_signal_call, after_store_unless_null, signal_call_by_store}
 
 -- what a process does about these signals can't be changed
 abbrev pub is_fixed : ℕ → Bool
@@ -42,16 +42,17 @@ with_new_action signal None g = g
 with_new_action signal (Some action) g = with_action signal action g
 
 -- the old action is put into its buffer, and the new one takes its place; EFAULT where the new one can't be read
-abbrev pub by_new : Sig → List PageView → ℕ → ℕ → Result (Option Action) Miss → Called
-by_new g pages signal old (Err miss) = refused g pages BadAddress
-by_new g pages signal old (Ok action) =
-    told_then g pages (with_new_action signal action g) (stored_unless_null pages old (action_bytes (action_of g signal)))
+abbrev pub sigaction_by_new : Sig → List PageView → ℕ → ℕ → Result (Option Action) Miss → SignalCallResult
+sigaction_by_new g pages signal old (Err miss) = refused_signal_call g pages BadAddress
+sigaction_by_new g pages signal old (Ok action) =
+    signal_call_by_store g pages (with_new_action signal action g)
+    (after_store_unless_null pages old (action_bytes (action_of g signal)))
 
 -- rt_sigaction(2): EINVAL for a set of another size, for a number that is no signal's, and for a new action of SIGKILL
 -- or SIGSTOP
-unfoldable pub sigaction_of : Sig → List PageView → ℕ → ℕ → ℕ → ℕ → Called
+unfoldable pub sigaction_of : Sig → List PageView → ℕ → ℕ → ℕ → ℕ → SignalCallResult
 sigaction_of g pages number act old size =
     let signal = low_word number in
     if not (size == SIGSET_SIZE) || not (is_signal signal) || (not (act == 0) && is_fixed signal)
-    then refused g pages Inval
-    else by_new g pages signal old (new_action pages act)
+    then refused_signal_call g pages Inval
+    else sigaction_by_new g pages signal old (new_action pages act)

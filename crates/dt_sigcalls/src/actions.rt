@@ -1,12 +1,12 @@
 // The call that tells and changes what a process does about a signal (rt_sigaction(2)).
 ghost use Rattle.std.specs.Prelude.{◌≡◌, ◌≤◌};
 ghost use Rattle.dt_space.specs.Space.{IsSpace};
-ghost use Rattle.dt_sigcalls.specs.Called.{called};
+ghost use Rattle.dt_sigcalls.specs.Called.{signal_call_result};
 ghost use Rattle.dt_signals.specs.Signals.{is_signal};
-ghost use Rattle.dt_sigcalls.specs.Sigaction.{is_fixed, action_bytes, action_in, new_action, by_new};
+ghost use Rattle.dt_sigcalls.specs.Sigaction.{is_fixed, action_bytes, action_in, new_action, sigaction_by_new};
 ghost use Rattle.dt_sigcalls.specs.Sigaction.{sigaction_of};
 
-use crate::buffers::tell;
+use crate::buffers::store_unless_null;
 use crate::numbers::{SA_FLAGS, SA_HANDLER, SA_MASK, SIGACTION_SIZE};
 use dt_base::abi::{SIGKILL, SIGNAL_LIMIT, SIGSET_SIZE, SIGSTOP, low_word};
 use dt_base::{Answer, Errno, get64, put64};
@@ -26,7 +26,7 @@ pub fn rt_sigaction(
     old: u64,
     size: u64,
 ) -> Answer
-    ensures called { sigaction_of sig.old space.old number act old size ≡ called sig.new space.new result }
+    ensures called { sigaction_of sig.old space.old number act old size ≡ signal_call_result sig.new space.new result }
     ensures sound { IsSpace space.new }
 {
     let _sound = space.pages();
@@ -34,15 +34,15 @@ pub fn rt_sigaction(
     if size != SIGSET_SIZE || !is_signal(signal) || act != 0 && is_fixed(signal) {
         return Answer::Refused(Errno::Inval);
     }
-    change(sig, space, signal as u8, act, old)
+    change_action(sig, space, signal as u8, act, old)
 }
 
 // Puts the old action of a signal into its buffer, and the new one in its place.
-fn change(sig: &mut Sig, space: &mut Space, signal: u8, act: u64, old: u64) -> Answer
+fn change_action(sig: &mut Sig, space: &mut Space, signal: u8, act: u64, old: u64) -> Answer
     requires least { 1 ≤ signal }
     requires greatest { signal ≤ SIGNAL_LIMIT }
-    ensures called { by_new sig.old space.old signal old (new_action space.old act)
-        ≡ called sig.new space.new result }
+    ensures called { sigaction_by_new sig.old space.old signal old (new_action space.old act)
+        ≡ signal_call_result sig.new space.new result }
     ensures sound { IsSpace space.new }
 {
     let _sound = space.pages();
@@ -50,7 +50,7 @@ fn change(sig: &mut Sig, space: &mut Space, signal: u8, act: u64, old: u64) -> A
         return Answer::Refused(Errno::Fault);
     };
     let bytes = action_bytes(sig.action(signal));
-    if tell(space, old, &bytes).is_err() {
+    if store_unless_null(space, old, &bytes).is_err() {
         return Answer::Refused(Errno::Fault);
     }
     if let Some(action) = action {

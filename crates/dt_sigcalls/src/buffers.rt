@@ -2,15 +2,19 @@
 ghost use Rattle.std.specs.Prelude.{◌≡◌, MatchResult, Ok, Err, OnErr};
 ghost use Rattle.dt_space.specs.Space.{IsSpace};
 ghost use Rattle.dt_space.specs.Write.{miss_of};
-ghost use Rattle.dt_sigcalls.specs.Called.{stored_unless_null};
+ghost use Rattle.dt_sigcalls.specs.Called.{after_store_unless_null};
 
 use dt_space::{Space, WriteErr};
 
 /// Puts bytes into a buffer, unless its address is 0. At a miss the space stays.
-pub(crate) fn tell(space: &mut Space, address: u64, bytes: &[u8]) -> Result<(), WriteErr>
+pub(crate) fn store_unless_null(
+    space: &mut Space,
+    address: u64,
+    bytes: &[u8],
+) -> Result<(), WriteErr>
     ensures told { MatchResult result
-        (λ _. stored_unless_null space.old address bytes.now ≡ Ok space.new)
-        (λ error. stored_unless_null space.old address bytes.now ≡ Err (miss_of error)) }
+        (λ _. after_store_unless_null space.old address bytes.now ≡ Ok space.new)
+        (λ error. after_store_unless_null space.old address bytes.now ≡ Err (miss_of error)) }
     ensures kept { OnErr result (space.new ≡ space.old) }
     ensures sound { IsSpace space.new }
 {

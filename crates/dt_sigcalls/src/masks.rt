@@ -1,10 +1,10 @@
 // The call that tells and changes which signals a process blocks (rt_sigprocmask(2)).
 ghost use Rattle.std.specs.Prelude.{◌≡◌, Ok};
 ghost use Rattle.dt_space.specs.Space.{IsSpace};
-ghost use Rattle.dt_sigcalls.specs.Called.{called};
-ghost use Rattle.dt_sigcalls.specs.Sigprocmask.{new_set, changed, by_set, sigprocmask_of};
+ghost use Rattle.dt_sigcalls.specs.Called.{signal_call_result};
+ghost use Rattle.dt_sigcalls.specs.Sigprocmask.{new_set, changed_mask, sigprocmask_by_set, sigprocmask_of};
 
-use crate::buffers::tell;
+use crate::buffers::store_unless_null;
 use dt_base::abi::{SIG_BLOCK, SIG_SETMASK, SIG_UNBLOCK, SIGSET_SIZE, low_word};
 use dt_base::{Answer, Errno};
 use dt_signals::Sig;
@@ -23,7 +23,7 @@ pub fn rt_sigprocmask(
     old: u64,
     size: u64,
 ) -> Answer
-    ensures called { sigprocmask_of sig.old space.old how set old size ≡ called sig.new space.new result }
+    ensures called { sigprocmask_of sig.old space.old how set old size ≡ signal_call_result sig.new space.new result }
     ensures sound { IsSpace space.new }
 {
     let _sound = space.pages();
@@ -33,23 +33,24 @@ pub fn rt_sigprocmask(
     let Ok(set) = new_set(space, set) else {
         return Answer::Refused(Errno::Fault);
     };
-    change(sig, space, low_word(how), old, set)
+    change_mask(sig, space, low_word(how), old, set)
 }
 
 // Puts the old mask into its buffer, and changes it by a set, if there is one.
-fn change(sig: &mut Sig, space: &mut Space, how: u32, old: u64, set: Option<u64>) -> Answer
-    ensures called { by_set sig.old space.old how old (Ok set) ≡ called sig.new space.new result }
+fn change_mask(sig: &mut Sig, space: &mut Space, how: u32, old: u64, set: Option<u64>) -> Answer
+    ensures called { sigprocmask_by_set sig.old space.old how old (Ok set)
+        ≡ signal_call_result sig.new space.new result }
     ensures sound { IsSpace space.new }
 {
     let _sound = space.pages();
     if set.is_some() && how > SIG_SETMASK {
         return Answer::Refused(Errno::Inval);
     }
-    if tell(space, old, &sig.mask().to_le_bytes()).is_err() {
+    if store_unless_null(space, old, &sig.mask().to_le_bytes()).is_err() {
         return Answer::Refused(Errno::Fault);
     }
     if let Some(set) = set {
-        sig.set_mask(changed(how, set, sig.mask()));
+        sig.set_mask(changed_mask(how, set, sig.mask()));
     }
     Answer::Value(0)
 }
@@ -65,8 +66,8 @@ fn new_set(space: &Space, address: u64) -> Result<Option<u64>, Miss>
 }
 
 // A mask with the signals of a set added or taken out, or the set itself.
-fn changed(how: u32, set: u64, mask: u64) -> u64
-    ensures { result ≡ changed how set mask }
+fn changed_mask(how: u32, set: u64, mask: u64) -> u64
+    ensures { result ≡ changed_mask how set mask }
 {
     match how {
         SIG_BLOCK => mask | set,

@@ -9,13 +9,13 @@ use Rattle.dt_rv64.specs.Valid.{IsMachine}
 use Rattle.dt_space.specs.declared.access.Miss.{Miss}
 use Rattle.dt_space.specs.declared.access.TheConstants.{READ}
 use Rattle.dt_space.specs.Space.{PageView, load}
-use Rattle.dt_space.specs.Write.{stored}
+use Rattle.dt_space.specs.Write.{pages_after_store}
 use Rattle.dt_signals.specs.declared.numbers.TheConstants.{FRAME_SIZE}
 use Rattle.dt_signals.specs.declared.action.Action.{Action}
 use Rattle.dt_signals.specs.declared.delivery.Delivery.TheVariants.{Handler}
 use Rattle.dt_signals.specs.declared.signals.Sig.{Sig}
 use Rattle.dt_signals.specs.Frame.{frame_of, frame_address}
-use Rattle.dt_signals.specs.Delivery.{Delivered, came, at_handler, entered, enters}
+use Rattle.dt_signals.specs.Delivery.{DeliveryResult, delivery_result, at_handler, entry_by_store, handler_entry}
 use Rattle.dt_signals.proofs.GivenBack.{length-frame}
 use Rattle.dt_signals.proofs.Readback.{stored-read}
 
@@ -39,16 +39,16 @@ module _ (g kept : Sig) (signal : ℕ) (action : Action) (m handler : Machine) (
   abbrev frame : List ℕ
   frame = frame_of signal m g.mask
 
-  by-store : (r : Result (List PageView) Miss) → stored m.space at frame ≡ r → entered g signal action m r ≡ came Handler kept handler → load handler.space READ (register handler SP) FRAME_SIZE ≡ Ok frame
+  by-store : (r : Result (List PageView) Miss) → pages_after_store m.space at frame ≡ r → entry_by_store g signal action m r ≡ delivery_result Handler kept handler → load handler.space READ (register handler SP) FRAME_SIZE ≡ Ok frame
   by-store (Ok pages) stores gives =
-      let same : at_handler signal action at m pages ≡ handler = ap (λ (d : Delivered). d.machine) gives in
+      let same : at_handler signal action at m pages ≡ handler = ap (λ (d : DeliveryResult). d.machine) gives in
       let long : length frame ≡ FRAME_SIZE = length-frame signal g.mask m is in
       let read : load pages READ at (length frame) ≡ Ok frame = stored-read m.space pages at frame is.space (omega arith) (omega (arith, long)) stores in
       let here : load pages READ at FRAME_SIZE ≡ Ok frame = ap (load pages READ at) (sym long) ∙ read in
       let pointer = pointer-at signal at action m pages is.registers (omega arith) in
       subst (λ (h : Machine). load h.space READ (register h SP) FRAME_SIZE ≡ Ok frame) same (ap (λ (a : ℕ). load pages READ a FRAME_SIZE) pointer ∙ here)
-  by-store (Err miss) stores gives = let clash = ap (λ (d : Delivered). d.delivery) gives in absurd cc
+  by-store (Err miss) stores gives = let clash = ap (λ (d : DeliveryResult). d.delivery) gives in absurd cc
 
   -- the frame that an entry wrote stands at the handler's stack pointer
-  pub entry-read : enters g signal action m ≡ came Handler kept handler → load handler.space READ (register handler SP) FRAME_SIZE ≡ Ok frame
-  entry-read enters = by-store (stored m.space at frame) refl enters
+  pub entry-read : handler_entry g signal action m ≡ delivery_result Handler kept handler → load handler.space READ (register handler SP) FRAME_SIZE ≡ Ok frame
+  entry-read gives = by-store (pages_after_store m.space at frame) refl gives

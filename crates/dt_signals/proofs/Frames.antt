@@ -2,7 +2,7 @@
 use Rattle.std.proofs.Common.{◌≡◌, ℕ, zero, suc, ◌+◌, ◌-◌, ◌*◌, ◌<◌, ◌≤◌, ◌^◌, List, [], ◌∷◌, ◌++◌, length, get_or, set, take, drop, replicate, refl, sym, ap, ◌∙◌, append-nil, append_assoc, length-append, length-drop, arith}
 use Rattle.std.proofs.lemmas.List.{take_at, drop_at, drop-drop, drop-replicate, length-replicate, length-take-le, replicate-append-replicate, set_at, take_more, take_all, take-append-drop, get_or-drop}
 use Rattle.std.proofs.lemmas.List.Elements.{All-nil, All-append, All-replicate}
-use Rattle.dt_base.specs.Bytes.{overwritten}
+use Rattle.dt_base.specs.Bytes.{with_bytes_at}
 use Rattle.dt_base.specs.Fields.{low_bytes, with_field}
 use Rattle.dt_space.proofs.Numbers.{length-low_bytes}
 use Rattle.dt_rv64.specs.declared.machine.Machine.{Machine}
@@ -45,7 +45,7 @@ put-next width value at prefix rest long =
     rw (before, behind) refl
 
 -- a field behind bytes that were written over others
-pub field-behind : (width value from at : ℕ) (old bytes : List ℕ) → from ≤ length old → at ≡ from + length bytes → with_field width (overwritten old from bytes) at value ≡ overwritten old from (bytes ++ low_bytes width value)
+pub field-behind : (width value from at : ℕ) (old bytes : List ℕ) → from ≤ length old → at ≡ from + length bytes → with_field width (with_bytes_at old from bytes) at value ≡ with_bytes_at old from (bytes ++ low_bytes width value)
 field-behind width value from at old bytes within is =
     let prefix = take from old ++ bytes in
     let long : length prefix ≡ at = omega (arith, length-append (take from old) bytes, length-take-le from old within) in
@@ -54,7 +54,7 @@ field-behind width value from at old bytes within is =
     next ∙ rw (rest, append_assoc (take from old) bytes (low_bytes width value)) refl
 
 -- the registers that were written so far, and one more
-pub registers-more : (old registers : List ℕ) (index d : ℕ) → FRAME_REGISTERS ≤ length old → 1 ≤ index → index < length registers → with_field 8 (overwritten old FRAME_REGISTERS (word_bytes (take (index - 1) (drop 1 registers)))) (FRAME_REGISTERS + 8 * (index - 1)) (get_or registers index d) ≡ overwritten old FRAME_REGISTERS (word_bytes (take (index + 1 - 1) (drop 1 registers)))
+pub registers-more : (old registers : List ℕ) (index d : ℕ) → FRAME_REGISTERS ≤ length old → 1 ≤ index → index < length registers → with_field 8 (with_bytes_at old FRAME_REGISTERS (word_bytes (take (index - 1) (drop 1 registers)))) (FRAME_REGISTERS + 8 * (index - 1)) (get_or registers index d) ≡ with_bytes_at old FRAME_REGISTERS (word_bytes (take (index + 1 - 1) (drop 1 registers)))
 registers-more old registers index d room some within =
     let words = drop 1 registers in
     let few : index - 1 < length words = omega (arith, length-drop 1 registers) in
@@ -62,13 +62,13 @@ registers-more old registers index d room some within =
     let word : get_or registers index d ≡ get_or words (index - 1) d = sym (get_or-drop 1 registers (index - 1) d ∙ ap (λ (i : ℕ). get_or registers i d) (omega arith)) in
     let next = field-behind 8 (get_or registers index d) FRAME_REGISTERS (FRAME_REGISTERS + 8 * (index - 1)) old (word_bytes (take (index - 1) words)) room (omega (arith, long)) in
     let count : index + 1 - 1 ≡ index - 1 + 1 = omega arith in
-    next ∙ ap (overwritten old FRAME_REGISTERS) (rw (count, bytes_of-more words (index - 1) d few, word) refl)
+    next ∙ ap (with_bytes_at old FRAME_REGISTERS) (rw (count, bytes_of-more words (index - 1) d few, word) refl)
 
-pub registers-none : (old : List ℕ) (words : List ℕ) → overwritten old FRAME_REGISTERS (word_bytes (take 0 words)) ≡ old
+pub registers-none : (old : List ℕ) (words : List ℕ) → with_bytes_at old FRAME_REGISTERS (word_bytes (take 0 words)) ≡ old
 registers-none old words = rw bytes_of-nil (rw (append-nil (take FRAME_REGISTERS old)) (take-append-drop FRAME_REGISTERS old))
 
-pub registers-all : (old registers : List ℕ) (index : ℕ) → length registers ≤ index → overwritten old FRAME_REGISTERS (word_bytes (take (index - 1) (drop 1 registers))) ≡ overwritten old FRAME_REGISTERS (word_bytes (drop 1 registers))
-registers-all old registers index all = ap (λ (words : List ℕ). overwritten old FRAME_REGISTERS (word_bytes words)) (take_all (index - 1) (drop 1 registers) (omega (arith, length-drop 1 registers)))
+pub registers-all : (old registers : List ℕ) (index : ℕ) → length registers ≤ index → with_bytes_at old FRAME_REGISTERS (word_bytes (take (index - 1) (drop 1 registers))) ≡ with_bytes_at old FRAME_REGISTERS (word_bytes (drop 1 registers))
+registers-all old registers index all = ap (λ (words : List ℕ). with_bytes_at old FRAME_REGISTERS (word_bytes words)) (take_all (index - 1) (drop 1 registers) (omega (arith, length-drop 1 registers)))
 
 -- zeros behind what was written
 
@@ -80,7 +80,7 @@ put-zeros width value at left rest prefix long is =
     let more : drop width (replicate left 0) ≡ replicate rest 0 = drop-replicate width left 0 ∙ ap (λ (n : ℕ). replicate {A = ℕ} n 0) (omega arith) in
     put-next width value at prefix (replicate left 0) long ∙ rw more refl
 
-write-zeros : (bytes : List ℕ) (at left rest : ℕ) (prefix : List ℕ) → length prefix ≡ at → left ≡ length bytes + rest → overwritten (prefix ++ replicate left 0) at bytes ≡ (prefix ++ bytes) ++ replicate rest 0
+write-zeros : (bytes : List ℕ) (at left rest : ℕ) (prefix : List ℕ) → length prefix ≡ at → left ≡ length bytes + rest → with_bytes_at (prefix ++ replicate left 0) at bytes ≡ (prefix ++ bytes) ++ replicate rest 0
 write-zeros bytes at left rest prefix long is =
     let before = take_at prefix (replicate left 0) at long in
     let behind : drop (at + length bytes) (prefix ++ replicate left 0) ≡ replicate rest 0 = sym (drop-drop (length bytes) at (prefix ++ replicate left 0)) ∙ ap (drop (length bytes)) (drop_at prefix (replicate left 0) at long) ∙ drop-replicate (length bytes) left 0 ∙ ap (λ (n : ℕ). replicate {A = ℕ} n 0) (omega arith) in
@@ -134,7 +134,7 @@ pub read-all : (frame : List ℕ) (index : ℕ) → index ≡ 32 → registers-o
 read-all frame index all = rw (all, append-nil (words_in frame FRAME_REGISTERS 31)) refl
 
 -- the whole frame, as it is written part by part
-pub frame-written : (signal pc mask narrow pc_at registers_at mask_at size : ℕ) (registers : List ℕ) → narrow ≤ pc_at → pc_at + 8 ≡ registers_at → registers_at + length registers ≡ mask_at → mask_at + 8 ≤ size → with_field 8 (overwritten (with_field 8 (with_field narrow (replicate size 0) 0 signal) pc_at pc) registers_at registers) mask_at mask ≡ low_bytes narrow signal ++ (replicate (pc_at - narrow) 0 ++ (low_bytes 8 pc ++ (registers ++ (low_bytes 8 mask ++ replicate (size - mask_at - 8) 0))))
+pub frame-written : (signal pc mask narrow pc_at registers_at mask_at size : ℕ) (registers : List ℕ) → narrow ≤ pc_at → pc_at + 8 ≡ registers_at → registers_at + length registers ≡ mask_at → mask_at + 8 ≤ size → with_field 8 (with_bytes_at (with_field 8 (with_field narrow (replicate size 0) 0 signal) pc_at pc) registers_at registers) mask_at mask ≡ low_bytes narrow signal ++ (replicate (pc_at - narrow) 0 ++ (low_bytes 8 pc ++ (registers ++ (low_bytes 8 mask ++ replicate (size - mask_at - 8) 0))))
 frame-written signal pc mask narrow pc_at registers_at mask_at size registers in_order pc_next registers_next within =
     let zeros = λ (n : ℕ). replicate {A = ℕ} n 0 in
     let number = low_bytes narrow signal in
@@ -146,7 +146,7 @@ frame-written signal pc mask narrow pc_at registers_at mask_at size registers in
     let all_len : length all ≡ mask_at = omega (arith, length-append kept registers, kept_len) in
     let first : with_field narrow (zeros size) 0 signal ≡ head ++ zeros (size - pc_at) = put-zeros narrow signal 0 size (size - narrow) [] refl (omega arith) ∙ zeros-on (size - pc_at) (pc_at - narrow) (size - narrow) number (omega arith) in
     let second : with_field 8 (head ++ zeros (size - pc_at)) pc_at pc ≡ kept ++ zeros (size - registers_at) = put-zeros 8 pc pc_at (size - pc_at) (size - registers_at) head head_len (omega arith) in
-    let third : overwritten (kept ++ zeros (size - registers_at)) registers_at registers ≡ all ++ zeros (size - mask_at) = write-zeros registers registers_at (size - registers_at) (size - mask_at) kept kept_len (omega arith) in
+    let third : with_bytes_at (kept ++ zeros (size - registers_at)) registers_at registers ≡ all ++ zeros (size - mask_at) = write-zeros registers registers_at (size - registers_at) (size - mask_at) kept kept_len (omega arith) in
     let fourth : with_field 8 (all ++ zeros (size - mask_at)) mask_at mask ≡ (all ++ low_bytes 8 mask) ++ zeros (size - mask_at - 8) = put-zeros 8 mask mask_at (size - mask_at) (size - mask_at - 8) all all_len (omega arith) in
     rw (first, second, third, fourth) (simp append_assoc)
 

@@ -15,8 +15,8 @@ use Rattle.dt_signals.specs.declared.numbers.TheConstants.{FRAME_SIZE, FRAME_PC,
 use Rattle.dt_signals.specs.declared.signals.Sig.{Sig}
 use Rattle.dt_signals.specs.Signals.{with_mask}
 use Rattle.dt_elf.specs.Stack.{word_bytes}
-use Rattle.dt_signals.specs.Frame.{frame_of, given_back, word_in, words_in}
-use Rattle.dt_signals.specs.Return.{came_back, returned}
+use Rattle.dt_signals.specs.Frame.{frame_of, machine_of_frame, word_in, words_in}
+use Rattle.dt_signals.specs.Return.{sigreturn_state, sigreturn_of}
 use Rattle.dt_signals.proofs.Frames.{bytes_of-cons, length-bytes_of, words_in-none, words_in-suc}
 
 -- a word is the number of its bytes
@@ -97,9 +97,9 @@ module _ (signal mask : ℕ) (m : Machine) (is : IsMachine m) where
       let first : m.regs ≡ get_or m.regs 0 0 ∷ registers = drop_more m.regs 0 0 (omega (arith, is.registers)) in
       rw (registers-back, ← is.zero) (sym first)
 
-  pub machine-back : (other : Machine) → given_back (frame_of signal m mask) other ≡ record m { space = other.space }
+  pub machine-back : (other : Machine) → machine_of_frame (frame_of signal m mask) other ≡ record m { space = other.space }
   machine-back other = rw (pc-back, all-back) refl
 
-pub return-back : (signal : ℕ) (m : Machine) (mask : ℕ) (g : Sig) (handler : Machine) → IsMachine m → mask < 2 ^ 64 → load handler.space READ (register handler SP) FRAME_SIZE ≡ Ok (frame_of signal m mask) → returned g handler ≡ Ok (came_back (with_mask mask g) (record m { space = handler.space }))
-unfolding returned
+pub return-back : (signal : ℕ) (m : Machine) (mask : ℕ) (g : Sig) (handler : Machine) → IsMachine m → mask < 2 ^ 64 → load handler.space READ (register handler SP) FRAME_SIZE ≡ Ok (frame_of signal m mask) → sigreturn_of g handler ≡ Ok (sigreturn_state (with_mask mask g) (record m { space = handler.space }))
+unfolding sigreturn_of
 return-back signal m mask g handler is fits reads = rw (reads, mask-back signal mask m is fits, machine-back signal mask m is handler) refl

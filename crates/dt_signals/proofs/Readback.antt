@@ -9,13 +9,13 @@ use Rattle.std.proofs.lemmas.Nat.{and_or_self}
 use Rattle.dt_base.specs.declared.limits.TheConstants.{PAGE_SIZE}
 use Rattle.dt_space.specs.declared.access.Miss.{Miss}
 use Rattle.dt_space.specs.declared.access.TheConstants.{READ, WRITE}
-use Rattle.dt_space.specs.Space.{PageView, IsPage, IsSpace, has_right, granted, page_at, byte_of, byte_at, low_byte, load}
-use Rattle.dt_space.specs.Write.{write, stored}
+use Rattle.dt_space.specs.Space.{PageView, IsPage, IsSpace, has_right, granted_rights, page_at, byte_of, byte_at, byte_before, load}
+use Rattle.dt_space.specs.Write.{pages_after_write, pages_after_store}
 use Rattle.dt_space.specs.Written.{IsWritten}
 use Rattle.dt_space.proofs.Kept.{write-law}
 
 -- rights that can be given have with the right to write that to read
-has-read : (rights : ℕ) → granted rights ≡ rights → has_right rights WRITE ≡ true → has_right rights READ ≡ true
+has-read : (rights : ℕ) → granted_rights rights ≡ rights → has_right rights WRITE ≡ true → has_right rights READ ≡ true
 has-read rights given writes = by-low (has_right (rights % 8) WRITE) refl
   where
     by-low : (b : Bool) → has_right (rights % 8) WRITE ≡ b → has_right rights READ ≡ true
@@ -53,7 +53,7 @@ byte_at-read : (pages : List PageView) (address : ℕ) → IsSpace pages → IsS
 byte_at-read pages address sound some = byte_of-read (address % PAGE_SIZE) (page_at pages (address / PAGE_SIZE)) (found-page pages (address / PAGE_SIZE) sound.each) some
 
 -- each byte of a range that can be reached
-low_byte-parts : (address : ℕ) (byte : Option ℕ) (rest : Result (List ℕ) Miss) → IsOk (low_byte address byte rest) → IsSome byte × IsOk rest
+low_byte-parts : (address : ℕ) (byte : Option ℕ) (rest : Result (List ℕ) Miss) → IsOk (byte_before address byte rest) → IsSome byte × IsOk rest
 low_byte-parts address None rest ok = absurd cc
 low_byte-parts address (Some byte) (Ok bytes) ok = (refl, refl)
 low_byte-parts address (Some byte) (Err miss) ok = absurd cc
@@ -82,12 +82,12 @@ load-bytes pages right (byte ∷ bytes) address fits each =
     rw (first, rest) refl
 
 -- what was stored is read back
-pub stored-read : (pages new : List PageView) (address : ℕ) (bytes : List ℕ) → IsSpace pages → address < 2 ^ 64 → length bytes < 2 ^ 64 → stored pages address bytes ≡ Ok new → load new READ address (length bytes) ≡ Ok bytes
+pub stored-read : (pages new : List PageView) (address : ℕ) (bytes : List ℕ) → IsSpace pages → address < 2 ^ 64 → length bytes < 2 ^ 64 → pages_after_store pages address bytes ≡ Ok new → load new READ address (length bytes) ≡ Ok bytes
 stored-read pages new address bytes sound fits few is = by-access (load pages WRITE address (length bytes)) refl
   where
     by-access : (r : Result (List ℕ) Miss) → load pages WRITE address (length bytes) ≡ r → load new READ address (length bytes) ≡ Ok bytes
     by-access (Ok reached) allowed =
-        let written : write pages address bytes ≡ new = (let gives = rw allowed at is in cc) in
+        let written : pages_after_write pages address bytes ≡ new = (let gives = rw allowed at is in cc) in
         let ok : IsOk (load pages WRITE address (length bytes)) = rw allowed refl in
         let law : IsWritten pages address bytes new = write-law pages address bytes new fits few written in
         load-bytes new READ bytes address fits (λ i within. law.named i READ within (byte_at-read pages ((address + i) % 2 ^ 64) sound (load-each pages WRITE (length bytes) address i fits ok within)))

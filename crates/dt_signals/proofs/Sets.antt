@@ -6,7 +6,7 @@ use Rattle.std.proofs.lemmas.Nat.{and_mask}
 use Rattle.std.proofs.lemmas.Nat.Bits.{bit_at_and, bit_at_not, bit_at-zero, bit_at-lt}
 use Rattle.dt_base.specs.declared.abi.TheConstants.{SIGNAL_LIMIT}
 use Rattle.dt_signals.specs.declared.signals.Sig.{Sig}
-use Rattle.dt_signals.specs.Signals.{bit_of, is_due, is_deliverable, is_dropped, signals_from, set_of, deliverable, dropped, without_ignored}
+use Rattle.dt_signals.specs.Signals.{bit_of, is_due, is_deliverable, is_dropped, signals_from, set_of, lowest_deliverable, dropped_signals, without_ignored}
 
 signals-on : (signal count : ℕ) → signals_from signal (suc count) ≡ signal ∷ signals_from (signal + 1) count
 unfolding signals_from
@@ -68,13 +68,13 @@ not-due g signal fits none within some =
     let other = bit_at-lt g.mask i in
     grind (arith, nat_tests)
 
-pub nothing-deliverable : (g : Sig) → g.mask < 2 ^ 64 → bit_and g.pending (2 ^ 64 - 1 - g.mask) ≡ 0 → deliverable g ≡ None
-unfolding deliverable
+pub nothing-deliverable : (g : Sig) → g.mask < 2 ^ 64 → bit_and g.pending (2 ^ 64 - 1 - g.mask) ≡ 0 → lowest_deliverable g ≡ None
+unfolding lowest_deliverable
 nothing-deliverable g fits none =
     find-nothing (is_deliverable g) SIGNAL_LIMIT 1 (λ signal above below. rw (not-due g signal fits none (omega arith) above) refl)
 
-pub nothing-dropped : (g : Sig) → g.mask < 2 ^ 64 → g.pending < 2 ^ 64 → bit_and g.pending (2 ^ 64 - 1 - g.mask) ≡ 0 → without_ignored g ≡ g
-nothing-dropped g mask pending none =
-    let empty : dropped g ≡ 0 = set-nothing (is_dropped g) SIGNAL_LIMIT (λ signal above below. rw (not-due g signal mask none below above) refl) in
-    let same : bit_and g.pending (2 ^ 64 - 1 - dropped g) ≡ g.pending = rw empty (and_mask g.pending 64 ∙ omega arith) in
+pub nothing-dropped_signals : (g : Sig) → g.mask < 2 ^ 64 → g.pending < 2 ^ 64 → bit_and g.pending (2 ^ 64 - 1 - g.mask) ≡ 0 → without_ignored g ≡ g
+nothing-dropped_signals g mask pending none =
+    let empty : dropped_signals g ≡ 0 = set-nothing (is_dropped g) SIGNAL_LIMIT (λ signal above below. rw (not-due g signal mask none below above) refl) in
+    let same : bit_and g.pending (2 ^ 64 - 1 - dropped_signals g) ≡ g.pending = rw empty (and_mask g.pending 64 ∙ omega arith) in
     ap (λ (set : ℕ). record g { pending = set }) same

@@ -29,5 +29,5 @@ words_in frame offset zero = []
 words_in frame offset (suc count) = word_in frame offset ∷ words_in frame (offset + 8) count
 
 -- the machine with the program counter and the registers of a frame
-abbrev pub given_back : List ℕ → Machine → Machine
-given_back frame m = record m { pc = word_in frame FRAME_PC; regs = 0 ∷ words_in frame FRAME_REGISTERS 31 }
+abbrev pub machine_of_frame : List ℕ → Machine → Machine
+machine_of_frame frame m = record m { pc = word_in frame FRAME_PC; regs = 0 ∷ words_in frame FRAME_REGISTERS 31 }

@@ -11,15 +11,15 @@ use Rattle.dt_signals.specs.declared.action.Action.{Action}
 use Rattle.dt_signals.specs.declared.delivery.Delivery.TheVariants.{Handler}
 use Rattle.dt_signals.specs.declared.signals.Sig.{Sig}
 use Rattle.dt_signals.specs.Signals.{with_mask}
-use Rattle.dt_signals.specs.Delivery.{came, enters}
+use Rattle.dt_signals.specs.Delivery.{delivery_result, handler_entry}
 use Rattle.dt_signals.specs.Frame.{frame_of}
-use Rattle.dt_signals.specs.Return.{returned, came_back}
+use Rattle.dt_signals.specs.Return.{sigreturn_of, sigreturn_state}
 
 -- where a handler was entered, its frame stands at the stack pointer and can be read
 abbrev pub EntryLeavesItsFrame : Type 0
 EntryLeavesItsFrame =
     (g kept : Sig) (signal : ℕ) (action : Action) (m handler : Machine) → IsMachine m
-    → enters g signal action m ≡ came Handler kept handler
+    → handler_entry g signal action m ≡ delivery_result Handler kept handler
     → load handler.space READ (register handler SP) FRAME_SIZE ≡ Ok (frame_of signal m g.mask)
 
 -- whatever a handler did, it returns to the program counter, the registers and the mask that its entry kept, if the
@@ -28,4 +28,4 @@ abbrev pub ReturnGivesBack : Type 0
 ReturnGivesBack =
     (signal : ℕ) (m : Machine) (mask : ℕ) (g : Sig) (handler : Machine) → IsMachine m → mask < 2 ^ 64
     → load handler.space READ (register handler SP) FRAME_SIZE ≡ Ok (frame_of signal m mask)
-    → returned g handler ≡ Ok (came_back (with_mask mask g) (record m { space = handler.space }))
+    → sigreturn_of g handler ≡ Ok (sigreturn_state (with_mask mask g) (record m { space = handler.space }))

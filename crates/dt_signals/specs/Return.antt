@@ -9,23 +9,23 @@ use Rattle.dt_space.specs.Space.{load}
 use Rattle.dt_signals.specs.declared.numbers.TheConstants.{FRAME_SIZE, FRAME_MASK}
 use Rattle.dt_signals.specs.declared.signals.Sig.{Sig}
 use Rattle.dt_signals.specs.Signals.{with_mask}
-use Rattle.dt_signals.specs.Frame.{given_back, word_in}
+use Rattle.dt_signals.specs.Frame.{machine_of_frame, word_in}
 
 -- the signal state and the machine after a return
-pub record Returned : Type 0 where
+pub record SigreturnState : Type 0 where
   pub signals : Sig
   pub machine : Machine
 
 -- the signal state and the machine are these
-abbrev pub came_back : Sig → Machine → Returned
-came_back g m = record { signals = g; machine = m }
+abbrev pub sigreturn_state : Sig → Machine → SigreturnState
+sigreturn_state g m = record { signals = g; machine = m }
 
 -- by the frame's bytes: all of them must be readable
-abbrev pub returned_by : Sig → Machine → Result (List ℕ) Miss → Result Returned Miss
-returned_by g m (Err miss) = Err miss
-returned_by g m (Ok frame) =
-    Ok (came_back (with_mask (word_in frame FRAME_MASK) g) (given_back frame m))
+abbrev pub sigreturn_by_frame : Sig → Machine → Result (List ℕ) Miss → Result SigreturnState Miss
+sigreturn_by_frame g m (Err miss) = Err miss
+sigreturn_by_frame g m (Ok frame) =
+    Ok (sigreturn_state (with_mask (word_in frame FRAME_MASK) g) (machine_of_frame frame m))
 
 -- what the frame at the stack pointer gives back; a miss where a byte of it cannot be read (sigreturn(2))
-unfoldable pub returned : Sig → Machine → Result Returned Miss
-returned g m = returned_by g m (load m.space READ (register m SP) FRAME_SIZE)
+unfoldable pub sigreturn_of : Sig → Machine → Result SigreturnState Miss
+sigreturn_of g m = sigreturn_by_frame g m (load m.space READ (register m SP) FRAME_SIZE)

@@ -34,28 +34,28 @@ abbrev pub with_action : ℕ → Action → Sig → Sig
 with_action signal action g = record g { actions = slice_set g.actions (signal - 1) action }
 
 -- a signal is pending
-abbrev pub raised : ℕ → Sig → Sig
-raised signal g = record g { pending = bit_or g.pending (bit_of signal) }
+abbrev pub with_pending : ℕ → Sig → Sig
+with_pending signal g = record g { pending = bit_or g.pending (bit_of signal) }
 
 -- with another mask, from which SIGKILL and SIGSTOP are left out
 abbrev pub with_mask : ℕ → Sig → Sig
 with_mask mask g = record g { mask = bit_and mask MASKABLE }
 
 -- what a child begins with: no signal is pending (fork(2))
-abbrev pub forked : Sig → Sig
-forked g = record g { pending = 0 }
+abbrev pub after_fork : Sig → Sig
+after_fork g = record g { pending = 0 }
 
 -- an action that runs a handler
 abbrev pub has_handler : Action → Bool
 has_handler action = not ((action.handler == SIG_DFL) || (action.handler == SIG_IGN))
 
 -- an action after another program was started: a handler is gone with its program
-abbrev pub kept_over_exec : Action → Action
-kept_over_exec action = if has_handler action then default_action else action
+abbrev pub action_after_exec : Action → Action
+action_after_exec action = if has_handler action then default_action else action
 
 -- the actions after another program was started; mask and pending signals stay (execve(2))
 abbrev pub after_exec : Sig → Sig
-after_exec g = record g { actions = map kept_over_exec g.actions }
+after_exec g = record g { actions = map action_after_exec g.actions }
 
 -- a signal with this action does nothing: it is ignored, or does nothing by default
 abbrev pub is_ignored : ℕ → Action → Bool
@@ -85,21 +85,21 @@ abbrev pub is_dropped : Sig → ℕ → Bool
 is_dropped g signal = is_due g signal && is_ignored signal (action_of g signal)
 
 -- the signals that are dropped
-abbrev pub dropped : Sig → ℕ
-dropped g = set_of (is_dropped g) SIGNAL_LIMIT
+abbrev pub dropped_signals : Sig → ℕ
+dropped_signals g = set_of (is_dropped g) SIGNAL_LIMIT
 
 -- without the signals that are dropped
 abbrev pub without_ignored : Sig → Sig
-without_ignored g = record g { pending = bit_and g.pending (2 ^ 64 - 1 - dropped g) }
+without_ignored g = record g { pending = bit_and g.pending (2 ^ 64 - 1 - dropped_signals g) }
 
 -- a signal can be delivered: it is due, and would do something
 abbrev pub is_deliverable : Sig → ℕ → Bool
 is_deliverable g signal = is_due g signal && not (is_ignored signal (action_of g signal))
 
 -- the lowest signal that can be delivered
-unfoldable pub deliverable : Sig → Option ℕ
-deliverable g = find (is_deliverable g) all_signals
+unfoldable pub lowest_deliverable : Sig → Option ℕ
+lowest_deliverable g = find (is_deliverable g) all_signals
 
 -- a signal is pending no longer
-abbrev pub taken : ℕ → Sig → Sig
-taken signal g = record g { pending = bit_and g.pending (2 ^ 64 - 1 - bit_of signal) }
+abbrev pub without_pending : ℕ → Sig → Sig
+without_pending signal g = record g { pending = bit_and g.pending (2 ^ 64 - 1 - bit_of signal) }

@@ -1,6 +1,6 @@
 // What is done about a signal.
 ghost use Rattle.std.specs.Prelude.{◌≡◌};
-ghost use Rattle.dt_signals.specs.Signals.{has_handler, kept_over_exec, is_ignored};
+ghost use Rattle.dt_signals.specs.Signals.{has_handler, action_after_exec, is_ignored};
 
 use dt_base::abi::{SIG_DFL, SIG_IGN, SIGCHLD};
 
@@ -31,8 +31,8 @@ impl Action {
     }
 
     /// The action after another program was started (execve(2)).
-    pub(crate) fn kept_over_exec(self) -> Action
-        ensures { result ≡ kept_over_exec self }
+    pub(crate) fn after_exec(self) -> Action
+        ensures { result ≡ action_after_exec self }
     {
         if self.has_handler() {
             DEFAULT_ACTION

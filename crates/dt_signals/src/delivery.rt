@@ -2,7 +2,8 @@
 ghost use Rattle.std.specs.Prelude.{◌≡◌, ◌≤◌, IfSome};
 ghost use Rattle.dt_rv64.specs.Valid.{IsMachine};
 ghost use Rattle.dt_signals.specs.Signals.{action_of};
-ghost use Rattle.dt_signals.specs.Delivery.{came, interrupted, at_handler, enters, acts, forced, delivered};
+ghost use Rattle.dt_signals.specs.Delivery.{delivery_result, after_interrupt, at_handler, handler_entry, action_result};
+ghost use Rattle.dt_signals.specs.Delivery.{forced_delivery, delivery_of};
 
 use crate::action::Action;
 use crate::frame::{frame_address, frame_of};
@@ -33,14 +34,14 @@ pub enum Delivery {
 /// Delivers the signal of a fault, which ends the process where it is masked or ignored; else drops the pending signals
 /// that would do nothing, and delivers the lowest that is left and not masked (signal(7)). A call that waits is over
 /// before a handler runs.
-#[tactic(auto, unfolding(crate::specs::Delivery::delivered))]
+#[tactic(auto, unfolding(crate::specs::Delivery::delivery_of))]
 pub fn deliver(
     machine: &mut Machine,
     sig: &mut Sig,
     forced: Option<u8>,
     call: CallState,
 ) -> Delivery
-    ensures delivered { delivered forced call sig.old machine.old ≡ came result sig.new machine.new }
+    ensures delivered { delivery_of forced call sig.old machine.old ≡ delivery_result result sig.new machine.new }
     ensures sound { IsMachine machine.old → IsMachine machine.new }
 {
     match forced {
@@ -51,7 +52,7 @@ pub fn deliver(
 
 // Delivers the signal of a fault.
 fn force(machine: &mut Machine, sig: &mut Sig, signal: u8, call: CallState) -> Delivery
-    ensures forced { forced sig.old signal call machine.old ≡ came result sig.new machine.new }
+    ensures forced { forced_delivery sig.old signal call machine.old ≡ delivery_result result sig.new machine.new }
     ensures sound { IsMachine machine.old → IsMachine machine.new }
 {
     if !is_signal(signal) || is_in(signal, sig.mask) {
@@ -61,9 +62,9 @@ fn force(machine: &mut Machine, sig: &mut Sig, signal: u8, call: CallState) -> D
 }
 
 // Delivers the lowest pending signal that can be delivered.
-#[tactic(auto, unfolding(crate::specs::Delivery::delivered))]
+#[tactic(auto, unfolding(crate::specs::Delivery::delivery_of))]
 fn deliver_pending(machine: &mut Machine, sig: &mut Sig, call: CallState) -> Delivery
-    ensures delivered { delivered None call sig.old machine.old ≡ came result sig.new machine.new }
+    ensures delivered { delivery_of None call sig.old machine.old ≡ delivery_result result sig.new machine.new }
     ensures sound { IsMachine machine.old → IsMachine machine.new }
 {
     sig.drop_ignored();
@@ -80,7 +81,8 @@ fn deliver_pending(machine: &mut Machine, sig: &mut Sig, call: CallState) -> Del
 fn act(machine: &mut Machine, sig: &mut Sig, signal: u8, call: CallState) -> Delivery
     requires least { 1 ≤ signal }
     requires greatest { signal ≤ SIGNAL_LIMIT }
-    ensures acted { acts sig.old signal (action_of sig.old signal) call machine.old ≡ came result sig.new machine.new }
+    ensures acted { action_result sig.old signal (action_of sig.old signal) call machine.old
+        ≡ delivery_result result sig.new machine.new }
     ensures sound { IsMachine machine.old → IsMachine machine.new }
 {
     let action = sig.action(signal);
@@ -93,7 +95,7 @@ fn act(machine: &mut Machine, sig: &mut Sig, signal: u8, call: CallState) -> Del
 
 // Ends the call that waits: with how many bytes it has moved, else it is made again or refused.
 fn interrupt(machine: &mut Machine, call: CallState, action: Action)
-    ensures interrupted { machine.new ≡ interrupted call action machine.old }
+    ensures interrupted { machine.new ≡ after_interrupt call action machine.old }
     ensures sound { IsMachine machine.old → IsMachine machine.new }
 {
     match call {
@@ -111,7 +113,7 @@ fn interrupt(machine: &mut Machine, call: CallState, action: Action)
 fn enter(machine: &mut Machine, sig: &mut Sig, signal: u8, action: Action) -> Delivery
     requires least { 1 ≤ signal }
     requires greatest { signal ≤ SIGNAL_LIMIT }
-    ensures entered { enters sig.old signal action machine.old ≡ came result sig.new machine.new }
+    ensures entered { handler_entry sig.old signal action machine.old ≡ delivery_result result sig.new machine.new }
     ensures sound { IsMachine machine.old → IsMachine machine.new }
 {
     let at = frame_address(machine.reg(SP));

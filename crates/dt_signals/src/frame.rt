@@ -1,6 +1,6 @@
 // The frame of a handler, on its stack.
 ghost use Rattle.std.specs.Prelude.{◌≡◌, ℕ, ◌≤◌, ◌<◌, ◌+◌, ◌^◌, ◌∷◌, length, drop, slice_index};
-ghost use Rattle.dt_base.specs.Bytes.{overwritten};
+ghost use Rattle.dt_base.specs.Bytes.{with_bytes_at};
 ghost use Rattle.dt_space.specs.Space.{IsBytes};
 ghost use Rattle.dt_elf.specs.Stack.{word_bytes};
 ghost use Rattle.dt_signals.specs.Frame.{frame_of, frame_address, word_in, words_in};
@@ -10,11 +10,11 @@ use dt_base::{get64, put32, put64};
 use dt_rv64::Machine;
 
 /// The frame of a handler of a signal, with the machine's program counter and registers and a mask.
-pub(crate) fn frame_of(signal: u8, machine: &Machine, mask: u64) -> [u8; 400]
+pub(crate) fn frame_of(signal: u8, machine: &Machine, mask: u64) -> [u8; FRAME_SIZE]
     ensures frame { result ≡ frame_of signal machine.now mask }
     ensures bytes { IsBytes result }
 {
-    let mut frame = [0; 400];
+    let mut frame = [0; FRAME_SIZE];
     put32(&mut frame, 0, u32::from(signal));
     put64(&mut frame, FRAME_PC, machine.pc);
     put_registers(&mut frame, &machine.regs);
@@ -23,8 +23,8 @@ pub(crate) fn frame_of(signal: u8, machine: &Machine, mask: u64) -> [u8; 400]
 }
 
 // Puts all registers but x0 into a frame.
-fn put_registers(frame: &mut [u8; 400], registers: &[u64; 32])
-    ensures put { frame.new ≡ overwritten frame.old FRAME_REGISTERS (word_bytes (drop 1 registers.now)) }
+fn put_registers(frame: &mut [u8; FRAME_SIZE], registers: &[u64; 32])
+    ensures put { frame.new ≡ with_bytes_at frame.old FRAME_REGISTERS (word_bytes (drop 1 registers.now)) }
     ensures up_to_mask { FRAME_REGISTERS + length (word_bytes (drop 1 registers.now)) ≡ FRAME_MASK }
 {
     for index in 1..32 {
@@ -36,12 +36,12 @@ fn put_registers(frame: &mut [u8; 400], registers: &[u64; 32])
 pub(crate) fn frame_address(pointer: u64) -> u64
     ensures { result ≡ frame_address pointer }
 {
-    let low = pointer.wrapping_sub(FRAME_SIZE);
+    let low = pointer.wrapping_sub(FRAME_SIZE as u64);
     low - low % FRAME_ALIGN
 }
 
 /// The registers that a frame keeps.
-pub(crate) fn registers_in(frame: &[u8; 400]) -> [u64; 32]
+pub(crate) fn registers_in(frame: &[u8; FRAME_SIZE]) -> [u64; 32]
     ensures registers { result ≡ 0 ∷ words_in frame.now FRAME_REGISTERS 31 }
     ensures words { (i : ℕ) → slice_index result i < 2 ^ 64 }
 {

@@ -1,7 +1,7 @@
 //! The layout of a handler's frame.
 
 /// Bytes of a handler's frame (this project's layout, as the offsets below).
-pub const FRAME_SIZE: u64 = 400;
+pub const FRAME_SIZE: usize = 400;
 
 /// The frame stands at a multiple of this (RISC-V ELF psABI, "Integer Calling Convention").
 pub const FRAME_ALIGN: u64 = 16;

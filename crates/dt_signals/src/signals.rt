@@ -1,9 +1,10 @@
 // What a process does about signals, which are masked, and which are pending.
 ghost use Rattle.std.specs.Prelude.{◌≡◌, ◌≤◌, IfSome};
-ghost use Rattle.dt_signals.specs.Signals.{no_signals, raised, action_of, with_action, with_mask, forked, after_exec};
+ghost use Rattle.dt_signals.specs.Signals.{no_signals, with_pending, action_of, with_action, with_mask, after_fork};
+ghost use Rattle.dt_signals.specs.Signals.{after_exec};
 ghost use Rattle.dt_signals.specs.Signals.{bit_of, is_in, is_signal, is_due, is_ignored};
-ghost use Rattle.dt_signals.specs.Signals.{is_dropped, dropped, without_ignored};
-ghost use Rattle.dt_signals.specs.Signals.{is_deliverable, deliverable, taken};
+ghost use Rattle.dt_signals.specs.Signals.{is_dropped, dropped_signals, without_ignored};
+ghost use Rattle.dt_signals.specs.Signals.{is_deliverable, lowest_deliverable, without_pending};
 
 use crate::action::{Action, DEFAULT_ACTION};
 use dt_base::abi::{MASKABLE, SIGNAL_LIMIT};
@@ -33,7 +34,7 @@ impl Sig {
     pub fn raise(&mut self, sig: u8)
         requires least { 1 ≤ sig }
         requires greatest { sig ≤ SIGNAL_LIMIT }
-        ensures { self.new ≡ raised sig self.old }
+        ensures { self.new ≡ with_pending sig self.old }
     {
         self.pending |= bit_of(sig);
     }
@@ -71,8 +72,8 @@ impl Sig {
     }
 
     /// What a child begins with (fork(2)).
-    pub fn forked(&self) -> Sig
-        ensures { result ≡ forked self.now }
+    pub fn fork(&self) -> Sig
+        ensures { result ≡ after_fork self.now }
     {
         let mut child = *self;
         child.pending = 0;
@@ -84,14 +85,14 @@ impl Sig {
         ensures { self.new ≡ after_exec self.old }
     {
         for index in 0..SIGNAL_LIMIT {
-            self.actions[index] = self.actions[index].kept_over_exec();
+            self.actions[index] = self.actions[index].after_exec();
         }
     }
 
     /// The lowest signal that is pending, not masked, and would do something.
-    #[tactic(auto, unfolding(crate::specs::Signals::deliverable))]
+    #[tactic(auto, unfolding(crate::specs::Signals::lowest_deliverable))]
     pub fn deliverable(&self) -> Option<u8>
-        ensures lowest { result ≡ deliverable self.now }
+        ensures lowest { result ≡ lowest_deliverable self.now }
         ensures least { IfSome result (λ sig. 1 ≤ sig) }
         ensures greatest { IfSome result (λ sig. sig ≤ SIGNAL_LIMIT) }
     {
@@ -111,7 +112,7 @@ impl Sig {
         ensures { self.new ≡ without_ignored self.old }
     {
         if self.pending & !self.mask != 0 {
-            self.pending &= !self.dropped();
+            self.pending &= !self.dropped_signals();
         }
     }
 
@@ -119,14 +120,14 @@ impl Sig {
     pub(crate) fn take(&mut self, sig: u8)
         requires least { 1 ≤ sig }
         requires greatest { sig ≤ SIGNAL_LIMIT }
-        ensures { self.new ≡ taken sig self.old }
+        ensures { self.new ≡ without_pending sig self.old }
     {
         self.pending &= !bit_of(sig);
     }
 
     // The signals that are pending, not masked, and would do nothing.
-    fn dropped(&self) -> u64
-        ensures { result ≡ dropped self.now }
+    fn dropped_signals(&self) -> u64
+        ensures { result ≡ dropped_signals self.now }
     {
         let mut set = 0;
         for index in 0..64 {

@@ -1,2 +1,4 @@
-pub mod Started
+pub mod Kept
+pub mod Numbers
 pub mod Piped
+pub mod Started

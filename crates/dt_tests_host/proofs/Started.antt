@@ -11,7 +11,7 @@ use Rattle.dt_host.specs.declared.kind.NodeKind.TheVariants.{File}
 use Rattle.dt_host.specs.World.{World, Node, file, dir, IsFile, IsDir, IsNameless, IsBare, IsEmptyStart, node_at, entry, names_at, dir_names}
 use Rattle.dt_host.specs.Legal.{Binds, Unbinds, Cuts, WritesAll, MadeAt, MadePid, MayGo, NodeMayGo}
 use Rattle.dt_host.proofs.Changes.{IsDir-start, IsDir-bound, IsLive-made, node_at-start, root-made}
-use Rattle.dt_host.proofs.Maps.{at_insert}
+use Rattle.dt_tables.proofs.Maps.{at_insert}
 use Rattle.dt_host.proofs.Worlds.{IsFile-with_bytes, IsFile-with_write}
 use Rattle.dt_host.proofs.Gone.{IsDir-without_entry}
 

@@ -1,25 +1,14 @@
-//! Tests of the outside in memory: a host, a store and a sink.
+//! Tests of what lies between the calls of a guest and the host: the outside in memory, the virtual tree, open file
+//! descriptions, images and the words of the command line.
 #![tactic(auto)]
 
 #[cfg(test)]
-mod ask;
+mod descriptors;
 #[cfg(test)]
-mod directory;
+mod expect;
 #[cfg(test)]
-mod file;
+mod host;
 #[cfg(test)]
-mod hosts;
+mod image;
 #[cfg(test)]
-mod outputs;
-#[cfg(test)]
-mod pids;
-#[cfg(test)]
-mod pipe;
-#[cfg(test)]
-mod pipes;
-#[cfg(test)]
-mod play;
-#[cfg(test)]
-mod scene;
-#[cfg(test)]
-mod step;
+mod tree;

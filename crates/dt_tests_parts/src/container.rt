@@ -2,6 +2,7 @@
 ghost use Rattle.dt_host.specs.World.{IsEmptyStart};
 
 use crate::copies::INDEX;
+use crate::expect::same;
 use dt_asm::hello;
 use dt_base::{Command, Image};
 use dt_calls::{Container, Launch};
@@ -56,8 +57,8 @@ fn a_machine_that_was_away_runs_from_its_start(rt: HostRuntime) -> Result<(), Fa
                 count: 6,
                 stop: Stop::Call,
             };
-            assert_eq!(rt; segment, first);
-            assert_eq!(rt; events, 0);
+            same(&rt, segment, first);
+            same(&rt, events, 0);
         }
         None => assert!(rt; false, "no start"),
     }

@@ -1,4 +1,5 @@
 // Copies of plain values, with ample memory.
+use crate::expect::same;
 use dt_base::{Blob, What};
 use dt_image::read_image;
 use dt_memhost::{MemStore, Picker};
@@ -16,17 +17,17 @@ fn a_copy_of_an_image_has_its_entries(rt: HostRuntime) -> Result<(), Fail> {
     store.put("img/image.json", INDEX)?;
     store.put("img/hello", b"some bytes")?;
     let image = read_image(alloc, &mut store, "img")?.copy()?;
-    assert_eq!(rt; image.entries().len(), 1);
+    same(&rt, image.entries().len(), 1);
     let entry = image.entries()[0].copy()?;
-    assert_eq!(rt; entry.path.as_slice(), b"/hello".as_slice());
-    assert_eq!(rt; entry.mode, 0o755);
+    same(&rt, entry.path.as_slice(), b"/hello".as_slice());
+    same(&rt, entry.mode, 0o755);
     match entry.what.copy()? {
-        What::File(bytes) => assert_eq!(rt; bytes.as_slice(), b"some bytes".as_slice()),
+        What::File(bytes) => same(&rt, bytes.as_slice(), b"some bytes".as_slice()),
         What::Dir | What::Link(_) => assert!(rt; false, "no file"),
     }
     let link = What::Link(Blob::new(Vec::from_slice(alloc, b"to")?));
     match link.copy()? {
-        What::Link(target) => assert_eq!(rt; target.as_slice(), b"to".as_slice()),
+        What::Link(target) => same(&rt, target.as_slice(), b"to".as_slice()),
         What::Dir | What::File(_) => assert!(rt; false, "no link"),
     }
     Ok(())
@@ -41,17 +42,17 @@ fn a_copy_of_a_command_has_its_words(rt: HostRuntime) -> Result<(), Fail> {
     }
     let options = read_options(alloc, &words)?;
     let image = options.image.copy()?;
-    assert_eq!(rt; image.as_str(), "img");
-    assert_eq!(rt; options.seed, 0);
-    assert_eq!(rt; options.budget, 100_000_000);
-    assert_eq!(rt; options.host, None);
+    same(&rt, image.as_str(), "img");
+    same(&rt, options.seed, 0);
+    same(&rt, options.budget, 100_000_000);
+    same(&rt, options.host, None);
     let command = options.command.copy()?;
     let (args, env) = (command.args(), command.env());
-    assert_eq!(rt; args.len(), 2);
-    assert_eq!(rt; args[0].as_slice(), b"/hello".as_slice());
-    assert_eq!(rt; args[1].copy()?.as_slice(), b"x".as_slice());
-    assert_eq!(rt; env.len(), 2);
-    assert_eq!(rt; env[0].as_slice(), b"A=1".as_slice());
-    assert_eq!(rt; env[1].as_slice(), b"B=2".as_slice());
+    same(&rt, args.len(), 2);
+    same(&rt, args[0].as_slice(), b"/hello".as_slice());
+    same(&rt, args[1].copy()?.as_slice(), b"x".as_slice());
+    same(&rt, env.len(), 2);
+    same(&rt, env[0].as_slice(), b"A=1".as_slice());
+    same(&rt, env[1].as_slice(), b"B=2".as_slice());
     Ok(())
 }

@@ -1,4 +1,5 @@
 // Numbers of the lowest crate that no program of these tests reaches, and the first byte of a path.
+use crate::expect::same_at;
 use dt_base::abi::byte_count;
 use dt_base::begins_with_slash;
 use std::test::Fail;
@@ -16,7 +17,7 @@ const COUNTS: [(u64, u64); 6] = [
 #[test]
 fn transfers_end_at_their_limit(rt: HostRuntime) -> Result<(), Fail> {
     for (asked, moved) in COUNTS {
-        assert_eq!(rt; byte_count(asked), moved, "{asked}");
+        same_at(&rt, asked, byte_count(asked), moved);
     }
     Ok(())
 }

@@ -8,11 +8,11 @@ use Rattle.std.specs.Ordering.{nat_cmp, is_eq, eq_by_cmp}
 use Rattle.std.specs.Cmp.{nat_cmp_total}
 use Rattle.std.specs.FinMap.{FinMap, IsAntisymmetric, get, keys, len, remove, empty_of_len, get-empty, len-remove, contains_key-keys, nat_cmp-IsAntisymmetric}
 use Rattle.dt_host.specs.World.{Forest, names_at, entry, IsDir}
-use Rattle.dt_host.proofs.Found.{none_there, some_true}
-use Rattle.dt_host.proofs.MapOf.{equal_if}
-use Rattle.dt_host.proofs.Maps.{names_tie, at_remove}
+use Rattle.dt_tables.proofs.Found.{none_there, some_true}
+use Rattle.dt_tables.proofs.MapOf.{equal_if}
+use Rattle.dt_tables.proofs.Maps.{names_tie, at_remove}
 use Rattle.dt_host.proofs.Spots.{IsDir-entry, IsLive-IsDir}
-use Rattle.dt_tree.specs.Shape.{names_of, LeadsUp, IsShaped}
+use Rattle.dt_tree.specs.Shape.{name_count_of, LeadsUp, IsShaped}
 use Rattle.dt_tree.specs.Above.{is_this, name_in, parent_at}
 use Rattle.dt_tree.proofs.Namings.{named}
 use Rattle.dt_tree.proofs.Shapes.{one_spot, one_depth}
@@ -92,7 +92,7 @@ module _ (v : Forest) where
       finds nat_cmp-IsAntisymmetric (λ d. is_some (name_in v d n)) (keys v.nodes) d there (has_name d n name e)
 
   -- a node without names has no parent
-  pub no_parent : (n : ℕ) → names_of v n ≡ 0 → parent_at v n ≡ None
+  pub no_parent : (n : ℕ) → name_count_of v n ≡ 0 → parent_at v n ≡ None
   no_parent n none = by_found (parent_at v n) refl
     where
       by_found : (found : Option ℕ) → parent_at v n ≡ found → found ≡ None

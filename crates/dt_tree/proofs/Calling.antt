@@ -10,15 +10,15 @@ use Rattle.std.specs.FinMap.{get, len, empty_of_len, get-empty, nat_cmp-IsAntisy
 use Rattle.dt_base.specs.declared.image.What.{What}
 use Rattle.dt_base.specs.declared.limits.TheConstants.{MODE_LIMIT}
 use Rattle.dt_host.specs.World.{Forest, Node, Names, file, dir, link, node_at, dir_names, link_target, names_at, entry, with_node, with_entry, without_entry, IsDir, IsLive, IsBare}
-use Rattle.dt_host.specs.inner.Weight.{weight}
-use Rattle.dt_host.proofs.Maps.{get-insert_same, get-insert_other}
+use Rattle.dt_tables.specs.inner.Weight.{weight}
+use Rattle.dt_tables.proofs.Maps.{get-insert_same, get-insert_other}
 use Rattle.dt_host.proofs.Changes.{IsFile-bound}
 use Rattle.dt_host.proofs.Spots.{is_some-with_entry, len-with_entry, IsDir-with_entry, root-with_entry, IsFile-with_new, IsDir-with_new}
 use Rattle.dt_host.proofs.Gone.{is_some-without_entry, len-without_entry, root-without_entry, IsDir-without_entry, IsFile-without_entry, without_entry-none}
 use Rattle.dt_tree.specs.declared.limits.TheConstants.{NAMES_LIMIT}
-use Rattle.dt_tree.specs.Shape.{one_for, names_of, name_count, is_dir, is_link, is_bare, is_removed, IsShaped, IsUnder}
+use Rattle.dt_tree.specs.Shape.{one_for, name_count_of, name_count, is_dir, is_link, is_bare, is_removed, IsShaped, IsUnder}
 use Rattle.dt_tree.specs.FileTree.{Attributes, FileTree, is_entry_name, holds_of, IsGoodNode, IsTree, IsTreeBut}
-use Rattle.dt_tree.specs.Changes.{with_shape, with_attributes, with_mode, stamped, swept, swept_found, new_node, with_made, created, made, linked, unlinked, chmodded, one_more, one_fewer, held, released}
+use Rattle.dt_tree.specs.Changes.{with_shape, with_attributes, with_mode, tree_with_stamp, without_unused, without_unused_found, new_node, with_nameless, tree_with_new, tree_after_make, tree_after_link, tree_after_unlink, tree_after_chmod, attributes_with_hold, attributes_without_hold, tree_after_hold, tree_after_release}
 use Rattle.dt_tree.specs.Calls.{KeepsHeld}
 use Rattle.dt_tree.specs.inner.Created.{MayCreate}
 use Rattle.dt_tree.proofs.Namings.{named, weight_zero, names_of-with_entry, names_of-without_entry, name_count-with_entry, name_count-without_entry}
@@ -34,7 +34,7 @@ under_if_there v s d is there = elim (s.placed d is) [
   | inl under ↦ under
   | inr removed ↦ elim (cases_eq d v.root) [
     | inl top ↦ subst (λ x. IsUnder v x) (sym top) (itself v v.root)
-    | inr apart ↦ absurd (clash (by_parts (d == v.root) (names_of v d == 0) (grind (arith, nat_tests)) (let none = removed.nameless in grind (arith, nat_tests))) there)
+    | inr apart ↦ absurd (clash (by_parts (d == v.root) (name_count_of v d == 0) (grind (arith, nat_tests)) (let none = removed.nameless in grind (arith, nat_tests))) there)
   ]
 ]
   where
@@ -66,13 +66,13 @@ named_live t s w stays d name None e = tt
 named_live t s w stays d name (Some n) e = stays n (s.shaped.named n (named t.shape d n name (sym e)))
 
 -- link(2)
-pub linked-is : (t : FileTree) (d : ℕ) (name : List ℕ) (m stamp : ℕ) → linked t d name m stamp ≡ stamped (with_shape t (with_entry t.shape d name m)) d stamp
-unfolding linked
+pub linked-is : (t : FileTree) (d : ℕ) (name : List ℕ) (m stamp : ℕ) → tree_after_link t d name m stamp ≡ tree_with_stamp (with_shape t (with_entry t.shape d name m)) d stamp
+unfolding tree_after_link
 linked-is t d name m stamp = refl
 
 module _ (t : FileTree) (d : ℕ) (name : List ℕ) (m stamp : ℕ) (s : IsTree t) (is : IsDir t.shape d) (under : IsUnder t.shape d) (free : entry t.shape d name ≡ None) (good : IsTrue (is_entry_name name)) (live : IsLive t.shape m) (other : is_dir t.shape m ≡ false) where
-  pub IsTree-linked : name_count t.shape < NAMES_LIMIT → IsTree (linked t d name m stamp)
-  unfolding linked
+  pub IsTree-linked : name_count t.shape < NAMES_LIMIT → IsTree (tree_after_link t d name m stamp)
+  unfolding tree_after_link
   IsTree-linked room =
       let no_dir = not_dir t.shape m other in
       IsTreeBut-stamped None _ d stamp
@@ -85,20 +85,20 @@ module _ (t : FileTree) (d : ℕ) (name : List ℕ) (m stamp : ℕ) (s : IsTree 
       (let more = name_count-with_entry t.shape d name m free in omega arith)
       (λ n _. let sum = names_of-with_entry t.shape d n name m in let none = ap (weight (one_for n)) free in omega arith))
 
-  pub KeepsHeld-linked : KeepsHeld t (linked t d name m stamp)
-  unfolding linked
-  KeepsHeld-linked = KeepsHeld-then t (with_shape t (with_entry t.shape d name m)) (linked t d name m stamp)
+  pub KeepsHeld-linked : KeepsHeld t (tree_after_link t d name m stamp)
+  unfolding tree_after_link
+  KeepsHeld-linked = KeepsHeld-then t (with_shape t (with_entry t.shape d name m)) (tree_after_link t d name m stamp)
       (KeepsHeld-with_shape t (with_entry t.shape d name m) (λ n h. IsFile-bound t.shape d name m n is h) (IsDir-with_entry t.shape d name m))
       (KeepsHeld-stamped (with_shape t (with_entry t.shape d name m)) d stamp)
 
 -- unlink(2) and rmdir(2)
-pub unlinked-is : (t : FileTree) (d : ℕ) (name : List ℕ) (stamp : ℕ) (found : Option ℕ) → found ≡ entry t.shape d name → unlinked t d name stamp ≡ swept_found found (stamped (with_shape t (without_entry t.shape d name)) d stamp)
-unfolding unlinked
-unlinked-is t d name stamp found e = ap (λ found. swept_found found (stamped (with_shape t (without_entry t.shape d name)) d stamp)) (sym e)
+pub unlinked-is : (t : FileTree) (d : ℕ) (name : List ℕ) (stamp : ℕ) (found : Option ℕ) → found ≡ entry t.shape d name → tree_after_unlink t d name stamp ≡ without_unused_found found (tree_with_stamp (with_shape t (without_entry t.shape d name)) d stamp)
+unfolding tree_after_unlink
+unlinked-is t d name stamp found e = ap (λ found. without_unused_found found (tree_with_stamp (with_shape t (without_entry t.shape d name)) d stamp)) (sym e)
 
 module _ (t : FileTree) (d : ℕ) (name : List ℕ) (stamp : ℕ) (s : IsTree t) (is : IsDir t.shape d) where
   -- before the sweep
-  pub IsTreeBut-unlinked : (found : Option ℕ) → found ≡ entry t.shape d name → IfSome found (λ m. IsDir t.shape m → is_bare t.shape m ≡ true) → IsTreeBut found (stamped (with_shape t (without_entry t.shape d name)) d stamp)
+  pub IsTreeBut-unlinked : (found : Option ℕ) → found ≡ entry t.shape d name → IfSome found (λ m. IsDir t.shape m → is_bare t.shape m ≡ true) → IsTreeBut found (tree_with_stamp (with_shape t (without_entry t.shape d name)) d stamp)
   IsTreeBut-unlinked None e bare = IsTreeBut-stamped None _ d stamp (subst (λ v. IsTreeBut None (with_shape t v)) (sym (without_entry-none t.shape d name is (sym e))) s)
   IsTreeBut-unlinked (Some m) e bare =
       IsTreeBut-stamped (Some m) _ d stamp
@@ -111,32 +111,32 @@ module _ (t : FileTree) (d : ℕ) (name : List ℕ) (stamp : ℕ) (s : IsTree t)
       (let less = name_count-without_entry t.shape d name m (sym e) in omega (arith, s.few_names))
       (λ n apart. let sum = names_of-without_entry t.shape d n name in let none = ap (weight (one_for n)) (sym e) ∙ weight_zero n (Some m) apart in omega arith))
 
-  pub IsTree-unlinked : (found : Option ℕ) → found ≡ entry t.shape d name → IfSome found (λ m. IsDir t.shape m → is_bare t.shape m ≡ true) → IsTree (unlinked t d name stamp)
+  pub IsTree-unlinked : (found : Option ℕ) → found ≡ entry t.shape d name → IfSome found (λ m. IsDir t.shape m → is_bare t.shape m ≡ true) → IsTree (tree_after_unlink t d name stamp)
   IsTree-unlinked found e bare = subst IsTree (sym (unlinked-is t d name stamp found e)) (IsTree-swept_found _ found (IsTreeBut-unlinked found e bare))
 
-  pub KeepsHeld-unlinked : (found : Option ℕ) → found ≡ entry t.shape d name → IfSome found (λ m. IsDir t.shape m → is_bare t.shape m ≡ true) → KeepsHeld t (unlinked t d name stamp)
+  pub KeepsHeld-unlinked : (found : Option ℕ) → found ≡ entry t.shape d name → IfSome found (λ m. IsDir t.shape m → is_bare t.shape m ≡ true) → KeepsHeld t (tree_after_unlink t d name stamp)
   KeepsHeld-unlinked found e bare =
       let cut : FileTree = with_shape t (without_entry t.shape d name) in
       subst (λ t2. KeepsHeld t t2) (sym (unlinked-is t d name stamp found e))
-      (KeepsHeld-then t (stamped cut d stamp) (swept_found found (stamped cut d stamp))
-      (KeepsHeld-then t cut (stamped cut d stamp)
+      (KeepsHeld-then t (tree_with_stamp cut d stamp) (without_unused_found found (tree_with_stamp cut d stamp))
+      (KeepsHeld-then t cut (tree_with_stamp cut d stamp)
       (KeepsHeld-with_shape t (without_entry t.shape d name) (IsFile-without_entry t.shape d name is) (IsDir-without_entry t.shape d name))
       (KeepsHeld-stamped cut d stamp))
-      (KeepsHeld-swept_found (stamped cut d stamp) found (IsTreeBut-unlinked found e bare)))
+      (KeepsHeld-swept_found (tree_with_stamp cut d stamp) found (IsTreeBut-unlinked found e bare)))
 
 -- mkdir(2), symlink(2), and a file that is made
 module _ (t : FileTree) (d : ℕ) (name : List ℕ) (what : What) (mode stamp : ℕ) where
-  pub made-is : made t d name what mode stamp ≡ stamped (created t d name (new_node what) mode stamp) d stamp
-  unfolding made
+  pub made-is : tree_after_make t d name what mode stamp ≡ tree_with_stamp (tree_with_new t d name (new_node what) mode stamp) d stamp
+  unfolding tree_after_make
   made-is = refl
 
-  pub IsTree-made : IsTree (created t d name (new_node what) mode stamp) → IsTree (made t d name what mode stamp)
-  unfolding made
+  pub IsTree-made : IsTree (tree_with_new t d name (new_node what) mode stamp) → IsTree (tree_after_make t d name what mode stamp)
+  unfolding tree_after_make
   IsTree-made s = IsTreeBut-stamped None _ d stamp s
 
   module _ (s : IsTree t) (may : MayCreate t d name what mode) where
-    pub IsDir-created : (let new = created t d name (new_node what) mode stamp in IsDir new.shape d)
-    unfolding created
+    pub IsDir-created : (let new = tree_with_new t d name (new_node what) mode stamp in IsDir new.shape d)
+    unfolding tree_with_new
     IsDir-created = IsDir-with_entry (with_node t.shape t.next (new_node what)) d name t.next d (is_first t d name what mode stamp s may)
 
     free_attributes : get t.attributes t.next ≡ None
@@ -147,11 +147,11 @@ module _ (t : FileTree) (d : ℕ) (name : List ℕ) (what : What) (mode stamp : 
         by_found (Some a) None e f = cc
         by_found (Some a) (Some b) e f = cc
 
-    KeepsHeld-with_made : KeepsHeld t (with_made t (new_node what) mode stamp)
+    KeepsHeld-with_made : KeepsHeld t (with_nameless t (new_node what) mode stamp)
     KeepsHeld-with_made = record {
       holds = λ q. elim (cases_eq q t.next) [
         | inl same ↦
-            ap (λ x. holds_of (with_made t (new_node what) mode stamp) x) same
+            ap (λ x. holds_of (with_nameless t (new_node what) mode stamp) x) same
             ∙ ap (λ found. unwrap_or (option_map (λ (a : Attributes). a.holds) found) 0) (get-insert_same nat_cmp_total nat_cmp-IsAntisymmetric t.attributes t.next (record { mode = mode; stamp = stamp; holds = 0 }))
             ∙ sym (ap (λ x. holds_of t x) same ∙ ap (λ found. unwrap_or (option_map (λ (a : Attributes). a.holds) found) 0) free_attributes)
         | inr apart ↦ ap (λ found. unwrap_or (option_map (λ (a : Attributes). a.holds) found) 0) (get-insert_other nat_cmp_total nat_cmp-IsAntisymmetric t.attributes t.next (record { mode = mode; stamp = stamp; holds = 0 }) q apart)
@@ -160,18 +160,18 @@ module _ (t : FileTree) (d : ℕ) (name : List ℕ) (what : What) (mode stamp : 
       dirs = λ q _ h. IsDir-with_new t.shape t.next (new_node what) (free_next None t s) (bare_new what) q h;
     }
 
-    pub KeepsHeld-made : KeepsHeld t (made t d name what mode stamp)
-    unfolding made created
+    pub KeepsHeld-made : KeepsHeld t (tree_after_make t d name what mode stamp)
+    unfolding tree_after_make tree_with_new
     KeepsHeld-made =
-        let new : FileTree = with_made t (new_node what) mode stamp in
+        let new : FileTree = with_nameless t (new_node what) mode stamp in
         let is = is_first t d name what mode stamp s may in
-        KeepsHeld-then t new (made t d name what mode stamp) KeepsHeld-with_made
-        (KeepsHeld-then new (with_shape new (with_entry new.shape d name t.next)) (made t d name what mode stamp)
+        KeepsHeld-then t new (tree_after_make t d name what mode stamp) KeepsHeld-with_made
+        (KeepsHeld-then new (with_shape new (with_entry new.shape d name t.next)) (tree_after_make t d name what mode stamp)
         (KeepsHeld-with_shape new (with_entry new.shape d name t.next) (λ n h. IsFile-bound new.shape d name t.next n is h) (IsDir-with_entry new.shape d name t.next))
         (KeepsHeld-stamped (with_shape new (with_entry new.shape d name t.next)) d stamp))
 
 -- chmod(2)
-pub IsTree-chmodded : (t : FileTree) (n mode : ℕ) → IsTree t → is_link t.shape n ≡ false → mode ≤ MODE_LIMIT → IsTree (chmodded t n mode)
+pub IsTree-chmodded : (t : FileTree) (n mode : ℕ) → IsTree t → is_link t.shape n ≡ false → mode ≤ MODE_LIMIT → IsTree (tree_after_chmod t n mode)
 IsTree-chmodded t n mode s no_link low = IsTreeBut-with_attributes t n (with_mode mode) None s (λ node a at good. by_node node a.mode (ap (λ found. is_some (option_and_then link_target found)) (sym at) ∙ no_link) good) (λ _ a. omega arith)
   where
     by_node : (node : Node) (was : ℕ) → is_some (link_target node) ≡ false → IsGoodNode node was → IsGoodNode node mode
@@ -179,20 +179,20 @@ IsTree-chmodded t n mode s no_link low = IsTreeBut-with_attributes t n (with_mod
     by_node (dir names) was e good = (good.0, low)
     by_node (link target) was e good = cc
 
-pub KeepsHeld-chmodded : (t : FileTree) (n mode : ℕ) → KeepsHeld t (chmodded t n mode)
+pub KeepsHeld-chmodded : (t : FileTree) (n mode : ℕ) → KeepsHeld t (tree_after_chmod t n mode)
 KeepsHeld-chmodded t n mode = KeepsHeld-with_attributes t n (with_mode mode) (λ a. refl)
 
 -- a hold
-pub IsTree-held : (t : FileTree) (n : ℕ) → IsTree t → IsTree (held t n)
-IsTree-held t n s = IsTreeBut-with_attributes t n one_more None s (λ node a _ good. good) (λ _ a. omega arith)
+pub IsTree-held : (t : FileTree) (n : ℕ) → IsTree t → IsTree (tree_after_hold t n)
+IsTree-held t n s = IsTreeBut-with_attributes t n attributes_with_hold None s (λ node a _ good. good) (λ _ a. omega arith)
 
 -- the end of a hold
-pub released-is : (t : FileTree) (n : ℕ) → released t n ≡ swept (with_attributes t n one_fewer) n
-unfolding released
+pub released-is : (t : FileTree) (n : ℕ) → tree_after_release t n ≡ without_unused (with_attributes t n attributes_without_hold) n
+unfolding tree_after_release
 released-is t n = refl
 
-pub IsTree-released : (t : FileTree) (n : ℕ) → IsTree t → IsTree (released t n)
-unfolding released
+pub IsTree-released : (t : FileTree) (n : ℕ) → IsTree t → IsTree (tree_after_release t n)
+unfolding tree_after_release
 IsTree-released t n s = IsTree-swept _ n (IsTreeBut-released t n s)
 
 -- the tests of a call, in turn

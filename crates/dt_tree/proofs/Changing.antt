@@ -6,11 +6,11 @@ use Rattle.std.specs.Prelude.{is_some, IsSome, unwrap_or, option_map, ◌==◌}
 use Rattle.std.specs.Cmp.{nat_cmp_total}
 use Rattle.std.specs.FinMap.{get, remove, len, len-remove, nat_cmp-IsAntisymmetric}
 use Rattle.dt_host.specs.World.{Forest, Node, node_at, without_node, IsLive, IsBare}
-use Rattle.dt_host.proofs.Maps.{at_insert, at_remove, get-remove_other}
+use Rattle.dt_tables.proofs.Maps.{at_insert, at_remove, get-remove_other}
 use Rattle.dt_tree.specs.declared.limits.TheConstants.{ROOT, NAMES_LIMIT}
-use Rattle.dt_tree.specs.Shape.{names_of, name_count, IsShaped}
+use Rattle.dt_tree.specs.Shape.{name_count_of, name_count, IsShaped}
 use Rattle.dt_tree.specs.FileTree.{Attributes, FileTree, holds_of, IsGoodNode, IsTreeBut, IsTree}
-use Rattle.dt_tree.specs.Changes.{with_shape, put_back, with_attributes, with_stamp, one_fewer, stamped, is_unused, tree_without, swept, swept_found}
+use Rattle.dt_tree.specs.Changes.{with_shape, with_some, with_attributes, with_stamp, attributes_without_hold, tree_with_stamp, is_unused, tree_without, without_unused, without_unused_found}
 use Rattle.dt_tree.proofs.Namings.{names_of-without_node, name_count-without_node}
 use Rattle.dt_tree.proofs.Shapes.{shaped-without_node, bare_if_nameless}
 
@@ -28,7 +28,7 @@ module _ (t : FileTree) (k : ℕ) (f : Attributes → Attributes) where
   unfolding with_attributes
   at_attributes P q here there = by_found (get t.attributes k) refl
     where
-      by_found : (found : Option Attributes) → get t.attributes k ≡ found → P (get (put_back t.attributes k (option_map f found)) q)
+      by_found : (found : Option Attributes) → get t.attributes k ≡ found → P (get (with_some t.attributes k (option_map f found)) q)
       by_found None e = elim (cases_eq q k) [
         | inl same ↦ subst (λ found. P found) (ap (option_map f) e ∙ sym (ap (get t.attributes) same ∙ e)) (here same)
         | inr apart ↦ there apart
@@ -65,7 +65,7 @@ module _ (t : FileTree) (k : ℕ) (f : Attributes → Attributes) where
     fresh = λ n live. subst (λ next. n < next) (sym next-with_attributes) (s.fresh n (back n live));
     few = subst (λ (v : Forest). len v.nodes ≤ 4096) (sym shape-with_attributes) s.few;
     few_names = subst (λ v. name_count v ≤ NAMES_LIMIT) (sym shape-with_attributes) s.few_names;
-    used = λ n live low apart. subst (λ v. 1 ≤ names_of v n + holds_of (with_attributes t k f) n) (sym shape-with_attributes) (used n (back n live) low apart);
+    used = λ n live low apart. subst (λ v. 1 ≤ name_count_of v n + holds_of (with_attributes t k f) n) (sym shape-with_attributes) (used n (back n live) low apart);
   }
     where
       back : (n : ℕ) → (let new = with_attributes t k f in IsLive new.shape n) → IsLive t.shape n
@@ -82,8 +82,8 @@ module _ (t : FileTree) (k : ℕ) (f : Attributes → Attributes) where
               let new : f a ≡ b = cc in
               subst (λ (x : Attributes). IsGoodNode node x.mode) new (good node a (ap (node_at t.shape) (sym same) ∙ at) (s.good n node a at (ap (get t.attributes) same ∙ e)))
 
-      used : (n : ℕ) → IsLive t.shape n → n ≢ ROOT → lost ≢ Some n → 1 ≤ names_of t.shape n + holds_of (with_attributes t k f) n
-      used n live low apart = at_attributes (λ found. 1 ≤ names_of t.shape n + unwrap_or (option_map (λ a. a.holds) found) 0) n
+      used : (n : ℕ) → IsLive t.shape n → n ≢ ROOT → lost ≢ Some n → 1 ≤ name_count_of t.shape n + holds_of (with_attributes t k f) n
+      used n live low apart = at_attributes (λ found. 1 ≤ name_count_of t.shape n + unwrap_or (option_map (λ a. a.holds) found) 0) n
           (λ same. let grown = by_found (get t.attributes k) (λ is. apart (is ∙ ap Some (sym same))) in let at = ap (holds_of t) same in omega (arith, s.used n live low apart))
           (λ _. s.used n live low apart)
         where
@@ -95,15 +95,15 @@ module _ (t : FileTree) (k : ℕ) (f : Attributes → Attributes) where
 pub IsTreeBut-weaker : (lost : Option ℕ) (t : FileTree) → IsTree t → IsTreeBut lost t
 IsTreeBut-weaker lost t s = record { shaped = s.shaped; root = s.root; same = s.same; good = s.good; low = s.low; fresh = s.fresh; few = s.few; few_names = s.few_names; used = λ n live low _. s.used n live low (λ e. cc) }
 
-pub IsTreeBut-stamped : (lost : Option ℕ) (t : FileTree) (k stamp : ℕ) → IsTreeBut lost t → IsTreeBut lost (stamped t k stamp)
+pub IsTreeBut-stamped : (lost : Option ℕ) (t : FileTree) (k stamp : ℕ) → IsTreeBut lost t → IsTreeBut lost (tree_with_stamp t k stamp)
 IsTreeBut-stamped lost t k stamp s = IsTreeBut-with_attributes t k (with_stamp stamp) lost s (λ node a _ good. good) (λ _ a. omega arith)
 
 -- a hold fewer may leave the node unused
-pub IsTreeBut-released : (t : FileTree) (n : ℕ) → IsTree t → IsTreeBut (Some n) (with_attributes t n one_fewer)
-IsTreeBut-released t n s = IsTreeBut-with_attributes t n one_fewer (Some n) (IsTreeBut-weaker (Some n) t s) (λ node a _ good. good) (λ apart. absurd (apart refl))
+pub IsTreeBut-released : (t : FileTree) (n : ℕ) → IsTree t → IsTreeBut (Some n) (with_attributes t n attributes_without_hold)
+IsTreeBut-released t n s = IsTreeBut-with_attributes t n attributes_without_hold (Some n) (IsTreeBut-weaker (Some n) t s) (λ node a _ good. good) (λ apart. absurd (apart refl))
 
 -- a shape of the same nodes, in which all but one have as many names
-pub IsTreeBut-with_shape : (lost : Option ℕ) (t : FileTree) (w : Forest) → IsTree t → IsShaped w → w.root ≡ t.shape.root → ((n : ℕ) → is_some (node_at w n) ≡ is_some (node_at t.shape n)) → len w.nodes ≡ len t.shape.nodes → ((n : ℕ) (node : Node) (a : Attributes) → node_at w n ≡ Some node → get t.attributes n ≡ Some a → IsGoodNode node a.mode) → name_count w ≤ NAMES_LIMIT → ((n : ℕ) → lost ≢ Some n → names_of t.shape n ≤ names_of w n) → IsTreeBut lost (with_shape t w)
+pub IsTreeBut-with_shape : (lost : Option ℕ) (t : FileTree) (w : Forest) → IsTree t → IsShaped w → w.root ≡ t.shape.root → ((n : ℕ) → is_some (node_at w n) ≡ is_some (node_at t.shape n)) → len w.nodes ≡ len t.shape.nodes → ((n : ℕ) (node : Node) (a : Attributes) → node_at w n ≡ Some node → get t.attributes n ≡ Some a → IsGoodNode node a.mode) → name_count w ≤ NAMES_LIMIT → ((n : ℕ) → lost ≢ Some n → name_count_of t.shape n ≤ name_count_of w n) → IsTreeBut lost (with_shape t w)
 IsTreeBut-with_shape lost t w s shaped top same size good few_names more = record {
   shaped = shaped;
   root = top ∙ s.root;
@@ -133,34 +133,34 @@ used_if false true false e f g = refl
 used_if false false c e f g = cc
 
 -- an unused node is not the root, and has neither names nor entries
-pub unused_node : (t : FileTree) (n : ℕ) → IsTreeBut (Some n) t → is_unused t n ≡ true → (n ≢ 1) × (names_of t.shape n ≡ 0) × IsBare t.shape n
+pub unused_node : (t : FileTree) (n : ℕ) → IsTreeBut (Some n) t → is_unused t n ≡ true → (n ≢ 1) × (name_count_of t.shape n ≡ 0) × IsBare t.shape n
 unused_node t n s e =
-    let parts = parts_of (n == 1) (names_of t.shape n == 0) (holds_of t n == 0) e in
+    let parts = parts_of (n == 1) (name_count_of t.shape n == 0) (holds_of t n == 0) e in
     let low : n ≢ 1 = grind (arith, nat_tests, parts.0) in
-    let none : names_of t.shape n ≡ 0 = grind (arith, nat_tests, parts.1) in
+    let none : name_count_of t.shape n ≡ 0 = grind (arith, nat_tests, parts.1) in
     (low, none, bare_if_nameless t.shape s.shaped n none (λ same. low (same ∙ s.root)))
 
 -- nor does anything hold it
 pub unused_held : (t : FileTree) (n : ℕ) → is_unused t n ≡ true → holds_of t n ≡ 0
-unused_held t n e = let parts = parts_of (n == 1) (names_of t.shape n == 0) (holds_of t n == 0) e in grind (arith, nat_tests, parts.2)
+unused_held t n e = let parts = parts_of (n == 1) (name_count_of t.shape n == 0) (holds_of t n == 0) e in grind (arith, nat_tests, parts.2)
 
-pub swept-stays : (t : FileTree) (n : ℕ) → is_unused t n ≡ false → t ≡ swept t n
-unfolding swept
+pub swept-stays : (t : FileTree) (n : ℕ) → is_unused t n ≡ false → t ≡ without_unused t n
+unfolding without_unused
 swept-stays t n e = sym (ap (λ b. cond b (tree_without t n) t) e)
 
-pub swept-goes : (t : FileTree) (n : ℕ) → is_unused t n ≡ true → tree_without t n ≡ swept t n
-unfolding swept
+pub swept-goes : (t : FileTree) (n : ℕ) → is_unused t n ≡ true → tree_without t n ≡ without_unused t n
+unfolding without_unused
 swept-goes t n e = sym (ap (λ b. cond b (tree_without t n) t) e)
 
 -- a fact of a swept tree, by whether the node goes
-pub at_swept : (P : FileTree → Type 0) (t : FileTree) (n : ℕ) → (is_unused t n ≡ true → P (tree_without t n)) → (is_unused t n ≡ false → P t) → P (swept t n)
+pub at_swept : (P : FileTree → Type 0) (t : FileTree) (n : ℕ) → (is_unused t n ≡ true → P (tree_without t n)) → (is_unused t n ≡ false → P t) → P (without_unused t n)
 at_swept P t n goes stays = by_test (is_unused t n) refl
   where
-    by_test : (b : Bool) → is_unused t n ≡ b → P (swept t n)
+    by_test : (b : Bool) → is_unused t n ≡ b → P (without_unused t n)
     by_test true e = subst P (swept-goes t n e) (goes e)
     by_test false e = subst P (swept-stays t n e) (stays e)
 
-pub IsTree-swept : (t : FileTree) (n : ℕ) → IsTreeBut (Some n) t → IsTree (swept t n)
+pub IsTree-swept : (t : FileTree) (n : ℕ) → IsTreeBut (Some n) t → IsTree (without_unused t n)
 IsTree-swept t n s = at_swept IsTree t n gone stays
   where
     gone : is_unused t n ≡ true → IsTree (tree_without t n)
@@ -176,7 +176,7 @@ IsTree-swept t n s = at_swept IsTree t n gone stays
           fresh = λ q live. s.fresh q (there q live);
           few = omega (arith, fewer, s.few);
           few_names = let same = name_count-without_node t.shape n bare in omega (arith, s.few_names);
-          used = λ q live below _. subst (λ h. 1 ≤ names_of (without_node t.shape n) q + h) (sym (holds_still q (apart q live))) (subst (λ k. 1 ≤ k + holds_of t q) (sym (names_of-without_node t.shape n q bare)) (s.used q (there q live) below (λ same. apart q live cc)));
+          used = λ q live below _. subst (λ h. 1 ≤ name_count_of (without_node t.shape n) q + h) (sym (holds_still q (apart q live))) (subst (λ k. 1 ≤ k + holds_of t q) (sym (names_of-without_node t.shape n q bare)) (s.used q (there q live) below (λ same. apart q live cc)));
         }
       where
         both_gone : (q : ℕ) → is_some (get (remove t.attributes n) q) ≡ is_some (node_at (without_node t.shape n) q)
@@ -217,17 +217,17 @@ IsTree-swept t n s = at_swept IsTree t n gone stays
       few = s.few;
       few_names = s.few_names;
       used = λ q live low _. elim (cases_eq q n) [
-        | inl same ↦ subst (λ x. 1 ≤ names_of t.shape x + holds_of t x) (sym same) (still (λ h. low (same ∙ h)))
+        | inl same ↦ subst (λ x. 1 ≤ name_count_of t.shape x + holds_of t x) (sym same) (still (λ h. low (same ∙ h)))
         | inr apart ↦ s.used q live low (λ same. apart cc)
       ];
     }
       where
-        still : n ≢ 1 → 1 ≤ names_of t.shape n + holds_of t n
-        still low = elim (cases_eq (names_of t.shape n) 0) [
-          | inl none ↦ let held = used_if (n == 1) (names_of t.shape n == 0) (holds_of t n == 0) e (grind (arith, nat_tests)) (grind (arith, nat_tests)) in let some : holds_of t n ≢ 0 = grind (arith, nat_tests, held) in omega arith
+        still : n ≢ 1 → 1 ≤ name_count_of t.shape n + holds_of t n
+        still low = elim (cases_eq (name_count_of t.shape n) 0) [
+          | inl none ↦ let held = used_if (n == 1) (name_count_of t.shape n == 0) (holds_of t n == 0) e (grind (arith, nat_tests)) (grind (arith, nat_tests)) in let some : holds_of t n ≢ 0 = grind (arith, nat_tests, held) in omega arith
           | inr some ↦ omega arith
         ]
 
-pub IsTree-swept_found : (t : FileTree) (found : Option ℕ) → IsTreeBut found t → IsTree (swept_found found t)
+pub IsTree-swept_found : (t : FileTree) (found : Option ℕ) → IsTreeBut found t → IsTree (without_unused_found found t)
 IsTree-swept_found t None s = s
 IsTree-swept_found t (Some n) s = IsTree-swept t n s

@@ -9,21 +9,21 @@ use Rattle.std.specs.Cmp.Lexicographic.{slice_cmp, nat_list_cmp_total}
 use Rattle.std.specs.Ordering.{nat_cmp}
 use Rattle.std.specs.FinMap.{empty, get, len, get-empty, len-empty}
 use Rattle.dt_base.specs.declared.limits.TheConstants.{FILE_LIMIT, MODE_LIMIT}
-use Rattle.dt_base.specs.Bytes.{overwritten, padded, resized}
+use Rattle.dt_base.specs.Bytes.{with_bytes_at, with_trailing_zeros, with_length}
 use Rattle.dt_host.specs.World.{World, Forest, Node, file, dir, link, node_at, dir_names, file_bytes, file_at, names_at, entry, content, with_node, with_bytes, with_forest, IsDir, IsFile, IsLive}
 use Rattle.dt_host.specs.Legal.{with_write, with_size, Cuts, WritesAll}
-use Rattle.dt_host.specs.Total.{total}
+use Rattle.dt_tables.specs.Total.{total}
 use Rattle.dt_host.proofs.Changes.{apart_from_file}
-use Rattle.dt_host.proofs.Totals.{total-empty}
+use Rattle.dt_tables.proofs.Totals.{total-empty}
 use Rattle.dt_host.proofs.Worlds.{content-with_bytes, with_bytes-with_bytes, with_bytes-content}
 use Rattle.dt_host.proofs.Spots.{IsDir-entry, at_node, entry_other, entry_here, is_some-with_node, len-with_node}
 use Rattle.dt_tree.specs.declared.inode.Inode.{Inode}
-use Rattle.dt_tree.specs.Shape.{one_for, names_of, name_count, IsUnder, IsRemoved, IsShaped}
+use Rattle.dt_tree.specs.Shape.{one_for, name_count_of, name_count, IsUnder, IsRemoved, IsShaped}
 use Rattle.dt_tree.specs.FileTree.{Attributes, FileTree, IsGoodNode, IsTree}
-use Rattle.dt_tree.specs.Changes.{with_shape, stamped, written, truncated}
+use Rattle.dt_tree.specs.Changes.{with_shape, tree_with_stamp, tree_after_write, tree_after_truncate}
 use Rattle.dt_tree.specs.Calls.{KeepsHeld}
-use Rattle.dt_tree.specs.inner.Files.{with_content, with_padding, with_written}
-use Rattle.dt_tree.specs.Table.{Table, shape_of, tree_of, kind_of, IsUp, Keeps, Mirrors, Stands}
+use Rattle.dt_tree.specs.inner.Files.{with_content, with_padding, with_padded_write}
+use Rattle.dt_tree.specs.Table.{Table, shape_of, tree_of, kind_of, IsUp, IsInodeOf, IsMirror, Stands}
 use Rattle.dt_tree.proofs.Namings.{names_of-with_node, name_count-with_node}
 use Rattle.dt_tree.proofs.Shapes.{carry, inside}
 use Rattle.dt_tree.proofs.Mirroring.{shape-with_node, file_at-inode}
@@ -62,7 +62,7 @@ module _ (v : Forest) (n : ℕ) (bytes : List ℕ) (is : IsFile v n) where
   no_names = ap (λ found. unwrap_or (option_and_then dir_names found) empty) (file_node (node_at v n) is).1
 
   -- so do the counts
-  pub names_of-with_file : (k : ℕ) → names_of (with_node v n (file bytes)) k ≡ names_of v k
+  pub names_of-with_file : (k : ℕ) → name_count_of (with_node v n (file bytes)) k ≡ name_count_of v k
   names_of-with_file k =
       let sum = names_of-with_node v n k (file bytes) in
       let none = total-empty nat_list_cmp_total (one_for k) in
@@ -123,7 +123,7 @@ IsTree-with_bytes t n bytes s is fits =
     mode q same a kept = let old = file_node (node_at t.shape n) is in (s.good q (file old.0) a (ap (node_at t.shape) same ∙ old.1) kept).1
 
 -- bytes written at the host are written in the tree
-module _ (t : Table) (v : Forest) (n : ℕ) (inode : Inode) (bytes : List ℕ) (s : Mirrors t v) (at : get t.inodes n ≡ Some inode) (is : IsFile (shape_of t v) n) where
+module _ (t : Table) (v : Forest) (n : ℕ) (inode : Inode) (bytes : List ℕ) (s : IsMirror t v) (at : get t.inodes n ≡ Some inode) (is : IsFile (shape_of t v) n) where
   pub tree-with_bytes : tree_of t (with_bytes v inode.real bytes) ≡ with_shape (tree_of t v) (with_bytes (shape_of t v) n bytes)
   unfolding with_bytes
   tree-with_bytes = ap (with_shape (tree_of t v)) (shape-with_node t v s.pairs n inode (file bytes) at)
@@ -131,11 +131,11 @@ module _ (t : Table) (v : Forest) (n : ℕ) (inode : Inode) (bytes : List ℕ) (
   pub real_file : IsFile v inode.real
   real_file = subst (λ found. IsSome found) (file_at-inode t v s.pairs n inode at) is
 
-  pub mirrors-with_bytes : Mirrors t (with_bytes v inode.real bytes)
+  pub mirrors-with_bytes : IsMirror t (with_bytes v inode.real bytes)
   unfolding with_bytes
   mirrors-with_bytes = record {
     pairs = pairs-same_nodes t v (with_node v inode.real (file bytes)) s.pairs refl (same_nodes v inode.real bytes real_file) (λ d real name e. by_found _ _ (same_nodes v inode.real bytes real_file real) (s.pairs.closed d real name (sym (entry-with_file v inode.real bytes real_file d name) ∙ e)));
-    kept = λ q other e. subst (λ shape. Keeps shape q other) (sym (shape-with_node t v s.pairs n inode (file bytes) at)) (keeps q other (s.kept q other e));
+    kept = λ q other e. subst (λ shape. IsInodeOf shape q other) (sym (shape-with_node t v s.pairs n inode (file bytes) at)) (keeps q other (s.kept q other e));
     counted = s.counted ∙ sym (ap (λ shape. name_count shape) (shape-with_node t v s.pairs n inode (file bytes) at) ∙ name_count-with_file (shape_of t v) n bytes is);
   }
     where
@@ -147,7 +147,7 @@ module _ (t : Table) (v : Forest) (n : ℕ) (inode : Inode) (bytes : List ℕ) (
       up_still q None u = names_of-with_file (shape_of t v) n bytes is q ∙ u
       up_still q (Some d) u = (u.0, entry-with_file (shape_of t v) n bytes is d u.0 ∙ u.1)
 
-      keeps : (q : ℕ) (other : Inode) → Keeps (shape_of t v) q other → Keeps (with_node (shape_of t v) n (file bytes)) q other
+      keeps : (q : ℕ) (other : Inode) → IsInodeOf (shape_of t v) q other → IsInodeOf (with_node (shape_of t v) n (file bytes)) q other
       keeps q other k = record {
         kind = at_node (shape_of t v) n (file bytes) (λ found. option_map kind_of found ≡ Some other.kind) q
             (λ same. sym (ap (λ x. option_map kind_of (node_at (shape_of t v) x)) same ∙ ap (option_map kind_of) (file_node (node_at (shape_of t v) n) is).1) ∙ k.kind)
@@ -157,34 +157,34 @@ module _ (t : Table) (v : Forest) (n : ℕ) (inode : Inode) (bytes : List ℕ) (
       }
 
 -- bytes that are long enough stay as they are
-pub padded-long : (old : List ℕ) (size : ℕ) → size ≤ length old → padded old size ≡ old
+pub padded-long : (old : List ℕ) (size : ℕ) → size ≤ length old → with_trailing_zeros old size ≡ old
 padded-long old size h = let none : size - length old ≡ 0 = omega arith in ap (λ k. old ++ replicate k 0) none ∙ append-nil old
 
-length-padded : (old : List ℕ) (size : ℕ) → length (padded old size) ≡ length old + (size - length old)
+length-padded : (old : List ℕ) (size : ℕ) → length (with_trailing_zeros old size) ≡ length old + (size - length old)
 length-padded old size = length-append old (replicate (size - length old) 0) ∙ ap (λ k. length old + k) (length-replicate {A = ℕ} (size - length old) 0)
 
 -- shorter ones are resized
-pub padded-short : (old : List ℕ) (size : ℕ) → length old ≤ size → resized old size ≡ padded old size
+pub padded-short : (old : List ℕ) (size : ℕ) → length old ≤ size → with_length old size ≡ with_trailing_zeros old size
 padded-short old size h =
-    let all : length (padded old size) ≡ size = omega (arith, length-padded old size) in
-    ap (λ k. take k (padded old size)) (sym all) ∙ take-length (padded old size)
+    let all : length (with_trailing_zeros old size) ≡ size = omega (arith, length-padded old size) in
+    ap (λ k. take k (with_trailing_zeros old size)) (sym all) ∙ take-length (with_trailing_zeros old size)
 
-pub reaches : (old : List ℕ) (size : ℕ) → size ≤ length (padded old size)
+pub reaches : (old : List ℕ) (size : ℕ) → size ≤ length (with_trailing_zeros old size)
 reaches old size = omega (arith, length-padded old size)
 
 -- a file that is written or cut stays within its limit
-pub fits-written : (old : List ℕ) (off limit : ℕ) (bytes : List ℕ) → length old ≤ limit → off + length bytes ≤ limit → length (overwritten (padded old off) off bytes) ≤ limit
+pub fits-written : (old : List ℕ) (off limit : ℕ) (bytes : List ℕ) → length old ≤ limit → off + length bytes ≤ limit → length (with_bytes_at (with_trailing_zeros old off) off bytes) ≤ limit
 fits-written old off limit bytes a b =
     let all = length-padded old off in
-    let x = length-append (take off (padded old off) ++ bytes) (drop (off + length bytes) (padded old off)) in
-    let y = length-append (take off (padded old off)) bytes in
-    let z : length (take off (padded old off)) ≡ off = length-take-le off (padded old off) (reaches old off) in
-    let w : length (drop (off + length bytes) (padded old off)) ≡ length (padded old off) - (off + length bytes) = length-drop (off + length bytes) (padded old off) in
+    let x = length-append (take off (with_trailing_zeros old off) ++ bytes) (drop (off + length bytes) (with_trailing_zeros old off)) in
+    let y = length-append (take off (with_trailing_zeros old off)) bytes in
+    let z : length (take off (with_trailing_zeros old off)) ≡ off = length-take-le off (with_trailing_zeros old off) (reaches old off) in
+    let w : length (drop (off + length bytes) (with_trailing_zeros old off)) ≡ length (with_trailing_zeros old off) - (off + length bytes) = length-drop (off + length bytes) (with_trailing_zeros old off) in
     omega arith
 
-pub fits-resized : (old : List ℕ) (size limit : ℕ) → size ≤ limit → length (resized old size) ≤ limit
+pub fits-resized : (old : List ℕ) (size limit : ℕ) → size ≤ limit → length (with_length old size) ≤ limit
 fits-resized old size limit h =
-    let all : length (take size (padded old size)) ≡ size = length-take-le size (padded old size) (reaches old size) in
+    let all : length (take size (with_trailing_zeros old size)) ≡ size = length-take-le size (with_trailing_zeros old size) (reaches old size) in
     omega arith
 
 -- the size that is told
@@ -206,12 +206,12 @@ cut-pads old mid new n off (Ok _) same h e = e ∙ ap (λ w. with_size w n off) 
 cut-pads old mid new n off (Err _) same h e = tt
 
 -- and the write after it
-pub writes-padded : {A E : Type 0} (old mid new : World) (n off : ℕ) (bytes : List ℕ) (r : Result A E) → mid ≡ with_padding old n off → WritesAll mid n off bytes r new → OnOk r (new ≡ with_written old n off bytes)
+pub writes-padded : {A E : Type 0} (old mid new : World) (n off : ℕ) (bytes : List ℕ) (r : Result A E) → mid ≡ with_padding old n off → WritesAll mid n off bytes r new → OnOk r (new ≡ with_padded_write old n off bytes)
 writes-padded old mid new n off bytes (Ok _) a b =
     b
     ∙ ap (λ w. with_write w n off bytes) a
-    ∙ ap (λ found. with_content (with_padding old n off) n (overwritten found off bytes)) (content-with_bytes old.forest n (padded (content old.forest n) off))
-    ∙ ap (with_forest old) (with_bytes-with_bytes old.forest n (padded (content old.forest n) off) (overwritten (padded (content old.forest n) off) off bytes))
+    ∙ ap (λ found. with_content (with_padding old n off) n (with_bytes_at found off bytes)) (content-with_bytes old.forest n (with_trailing_zeros (content old.forest n) off))
+    ∙ ap (with_forest old) (with_bytes-with_bytes old.forest n (with_trailing_zeros (content old.forest n) off) (with_bytes_at (with_trailing_zeros (content old.forest n) off) off bytes))
 writes-padded old mid new n off bytes (Err _) a b = tt
 
 -- a file of a tree is within the limit
@@ -227,61 +227,61 @@ content-fits t n s is =
     by_found (Some a) e = (a, refl)
 
 -- a file tree after a write or a cut
-pub IsTree-written : (t : FileTree) (n off : ℕ) (bytes : List ℕ) (stamp : ℕ) → IsTree t → IsFile t.shape n → off + length bytes ≤ FILE_LIMIT → IsTree (written t n off bytes stamp)
-unfolding written
+pub IsTree-written : (t : FileTree) (n off : ℕ) (bytes : List ℕ) (stamp : ℕ) → IsTree t → IsFile t.shape n → off + length bytes ≤ FILE_LIMIT → IsTree (tree_after_write t n off bytes stamp)
+unfolding tree_after_write
 IsTree-written t n off bytes stamp s is h = IsTreeBut-stamped None _ n stamp (IsTree-with_bytes t n _ s is (fits-written (content t.shape n) off FILE_LIMIT bytes (content-fits t n s is) h))
 
-pub IsTree-truncated : (t : FileTree) (n size stamp : ℕ) → IsTree t → IsFile t.shape n → size ≤ FILE_LIMIT → IsTree (truncated t n size stamp)
-unfolding truncated
+pub IsTree-truncated : (t : FileTree) (n size stamp : ℕ) → IsTree t → IsFile t.shape n → size ≤ FILE_LIMIT → IsTree (tree_after_truncate t n size stamp)
+unfolding tree_after_truncate
 IsTree-truncated t n size stamp s is h = IsTreeBut-stamped None _ n stamp (IsTree-with_bytes t n _ s is (fits-resized (content t.shape n) size FILE_LIMIT h))
 
-keeps-with_bytes : (t : FileTree) (n : ℕ) (bytes : List ℕ) (stamp : ℕ) → IsFile t.shape n → KeepsHeld t (stamped (with_shape t (with_bytes t.shape n bytes)) n stamp)
+keeps-with_bytes : (t : FileTree) (n : ℕ) (bytes : List ℕ) (stamp : ℕ) → IsFile t.shape n → KeepsHeld t (tree_with_stamp (with_shape t (with_bytes t.shape n bytes)) n stamp)
 unfolding with_bytes
 keeps-with_bytes t n bytes stamp is =
     let new : FileTree = with_shape t (with_bytes t.shape n bytes) in
-    KeepsHeld-then t new (stamped new n stamp)
+    KeepsHeld-then t new (tree_with_stamp new n stamp)
     (KeepsHeld-with_shape t (with_bytes t.shape n bytes) (IsFile-with_file t.shape n bytes is) (IsDir-with_file t.shape n bytes is))
     (KeepsHeld-stamped new n stamp)
 
-pub keeps-written : (t : FileTree) (n off : ℕ) (bytes : List ℕ) (stamp : ℕ) → IsFile t.shape n → KeepsHeld t (written t n off bytes stamp)
-unfolding written
+pub keeps-written : (t : FileTree) (n off : ℕ) (bytes : List ℕ) (stamp : ℕ) → IsFile t.shape n → KeepsHeld t (tree_after_write t n off bytes stamp)
+unfolding tree_after_write
 keeps-written t n off bytes stamp is = keeps-with_bytes t n _ stamp is
 
-pub keeps-truncated : (t : FileTree) (n size stamp : ℕ) → IsFile t.shape n → KeepsHeld t (truncated t n size stamp)
-unfolding truncated
+pub keeps-truncated : (t : FileTree) (n size stamp : ℕ) → IsFile t.shape n → KeepsHeld t (tree_after_truncate t n size stamp)
+unfolding tree_after_truncate
 keeps-truncated t n size stamp is = keeps-with_bytes t n _ stamp is
 
 -- what was written at the host, and a stamp
-module _ (old new : Table) (w after : World) (n : ℕ) (inode : Inode) (stamp : ℕ) (s : Stands old w.forest) (at : get old.inodes n ≡ Some inode) (is : IsFile (shape_of old w.forest) n) (mirrors : (v : Forest) → Mirrors old v → Mirrors new v) (tree : (v : Forest) → Mirrors old v → tree_of new v ≡ stamped (tree_of old v) n stamp) where
-  still : (bytes : List ℕ) → after ≡ with_content w inode.real bytes → Mirrors old after.forest
-  still bytes e = subst (λ (w : World). Mirrors old w.forest) (sym e) (mirrors-with_bytes old w.forest n inode bytes s.mirrors at is)
+module _ (old new : Table) (w after : World) (n : ℕ) (inode : Inode) (stamp : ℕ) (s : Stands old w.forest) (at : get old.inodes n ≡ Some inode) (is : IsFile (shape_of old w.forest) n) (mirrors : (v : Forest) → IsMirror old v → IsMirror new v) (tree : (v : Forest) → IsMirror old v → tree_of new v ≡ tree_with_stamp (tree_of old v) n stamp) where
+  still : (bytes : List ℕ) → after ≡ with_content w inode.real bytes → IsMirror old after.forest
+  still bytes e = subst (λ (w : World). IsMirror old w.forest) (sym e) (mirrors-with_bytes old w.forest n inode bytes s.mirrors at is)
 
-  same_tree : (bytes : List ℕ) → after ≡ with_content w inode.real bytes → tree_of new after.forest ≡ stamped (with_shape (tree_of old w.forest) (with_bytes (shape_of old w.forest) n bytes)) n stamp
+  same_tree : (bytes : List ℕ) → after ≡ with_content w inode.real bytes → tree_of new after.forest ≡ tree_with_stamp (with_shape (tree_of old w.forest) (with_bytes (shape_of old w.forest) n bytes)) n stamp
   same_tree bytes e =
       tree after.forest (still bytes e)
-      ∙ ap (λ (w : World). stamped (tree_of old w.forest) n stamp) e
-      ∙ ap (λ t. stamped t n stamp) (tree-with_bytes old w.forest n inode bytes s.mirrors at is)
+      ∙ ap (λ (w : World). tree_with_stamp (tree_of old w.forest) n stamp) e
+      ∙ ap (λ t. tree_with_stamp t n stamp) (tree-with_bytes old w.forest n inode bytes s.mirrors at is)
 
-  pub tree-written : (off : ℕ) (bytes : List ℕ) → after ≡ with_written w inode.real off bytes → tree_of new after.forest ≡ written (tree_of old w.forest) n off bytes stamp
-  unfolding written
+  pub tree-written : (off : ℕ) (bytes : List ℕ) → after ≡ with_padded_write w inode.real off bytes → tree_of new after.forest ≡ tree_after_write (tree_of old w.forest) n off bytes stamp
+  unfolding tree_after_write
   tree-written off bytes e =
-      same_tree (overwritten (padded (content w.forest inode.real) off) off bytes) e
-      ∙ ap (λ x. stamped (with_shape (tree_of old w.forest) (with_bytes (shape_of old w.forest) n (overwritten (padded x off) off bytes))) n stamp) (sym (content-inode old w.forest s.mirrors.pairs n inode at))
+      same_tree (with_bytes_at (with_trailing_zeros (content w.forest inode.real) off) off bytes) e
+      ∙ ap (λ x. tree_with_stamp (with_shape (tree_of old w.forest) (with_bytes (shape_of old w.forest) n (with_bytes_at (with_trailing_zeros x off) off bytes))) n stamp) (sym (content-inode old w.forest s.mirrors.pairs n inode at))
 
-  pub stands-written : (off : ℕ) (bytes : List ℕ) → off + length bytes ≤ FILE_LIMIT → after ≡ with_written w inode.real off bytes → Stands new after.forest
+  pub stands-written : (off : ℕ) (bytes : List ℕ) → off + length bytes ≤ FILE_LIMIT → after ≡ with_padded_write w inode.real off bytes → Stands new after.forest
   stands-written off bytes fits e = record {
-    mirrors = mirrors after.forest (still (overwritten (padded (content w.forest inode.real) off) off bytes) e);
+    mirrors = mirrors after.forest (still (with_bytes_at (with_trailing_zeros (content w.forest inode.real) off) off bytes) e);
     tree = subst IsTree (sym (tree-written off bytes e)) (IsTree-written (tree_of old w.forest) n off bytes stamp s.tree is fits);
   }
 
-  pub tree-truncated : (size : ℕ) → after ≡ with_size w inode.real size → tree_of new after.forest ≡ truncated (tree_of old w.forest) n size stamp
-  unfolding truncated
+  pub tree-truncated : (size : ℕ) → after ≡ with_size w inode.real size → tree_of new after.forest ≡ tree_after_truncate (tree_of old w.forest) n size stamp
+  unfolding tree_after_truncate
   tree-truncated size e =
-      same_tree (resized (content w.forest inode.real) size) e
-      ∙ ap (λ x. stamped (with_shape (tree_of old w.forest) (with_bytes (shape_of old w.forest) n (resized x size))) n stamp) (sym (content-inode old w.forest s.mirrors.pairs n inode at))
+      same_tree (with_length (content w.forest inode.real) size) e
+      ∙ ap (λ x. tree_with_stamp (with_shape (tree_of old w.forest) (with_bytes (shape_of old w.forest) n (with_length x size))) n stamp) (sym (content-inode old w.forest s.mirrors.pairs n inode at))
 
   pub stands-truncated : (size : ℕ) → size ≤ FILE_LIMIT → after ≡ with_size w inode.real size → Stands new after.forest
   stands-truncated size fits e = record {
-    mirrors = mirrors after.forest (still (resized (content w.forest inode.real) size) e);
+    mirrors = mirrors after.forest (still (with_length (content w.forest inode.real) size) e);
     tree = subst IsTree (sym (tree-truncated size e)) (IsTree-truncated (tree_of old w.forest) n size stamp s.tree is fits);
   }

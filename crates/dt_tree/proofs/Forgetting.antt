@@ -5,25 +5,25 @@ use Rattle.std.specs.Cmp.{nat_cmp_total}
 use Rattle.std.specs.Cmp.Lexicographic.{nat_list_cmp_total}
 use Rattle.std.specs.FinMap.{empty, get, remove, same_map, nat_cmp-IsAntisymmetric}
 use Rattle.dt_host.specs.World.{Forest, Node, file, dir, link, node_at, dir_names, names_at, entry, without_node, IsLive, IsBare, IsNameless}
-use Rattle.dt_host.proofs.Maps.{at_remove, names_tie, get-remove_same, get-remove_other}
+use Rattle.dt_tables.proofs.Maps.{at_remove, names_tie, get-remove_same, get-remove_other}
 use Rattle.dt_tree.specs.declared.inode.Inode.{Inode}
-use Rattle.dt_tree.specs.Shape.{names_of, name_count}
+use Rattle.dt_tree.specs.Shape.{name_count_of, name_count}
 use Rattle.dt_tree.specs.Changes.{tree_without}
-use Rattle.dt_host.specs.Values.{map_values}
-use Rattle.dt_tree.specs.Table.{Table, virtual, real_of, renumbered, node_for, shape_of, attributes_of, tree_of, kind_of, IsUp, Keeps, Mirrors}
+use Rattle.dt_tables.specs.Values.{map_values}
+use Rattle.dt_tree.specs.Table.{Table, vino_of, real_of, renumbered_node, node_for, shape_of, attributes_of, tree_of, kind_of, IsUp, IsInodeOf, IsMirror}
 use Rattle.dt_tree.specs.inner.Tables.{without_inode}
 use Rattle.dt_tree.proofs.Namings.{names_of-without_node, name_count-without_node, named}
 use Rattle.dt_host.proofs.Spots.{IsDir-entry, IsLive-IsDir}
 use Rattle.dt_host.proofs.Gone.{entry-without_node, IsLive-without_node}
-use Rattle.dt_host.proofs.Valued.{get-map_values, map_values-remove, map_values-alike}
+use Rattle.dt_tables.proofs.Valued.{get-map_values, map_values-remove, map_values-alike}
 use Rattle.dt_tree.proofs.Mirroring.{one_real, entry-inode}
 
-module _ (t : Table) (v : Forest) (m : ℕ) (old : Inode) (s : Mirrors t v) (at_m : get t.inodes m ≡ Some old) (none : names_of (shape_of t v) m ≡ 0) (bare : IsBare (shape_of t v) m) (low : m ≢ 1) where
+module _ (t : Table) (v : Forest) (m : ℕ) (old : Inode) (s : IsMirror t v) (at_m : get t.inodes m ≡ Some old) (none : name_count_of (shape_of t v) m ≡ 0) (bare : IsBare (shape_of t v) m) (low : m ≢ 1) where
   -- it has no entry at the host
   pub real_bare : IsBare v old.real
   real_bare name = by_found (entry v old.real name) (sym (entry-inode t v s.pairs m old name at_m) ∙ bare name)
     where
-      by_found : (found : Option ℕ) → option_map (virtual t) found ≡ None → found ≡ None
+      by_found : (found : Option ℕ) → option_map (vino_of t) found ≡ None → found ≡ None
       by_found None e = refl
       by_found (Some x) e = cc
 
@@ -37,7 +37,7 @@ module _ (t : Table) (v : Forest) (m : ℕ) (old : Inode) (s : Mirrors t v) (at_
       by_inode n None p q = cc
       by_inode n (Some inode) p q =
           let same : inode.real ≡ d = cc in
-          let there = entry-inode t v s.pairs n inode name p ∙ ap (λ x. option_map (virtual t) (entry v x name)) same ∙ ap (option_map (virtual t)) e ∙ ap (λ found. Some (unwrap_or found 0)) (s.pairs.forth m old at_m) in
+          let there = entry-inode t v s.pairs n inode name p ∙ ap (λ x. option_map (vino_of t) (entry v x name)) same ∙ ap (option_map (vino_of t)) e ∙ ap (λ found. Some (unwrap_or found 0)) (s.pairs.forth m old at_m) in
           let some = named (shape_of t v) n m name there in
           omega arith
 
@@ -57,14 +57,14 @@ module _ (t : Table) (v : Forest) (m : ℕ) (old : Inode) (s : Mirrors t v) (at_
       by_inode (Some inode) p q = low (one_real t v s.pairs m 1 old inode at_m p (let e : old.real ≡ inode.real = cc in e))
 
   -- the other entries keep their numbers
-  same_numbers : (other : Inode) (n : ℕ) → get t.inodes n ≡ Some other → (found : Option Node) → node_at v other.real ≡ found → renumbered (virtual (without_inode t m old.real)) (unwrap_or found (file [])) ≡ renumbered (virtual t) (unwrap_or found (file []))
+  same_numbers : (other : Inode) (n : ℕ) → get t.inodes n ≡ Some other → (found : Option Node) → node_at v other.real ≡ found → renumbered_node (vino_of (without_inode t m old.real)) (unwrap_or found (file [])) ≡ renumbered_node (vino_of t) (unwrap_or found (file []))
   unfolding entry names_at
   same_numbers other n at None e = refl
   same_numbers other n at (Some (file bytes)) e = refl
   same_numbers other n at (Some (link target)) e = refl
-  same_numbers other n at (Some (dir names)) e = ap dir (map_values-alike nat_list_cmp_total (virtual (without_inode t m old.real)) names_tie (virtual t) names
+  same_numbers other n at (Some (dir names)) e = ap dir (map_values-alike nat_list_cmp_total (vino_of (without_inode t m old.real)) names_tie (vino_of t) names
       (λ name real there. ap (λ found. unwrap_or found 0) (get-remove_other nat_cmp_total nat_cmp-IsAntisymmetric t.by_real old.real real (λ same. real_nameless other.real name (ap (λ found. get (unwrap_or (option_and_then dir_names found) empty) name) e ∙ there ∙ ap Some same))))
-      (get-map_values nat_list_cmp_total (virtual t) names))
+      (get-map_values nat_list_cmp_total (vino_of t) names))
 
   pub shape-without : shape_of (without_inode t m old.real) (without_node v old.real) ≡ without_node (shape_of t v) m
   unfolding shape_of
@@ -78,13 +78,13 @@ module _ (t : Table) (v : Forest) (m : ℕ) (old : Inode) (s : Mirrors t v) (at_
       by_inode : (q : ℕ) → q ≢ m → (found : Option Inode) → get t.inodes q ≡ found → option_map (node_for (without_inode t m old.real) (without_node v old.real)) found ≡ option_map (node_for t v) found
       by_inode q apart None e = refl
       by_inode q apart (Some other) e =
-          ap (λ found. Some (renumbered (virtual (without_inode t m old.real)) (unwrap_or found (file [])))) (get-remove_other nat_cmp_total nat_cmp-IsAntisymmetric v.nodes old.real other.real (λ same. apart (one_real t v s.pairs q m other old e at_m same)))
+          ap (λ found. Some (renumbered_node (vino_of (without_inode t m old.real)) (unwrap_or found (file [])))) (get-remove_other nat_cmp_total nat_cmp-IsAntisymmetric v.nodes old.real other.real (λ same. apart (one_real t v s.pairs q m other old e at_m same)))
           ∙ ap Some (same_numbers other q e (node_at v other.real) refl)
 
   pub tree-without : tree_of (without_inode t m old.real) (without_node v old.real) ≡ tree_without (tree_of t v) m
   tree-without = let shape = shape-without in let attributes = map_values-remove nat_cmp_total attributes_of nat_cmp-IsAntisymmetric t.inodes m in λ i. record { shape = shape i; attributes = attributes i; next = t.next }
 
-  pub mirrors-without : Mirrors (without_inode t m old.real) (without_node v old.real)
+  pub mirrors-without : IsMirror (without_inode t m old.real) (without_node v old.real)
   mirrors-without = record {
     pairs = record {
       forth = λ n inode. at_remove nat_cmp_total nat_cmp-IsAntisymmetric (λ found. found ≡ Some inode → get (remove t.by_real old.real) inode.real ≡ Some n) t.inodes m n
@@ -99,7 +99,7 @@ module _ (t : Table) (v : Forest) (m : ℕ) (old : Inode) (s : Mirrors t v) (at_
       closed = λ d real name e. let before = sym (entry-without_node v old.real real_bare d name) ∙ e in IsLive-without_node v old.real real_bare real (λ same. real_nameless d name (before ∙ ap Some same)) (s.pairs.closed d real name before);
       root = still_real 1 (λ same. low (sym same)) ∙ s.pairs.root;
     };
-    kept = λ n inode e. subst (λ shape. Keeps shape n inode) (sym shape-without) (by_inode n inode e);
+    kept = λ n inode e. subst (λ shape. IsInodeOf shape n inode) (sym shape-without) (by_inode n inode e);
     counted = s.counted ∙ sym (ap (λ shape. name_count shape) shape-without ∙ name_count-without_node (shape_of t v) m bare);
   }
     where
@@ -110,8 +110,8 @@ module _ (t : Table) (v : Forest) (m : ℕ) (old : Inode) (s : Mirrors t v) (at_
       up_still n None u = names_of-without_node (shape_of t v) m n bare ∙ u
       up_still n (Some q) u = (u.0, entry-without_node (shape_of t v) m bare q u.0 ∙ u.1)
 
-      by_inode : (n : ℕ) (inode : Inode) → get (remove t.inodes m) n ≡ Some inode → Keeps (without_node (shape_of t v) m) n inode
-      by_inode n inode = at_remove nat_cmp_total nat_cmp-IsAntisymmetric (λ found. found ≡ Some inode → Keeps (without_node (shape_of t v) m) n inode) t.inodes m n
+      by_inode : (n : ℕ) (inode : Inode) → get (remove t.inodes m) n ≡ Some inode → IsInodeOf (without_node (shape_of t v) m) n inode
+      by_inode n inode = at_remove nat_cmp_total nat_cmp-IsAntisymmetric (λ found. found ≡ Some inode → IsInodeOf (without_node (shape_of t v) m) n inode) t.inodes m n
           (λ _ e. cc)
           (λ apart e. let keeps = s.kept n inode e in record {
             kind = ap (option_map kind_of) (get-remove_other nat_cmp_total nat_cmp-IsAntisymmetric (shape_of t v).nodes m n apart) ∙ keeps.kind;

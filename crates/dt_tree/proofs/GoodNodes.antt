@@ -7,7 +7,7 @@ use Rattle.std.specs.Cmp.{nat_cmp_total}
 use Rattle.std.specs.Cmp.Lexicographic.{nat_list_cmp_total}
 use Rattle.std.specs.FinMap.{FinMap, get, insert, remove, nat_cmp-IsAntisymmetric}
 use Rattle.dt_host.specs.World.{Forest, Node, Names, dir, node_at, names_at, with_node, with_entry, without_entry, IsDir}
-use Rattle.dt_host.proofs.Maps.{at_insert, at_remove, names_tie}
+use Rattle.dt_tables.proofs.Maps.{at_insert, at_remove, names_tie}
 use Rattle.dt_host.proofs.Gone.{dir_node}
 use Rattle.dt_tree.specs.FileTree.{Attributes, is_entry_name, IsGoodNode}
 

@@ -19,12 +19,12 @@ use Rattle.dt_base.specs.declared.image.What.{What}
 use Rattle.dt_base.specs.declared.image.What.TheVariants.{File, Dir, Link}
 use Rattle.dt_base.specs.Path.{is_path, parent_of}
 use Rattle.dt_host.specs.World.{dir, dir_names, names_at, with_node, with_entry}
-use Rattle.dt_host.proofs.MapOf.{equal_if}
-use Rattle.dt_host.proofs.Maps.{at_insert, names_tie, get-insert_same, get-insert_other}
+use Rattle.dt_tables.proofs.MapOf.{equal_if}
+use Rattle.dt_tables.proofs.Maps.{at_insert, names_tie, get-insert_same, get-insert_other}
 use Rattle.dt_host.proofs.Worlds.{node_at-with_node_other}
 use Rattle.dt_tree.specs.FileTree.{Attributes}
-use Rattle.dt_tree.specs.ImageTree.{last_name, numbered, names_below, node_of, image_nodes, at_start, image_attributes, image_tree}
-use Rattle.dt_tree.specs.Changes.{new_node, created}
+use Rattle.dt_tree.specs.ImageTree.{last_name, numbered_entries, names_below, node_of, image_nodes, start_attributes, image_attributes, image_tree}
+use Rattle.dt_tree.specs.Changes.{new_node, tree_with_new}
 use Rattle.dt_tree.proofs.Paths.{begins, split, parent_before}
 use Rattle.dt_tree.proofs.Entries.{Before, not_itself, not_both_ways, get_left, get_last, get_past}
 
@@ -60,39 +60,39 @@ below_number f a (x ∷ xs) n h =
 -- the nodes and attributes of an image's tree, by inode
 pub nodes_root : (es : List Entry) → get (image_nodes es) 1 ≡ Some (dir (names_below es []))
 unfolding image_nodes
-nodes_root es = get-insert_same nat_cmp_total nat_cmp-IsAntisymmetric (from_entries (map (λ e. (e.0, node_of es e.1.path e.1.what)) (numbered es))) 1 (dir (names_below es []))
+nodes_root es = get-insert_same nat_cmp_total nat_cmp-IsAntisymmetric (from_entries (map (λ e. (e.0, node_of es e.1.path e.1.what)) (numbered_entries es))) 1 (dir (names_below es []))
 
 pub nodes_at : (es : List Entry) (k n : ℕ) → n ≡ 2 + k → get (image_nodes es) n ≡ option_map (λ e. node_of es e.path e.what) (slice_get es k)
 unfolding image_nodes
 nodes_at es k n e =
-    get-insert_other nat_cmp_total nat_cmp-IsAntisymmetric (from_entries (map (λ e. (e.0, node_of es e.1.path e.1.what)) (numbered es))) 1 (dir (names_below es [])) n (omega arith)
-    ∙ get-from_entries nat_cmp_total (map (λ e. (e.0, node_of es e.1.path e.1.what)) (numbered es)) n
+    get-insert_other nat_cmp_total nat_cmp-IsAntisymmetric (from_entries (map (λ e. (e.0, node_of es e.1.path e.1.what)) (numbered_entries es))) 1 (dir (names_below es [])) n (omega arith)
+    ∙ get-from_entries nat_cmp_total (map (λ e. (e.0, node_of es e.1.path e.1.what)) (numbered_entries es)) n
     ∙ at_number (λ e. node_of es e.1.path e.1.what) 2 es k n e
 
 nodes_zero : (es : List Entry) → get (image_nodes es) 0 ≡ None
 unfolding image_nodes
 nodes_zero es =
-    get-insert_other nat_cmp_total nat_cmp-IsAntisymmetric (from_entries (map (λ e. (e.0, node_of es e.1.path e.1.what)) (numbered es))) 1 (dir (names_below es [])) 0 (omega arith)
-    ∙ get-from_entries nat_cmp_total (map (λ e. (e.0, node_of es e.1.path e.1.what)) (numbered es)) 0
+    get-insert_other nat_cmp_total nat_cmp-IsAntisymmetric (from_entries (map (λ e. (e.0, node_of es e.1.path e.1.what)) (numbered_entries es))) 1 (dir (names_below es [])) 0 (omega arith)
+    ∙ get-from_entries nat_cmp_total (map (λ e. (e.0, node_of es e.1.path e.1.what)) (numbered_entries es)) 0
     ∙ below_number (λ e. node_of es e.1.path e.1.what) 2 es 0 (omega arith)
 
-attributes_root : (es : List Entry) → get (image_attributes es) 1 ≡ Some (at_start 493)
+attributes_root : (es : List Entry) → get (image_attributes es) 1 ≡ Some (start_attributes 493)
 unfolding image_attributes
-attributes_root es = get-insert_same nat_cmp_total nat_cmp-IsAntisymmetric (from_entries (map (λ e. (e.0, at_start e.1.mode)) (numbered es))) 1 (at_start 493)
+attributes_root es = get-insert_same nat_cmp_total nat_cmp-IsAntisymmetric (from_entries (map (λ e. (e.0, start_attributes e.1.mode)) (numbered_entries es))) 1 (start_attributes 493)
 
-attributes_at : (es : List Entry) (k n : ℕ) → n ≡ 2 + k → get (image_attributes es) n ≡ option_map (λ e. at_start e.mode) (slice_get es k)
+attributes_at : (es : List Entry) (k n : ℕ) → n ≡ 2 + k → get (image_attributes es) n ≡ option_map (λ e. start_attributes e.mode) (slice_get es k)
 unfolding image_attributes
 attributes_at es k n e =
-    get-insert_other nat_cmp_total nat_cmp-IsAntisymmetric (from_entries (map (λ e. (e.0, at_start e.1.mode)) (numbered es))) 1 (at_start 493) n (omega arith)
-    ∙ get-from_entries nat_cmp_total (map (λ e. (e.0, at_start e.1.mode)) (numbered es)) n
-    ∙ at_number (λ e. at_start e.1.mode) 2 es k n e
+    get-insert_other nat_cmp_total nat_cmp-IsAntisymmetric (from_entries (map (λ e. (e.0, start_attributes e.1.mode)) (numbered_entries es))) 1 (start_attributes 493) n (omega arith)
+    ∙ get-from_entries nat_cmp_total (map (λ e. (e.0, start_attributes e.1.mode)) (numbered_entries es)) n
+    ∙ at_number (λ e. start_attributes e.1.mode) 2 es k n e
 
 attributes_zero : (es : List Entry) → get (image_attributes es) 0 ≡ None
 unfolding image_attributes
 attributes_zero es =
-    get-insert_other nat_cmp_total nat_cmp-IsAntisymmetric (from_entries (map (λ e. (e.0, at_start e.1.mode)) (numbered es))) 1 (at_start 493) 0 (omega arith)
-    ∙ get-from_entries nat_cmp_total (map (λ e. (e.0, at_start e.1.mode)) (numbered es)) 0
-    ∙ below_number (λ e. at_start e.1.mode) 2 es 0 (omega arith)
+    get-insert_other nat_cmp_total nat_cmp-IsAntisymmetric (from_entries (map (λ e. (e.0, start_attributes e.1.mode)) (numbered_entries es))) 1 (start_attributes 493) 0 (omega arith)
+    ∙ get-from_entries nat_cmp_total (map (λ e. (e.0, start_attributes e.1.mode)) (numbered_entries es)) 0
+    ∙ below_number (λ e. start_attributes e.1.mode) 2 es 0 (omega arith)
 
 -- nothing is held at the start
 pub not_held : (es : List Entry) (n : ℕ) → unwrap_or (option_map (λ (a : Attributes). a.holds) (get (image_attributes es) n)) 0 ≡ 0
@@ -100,7 +100,7 @@ not_held es zero = ap (λ found. unwrap_or (option_map (λ (a : Attributes). a.h
 not_held es (suc zero) = ap (λ found. unwrap_or (option_map (λ (a : Attributes). a.holds) found) 0) (attributes_root es)
 not_held es (suc (suc k)) = ap (λ found. unwrap_or (option_map (λ (a : Attributes). a.holds) found) 0) (attributes_at es k (suc (suc k)) (omega arith)) ∙ by_entry (slice_get es k)
   where
-    by_entry : (found : Option Entry) → unwrap_or (option_map (λ (a : Attributes). a.holds) (option_map (λ (e : Entry). at_start e.mode) found)) 0 ≡ 0
+    by_entry : (found : Option Entry) → unwrap_or (option_map (λ (a : Attributes). a.holds) (option_map (λ (e : Entry). start_attributes e.mode) found)) 0 ≡ 0
     by_entry None = refl
     by_entry (Some e) = refl
 
@@ -247,9 +247,9 @@ module _ (es : List Entry) (e : Entry) (d : ℕ)
   attributes_same (suc (suc k)) other =
       attributes_at (es ++ e ∷ []) k (suc (suc k)) (omega arith) ∙ by_entry (slice_get es k) refl ∙ sym (attributes_at es k (suc (suc k)) (omega arith))
     where
-      by_entry : (found : Option Entry) → slice_get es k ≡ found → option_map (λ (x : Entry). at_start x.mode) (slice_get (es ++ e ∷ []) k) ≡ option_map (λ (x : Entry). at_start x.mode) (slice_get es k)
-      by_entry None at = ap (option_map (λ (x : Entry). at_start x.mode)) (get_past es e k at (λ same. other (omega arith)) ∙ sym at)
-      by_entry (Some x) at = ap (option_map (λ (x : Entry). at_start x.mode)) (get_left es e k x at ∙ sym at)
+      by_entry : (found : Option Entry) → slice_get es k ≡ found → option_map (λ (x : Entry). start_attributes x.mode) (slice_get (es ++ e ∷ []) k) ≡ option_map (λ (x : Entry). start_attributes x.mode) (slice_get es k)
+      by_entry None at = ap (option_map (λ (x : Entry). start_attributes x.mode)) (get_past es e k at (λ same. other (omega arith)) ∙ sym at)
+      by_entry (Some x) at = ap (option_map (λ (x : Entry). start_attributes x.mode)) (get_left es e k x at ∙ sym at)
 
   nodes_more : image_nodes (es ++ e ∷ []) ≡ insert (insert (image_nodes es) (2 + length es) (new_node e.what)) d (dir (insert (names_below es (parent_of e.path)) (last_name e.path) (2 + length es)))
   nodes_more = same_map nat_cmp_total nat_cmp-IsAntisymmetric _ _ (λ q.
@@ -259,10 +259,10 @@ module _ (es : List Entry) (e : Entry) (d : ℕ)
       (λ is. ap (get (image_nodes (es ++ e ∷ []))) is ∙ node_last)
       (λ other. node_same q apart other)))
 
-  attributes_more : image_attributes (es ++ e ∷ []) ≡ insert (image_attributes es) (2 + length es) (at_start e.mode)
+  attributes_more : image_attributes (es ++ e ∷ []) ≡ insert (image_attributes es) (2 + length es) (start_attributes e.mode)
   attributes_more = same_map nat_cmp_total nat_cmp-IsAntisymmetric _ _ (λ q.
-      at_insert nat_cmp_total nat_cmp-IsAntisymmetric (λ found. get (image_attributes (es ++ e ∷ [])) q ≡ found) (image_attributes es) (2 + length es) (at_start e.mode) q
-      (λ is. ap (get (image_attributes (es ++ e ∷ []))) is ∙ attributes_at (es ++ e ∷ []) (length es) (2 + length es) refl ∙ ap (option_map (λ (x : Entry). at_start x.mode)) (get_last es e))
+      at_insert nat_cmp_total nat_cmp-IsAntisymmetric (λ found. get (image_attributes (es ++ e ∷ [])) q ≡ found) (image_attributes es) (2 + length es) (start_attributes e.mode) q
+      (λ is. ap (get (image_attributes (es ++ e ∷ []))) is ∙ attributes_at (es ++ e ∷ []) (length es) (2 + length es) refl ∙ ap (option_map (λ (x : Entry). start_attributes x.mode)) (get_last es e))
       (λ other. attributes_same q other))
 
   names_first : names_at (with_node (image_tree es).shape (2 + length es) (new_node e.what)) d ≡ names_below es (parent_of e.path)
@@ -270,8 +270,8 @@ module _ (es : List Entry) (e : Entry) (d : ℕ)
   names_first = ap (λ found. unwrap_or (option_and_then dir_names found) empty) (node_at-with_node_other (image_tree es).shape (2 + length es) (new_node e.what) d d_low ∙ node_d)
 
   -- the tree with one entry more is the tree in which its node was created
-  pub image_more : image_tree (es ++ e ∷ []) ≡ created (image_tree es) d (last_name e.path) (new_node e.what) e.mode 0
-  unfolding created with_entry
+  pub image_more : image_tree (es ++ e ∷ []) ≡ tree_with_new (image_tree es) d (last_name e.path) (new_node e.what) e.mode 0
+  unfolding tree_with_new with_entry
   image_more =
       let nodes = nodes_more ∙ ap (λ names. insert (insert (image_nodes es) (2 + length es) (new_node e.what)) d (dir (insert names (last_name e.path) (2 + length es)))) (sym names_first) in
       let attributes = attributes_more in

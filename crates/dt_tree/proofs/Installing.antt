@@ -20,13 +20,13 @@ use Rattle.dt_base.specs.declared.limits.TheConstants.{ENTRY_LIMIT}
 use Rattle.dt_base.specs.Path.{is_path, is_top, parent_of}
 use Rattle.dt_base.specs.Image.{is_good_what, is_good_entry, is_dir, is_dir_at, has_parent, IsImage}
 use Rattle.dt_host.specs.World.{Node, dir, dir_names, node_at, names_at, entry, IsDir}
-use Rattle.dt_host.proofs.Maps.{names_tie}
+use Rattle.dt_tables.proofs.Maps.{names_tie}
 use Rattle.dt_tree.specs.Shape.{IsUnder, IsRemoved}
 use Rattle.dt_tree.specs.FileTree.{FileTree, IsTree}
 use Rattle.dt_tree.specs.ImageTree.{last_name, image_tree, names_below}
-use Rattle.dt_tree.specs.Changes.{new_node, created}
+use Rattle.dt_tree.specs.Changes.{new_node, tree_with_new}
 use Rattle.dt_tree.specs.inner.Created.{MayCreate}
-use Rattle.dt_tree.specs.inner.Places.{LeadsTo}
+use Rattle.dt_tree.specs.inner.Places.{IsInodeOfPath}
 use Rattle.dt_tree.proofs.Shapes.{itself}
 use Rattle.dt_tree.proofs.Paths.{begins, parent_before, last_good, top_parent}
 use Rattle.dt_tree.proofs.Entries.{Before, all_at, any_index, taken, still_taken, take_next, rises, one_index, lower}
@@ -56,7 +56,7 @@ module _ (entries : List Entry) (is : IsImage entries) (i : ℕ) (e : Entry) (at
   before : (k : ℕ) (x : Entry) → slice_get (take i entries) k ≡ Some x → Before x e
   before k x at_k = let there = taken entries i k x at_k in rises entries is.rising k i x e there.1 there.0 at
 
-  module _ (n : ℕ) (leads : LeadsTo entries (parent_of e.path) n) where
+  module _ (n : ℕ) (leads : IsInodeOfPath entries (parent_of e.path) n) where
     place : IsInodeAt (take i entries) (parent_of e.path) n
     place = by_top (is_top e.path) refl (all_at (has_parent entries) entries i e is.parents at)
       where
@@ -111,7 +111,7 @@ module _ (entries : List Entry) (is : IsImage entries) (i : ℕ) (e : Entry) (at
       room = omega (arith, low);
     }
 
-    pub more : image_tree (take (i + 1) entries) ≡ created (image_tree (take i entries)) n (last_name e.path) (new_node e.what) e.mode 0
+    pub more : image_tree (take (i + 1) entries) ≡ tree_with_new (image_tree (take i entries)) n (last_name e.path) (new_node e.what) e.mode 0
     more = ap image_tree (take_next entries i e at) ∙ image_more (take i entries) e n place paths once before good_parts.0
 
 -- a search by paths
@@ -121,7 +121,7 @@ some_path entries is path none k x at same =
     let size = ap length (sym same ∙ first.1) in
     omega arith
 
-pub leads_root : (entries : List Entry) → IsImage entries → (path : List ℕ) → length path ≡ 0 → LeadsTo entries path 1
+pub leads_root : (entries : List Entry) → IsImage entries → (path : List ℕ) → length path ≡ 0 → IsInodeOfPath entries path 1
 leads_root entries is path none = record { root = λ _. refl; entry = λ k x at same. absurd (some_path entries is path none k x at same) }
 
 goes_up : (a b path : List ℕ) (r : Ordering) → slice_cmp nat_cmp a b ≡ Less → slice_cmp nat_cmp b path ≡ r → ordering_index (slice_cmp nat_cmp a path) ≤ ordering_index r
@@ -147,7 +147,7 @@ module _ (entries : List Entry) (is : IsImage entries) (path : List ℕ) (some :
         goes_up x.path y.path path (slice_cmp nat_cmp y.path path) (rises entries is.rising i j x y (omega arith) (slice_get-get_or entries i d (omega arith)) (slice_get-get_or entries j d within)) refl
   ]
 
-  pub leads_found : (i : ℕ) → i < length entries → IsBinarySearchResult (λ (y : Entry). slice_cmp nat_cmp y.path path) entries (Ok i) → LeadsTo entries path (2 + i)
+  pub leads_found : (i : ℕ) → i < length entries → IsBinarySearchResult (λ (y : Entry). slice_cmp nat_cmp y.path path) entries (Ok i) → IsInodeOfPath entries path (2 + i)
   leads_found i within found = record {
     root = λ none. absurd (not_root none);
     entry = λ k x at same.
@@ -156,7 +156,7 @@ module _ (entries : List Entry) (is : IsImage entries) (path : List ℕ) (some :
         omega arith;
   }
 
-  pub leads_none : (i : ℕ) → IsBinarySearchResult (λ (y : Entry). slice_cmp nat_cmp y.path path) entries (Err i) → LeadsTo entries path 1
+  pub leads_none : (i : ℕ) → IsBinarySearchResult (λ (y : Entry). slice_cmp nat_cmp y.path path) entries (Err i) → IsInodeOfPath entries path 1
   leads_none i none = record {
     root = λ _. refl;
     entry = λ k x at same. absurd (by_index k x at same (cases_lt k i));

@@ -8,10 +8,10 @@ use Rattle.std.specs.Cmp.{nat_cmp_total}
 use Rattle.std.specs.BTreeMap as tree
 use Rattle.std.specs.BTreeMap.{BTreeMap, is_at, IsOrdered}
 use Rattle.std.specs.FinMap.{get, insert, remove, len, len-entries, from_entries, from_sorted, entries-from_sorted, get-from_sorted, get-from_entries, same_map, nat_cmp-IsAntisymmetric}
-use Rattle.dt_host.specs.Entries.{map_of}
-use Rattle.dt_host.proofs.Sorted.{sorted-keys, same_entries}
-use Rattle.dt_host.proofs.Maps.{at_insert, at_remove}
-use Rattle.dt_host.proofs.MapOf.{get-map_of}
+use Rattle.dt_tables.specs.Entries.{map_of}
+use Rattle.dt_tables.proofs.Sorted.{sorted-keys, same_entries}
+use Rattle.dt_tables.proofs.Maps.{at_insert, at_remove}
+use Rattle.dt_tables.proofs.MapOf.{get-map_of}
 
 pub get-kept : {X : Type 0} (m : BTreeMap ℕ X) (q : ℕ) → get (map_of {R = nat_cmp} (λ n. n) (λ x. x) m.entries) q ≡ tree.get nat_cmp m q
 get-kept m q = get-map_of nat_cmp_total (λ n. n) (λ x. x) q m.entries ∙ option_map_id _

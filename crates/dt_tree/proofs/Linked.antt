@@ -4,21 +4,21 @@ use Rattle.std.specs.Prelude.{not, ◌&&◌, ◌==◌, IsSome, is_some, unwrap_o
 use Rattle.std.specs.Cmp.{nat_cmp_total}
 use Rattle.std.specs.FinMap.{get, insert, nat_cmp-IsAntisymmetric}
 use Rattle.dt_host.specs.World.{Forest, Node, Names, file, dir, link, node_at, dir_names, entry, with_node, with_entry, without_entry, IsDir, IsLive}
-use Rattle.dt_host.specs.inner.Weight.{weight}
-use Rattle.dt_host.specs.Values.{map_values}
-use Rattle.dt_host.proofs.Found.{not_both}
-use Rattle.dt_host.proofs.Maps.{at_insert, put_back as insert-there}
+use Rattle.dt_tables.specs.inner.Weight.{weight}
+use Rattle.dt_tables.specs.Values.{map_values}
+use Rattle.dt_tables.proofs.Found.{not_both}
+use Rattle.dt_tables.proofs.Maps.{at_insert, put_back as insert-there}
 use Rattle.dt_host.proofs.Spots.{IsDir-entry, at_with_entry, is_some-with_entry, IsLive-with_entry, root-with_entry}
 use Rattle.dt_host.proofs.Gone.{at_without_entry, is_some-without_entry, IsLive-without_entry, root-without_entry}
-use Rattle.dt_host.proofs.Valued.{get-map_values, map_values-insert}
+use Rattle.dt_tables.proofs.Valued.{get-map_values, map_values-insert}
 use Rattle.dt_tree.specs.declared.inode.Kind.TheVariants.{Dir}
 use Rattle.dt_tree.specs.declared.inode.Inode.{Inode}
 use Rattle.dt_tree.specs.Above.{parent_at}
-use Rattle.dt_tree.specs.Shape.{one_for, names_of, name_count}
-use Rattle.dt_tree.specs.Table.{Table, real_of, shape_of, attributes_of, tree_of, kind_of, IsUp, Keeps, Pairs, Mirrors, Stands}
+use Rattle.dt_tree.specs.Shape.{one_for, name_count_of, name_count}
+use Rattle.dt_tree.specs.Table.{Table, real_of, shape_of, attributes_of, tree_of, kind_of, IsUp, IsInodeOf, IsPairing, IsMirror, Stands}
 use Rattle.dt_tree.specs.inner.Tables.{with_inode, with_names}
 use Rattle.dt_tree.specs.FileTree.{Attributes, holds_of}
-use Rattle.dt_tree.specs.Changes.{with_shape, put_back, with_attributes, is_unused}
+use Rattle.dt_tree.specs.Changes.{with_shape, with_some, with_attributes, is_unused}
 use Rattle.dt_tree.proofs.Namings.{one_for-same, one_for-other, names_of-with_entry, names_of-without_entry, name_count-with_entry, name_count-without_entry}
 use Rattle.dt_tree.proofs.Aboves.{no_parent, parent_is}
 use Rattle.dt_tree.proofs.Mirroring.{shape-with_inode, shape-with_names, real_live, real_dir, shape-with_entry, shape-without_entry}
@@ -51,7 +51,7 @@ unfolding without_entry
 kind-without_entry v d name is q = kind-with_node v d _ is q
 
 -- something else kept of the same node
-pub pairs-with_inode : (t : Table) (v : Forest) (m : ℕ) (old new : Inode) → Pairs t v → get t.inodes m ≡ Some old → new.real ≡ old.real → Pairs (with_inode t m new) v
+pub pairs-with_inode : (t : Table) (v : Forest) (m : ℕ) (old new : Inode) → IsPairing t v → get t.inodes m ≡ Some old → new.real ≡ old.real → IsPairing (with_inode t m new) v
 pairs-with_inode t v m old new s there same = record {
   forth = λ n inode. at_insert nat_cmp_total nat_cmp-IsAntisymmetric (λ found. found ≡ Some inode → get t.by_real inode.real ≡ Some n) t.inodes m new n
       (λ is e. let real : inode.real ≡ old.real = cc in ap (get t.by_real) real ∙ s.forth m old there ∙ ap Some (sym is))
@@ -68,7 +68,7 @@ pairs-with_inode t v m old new s there same = record {
         (λ _. refl)
 
 -- a host with the same nodes
-pub pairs-same_nodes : (t : Table) (v w : Forest) → Pairs t v → w.root ≡ v.root → ((q : ℕ) → is_some (node_at w q) ≡ is_some (node_at v q)) → ((d real : ℕ) (name : List ℕ) → entry w d name ≡ Some real → IsLive w real) → Pairs t w
+pub pairs-same_nodes : (t : Table) (v w : Forest) → IsPairing t v → w.root ≡ v.root → ((q : ℕ) → is_some (node_at w q) ≡ is_some (node_at v q)) → ((d real : ℕ) (name : List ℕ) → entry w d name ≡ Some real → IsLive w real) → IsPairing t w
 pairs-same_nodes t v w s top same closed = record {
   forth = s.forth;
   back = s.back;
@@ -83,33 +83,33 @@ attributes-same t m old new there same =
     ∙ insert-there nat_cmp_total nat_cmp-IsAntisymmetric (map_values attributes_of t.inodes) m (attributes_of new) (get-map_values nat_cmp_total attributes_of t.inodes m ∙ ap (option_map attributes_of) there ∙ ap Some (sym same))
 
 -- another count of names
-pub pairs-with_names : (t : Table) (v : Forest) (names : ℕ) → Pairs t v → Pairs (with_names t names) v
+pub pairs-with_names : (t : Table) (v : Forest) (names : ℕ) → IsPairing t v → IsPairing (with_names t names) v
 pairs-with_names t v names s = record { forth = s.forth; back = s.back; live = s.live; closed = s.closed; root = s.root }
 
 -- the attributes after something else was kept of a node
-pub attributes-changed : (t : Table) (m : ℕ) (old new : Inode) (f : Attributes → Attributes) → get t.inodes m ≡ Some old → attributes_of new ≡ f (attributes_of old) → map_values attributes_of (insert t.inodes m new) ≡ put_back (map_values attributes_of t.inodes) m (option_map f (get (map_values attributes_of t.inodes) m))
+pub attributes-changed : (t : Table) (m : ℕ) (old new : Inode) (f : Attributes → Attributes) → get t.inodes m ≡ Some old → attributes_of new ≡ f (attributes_of old) → map_values attributes_of (insert t.inodes m new) ≡ with_some (map_values attributes_of t.inodes) m (option_map f (get (map_values attributes_of t.inodes) m))
 attributes-changed t m old new f there same =
     map_values-insert nat_cmp_total attributes_of nat_cmp-IsAntisymmetric t.inodes m new
     ∙ ap (insert (map_values attributes_of t.inodes) m) same
-    ∙ sym (ap (λ found. put_back (map_values attributes_of t.inodes) m (option_map f found)) (get-map_values nat_cmp_total attributes_of t.inodes m ∙ ap (option_map attributes_of) there))
+    ∙ sym (ap (λ found. with_some (map_values attributes_of t.inodes) m (option_map f found)) (get-map_values nat_cmp_total attributes_of t.inodes m ∙ ap (option_map attributes_of) there))
 
 -- other attributes of a node
-module _ (t : Table) (v : Forest) (m : ℕ) (old new : Inode) (f : Attributes → Attributes) (s : Mirrors t v) (there : get t.inodes m ≡ Some old) (changed : attributes_of new ≡ f (attributes_of old)) (real : new.real ≡ old.real) (kind : new.kind ≡ old.kind) (names : new.names ≡ old.names) (up : new.up ≡ old.up) where
+module _ (t : Table) (v : Forest) (m : ℕ) (old new : Inode) (f : Attributes → Attributes) (s : IsMirror t v) (there : get t.inodes m ≡ Some old) (changed : attributes_of new ≡ f (attributes_of old)) (real : new.real ≡ old.real) (kind : new.kind ≡ old.kind) (names : new.names ≡ old.names) (up : new.up ≡ old.up) where
   pub tree-changed : tree_of (with_inode t m new) v ≡ with_attributes (tree_of t v) m f
   unfolding with_attributes
   tree-changed = let shape = shape-with_inode t v m old new there real in let attributes = attributes-changed t m old new f there changed in λ i. record { shape = shape i; attributes = attributes i; next = t.next }
 
-  pub mirrors-changed : Mirrors (with_inode t m new) v
+  pub mirrors-changed : IsMirror (with_inode t m new) v
   mirrors-changed = record {
     pairs = pairs-with_inode t v m old new s.pairs there real;
-    kept = λ n inode e. subst (λ shape. Keeps shape n inode) (sym (shape-with_inode t v m old new there real)) (by_inode n inode e);
+    kept = λ n inode e. subst (λ shape. IsInodeOf shape n inode) (sym (shape-with_inode t v m old new there real)) (by_inode n inode e);
     counted = s.counted ∙ sym (ap (λ shape. name_count shape) (shape-with_inode t v m old new there real));
   }
     where
-      by_inode : (n : ℕ) (inode : Inode) → get (insert t.inodes m new) n ≡ Some inode → Keeps (shape_of t v) n inode
-      by_inode n inode = at_insert nat_cmp_total nat_cmp-IsAntisymmetric (λ found. found ≡ Some inode → Keeps (shape_of t v) n inode) t.inodes m new n
+      by_inode : (n : ℕ) (inode : Inode) → get (insert t.inodes m new) n ≡ Some inode → IsInodeOf (shape_of t v) n inode
+      by_inode n inode = at_insert nat_cmp_total nat_cmp-IsAntisymmetric (λ found. found ≡ Some inode → IsInodeOf (shape_of t v) n inode) t.inodes m new n
           (λ is e. let keeps = s.kept m old there in let same : new ≡ inode = cc in
-          subst (λ x. Keeps (shape_of t v) x inode) (sym is) (subst (Keeps (shape_of t v) m) same (record {
+          subst (λ x. IsInodeOf (shape_of t v) x inode) (sym is) (subst (IsInodeOf (shape_of t v) m) same (record {
             kind = keeps.kind ∙ ap Some (sym kind);
             names = names ∙ keeps.names;
             up = λ k. subst (IsUp (shape_of t v) m) (sym up) (keeps.up (sym kind ∙ k));
@@ -117,7 +117,7 @@ module _ (t : Table) (v : Forest) (m : ℕ) (old new : Inode) (f : Attributes �
           (λ _ e. s.kept n inode e)
 
 -- a name given
-module _ (t : Table) (v : Forest) (d m : ℕ) (above old : Inode) (name : List ℕ) (s : Mirrors t v) (at_d : get t.inodes d ≡ Some above) (at_m : get t.inodes m ≡ Some old) (is : IsDir (shape_of t v) d) (free : entry (shape_of t v) d name ≡ None) where
+module _ (t : Table) (v : Forest) (d m : ℕ) (above old : Inode) (name : List ℕ) (s : IsMirror t v) (at_d : get t.inodes d ≡ Some above) (at_m : get t.inodes m ≡ Some old) (is : IsDir (shape_of t v) d) (free : entry (shape_of t v) d name ≡ None) where
   pub shape-named : shape_of (with_names (with_inode t m (record old { names = old.names + 1; up = Some d })) (t.names + 1)) (with_entry v above.real name old.real) ≡ with_entry (shape_of t v) d name m
   shape-named =
       shape-with_names (with_inode t m (record old { names = old.names + 1; up = Some d })) (with_entry v above.real name old.real) (t.names + 1)
@@ -131,13 +131,13 @@ module _ (t : Table) (v : Forest) (d m : ℕ) (above old : Inode) (name : List �
   stays : (q n : ℕ) (c : List ℕ) → entry (shape_of t v) q c ≡ Some n → entry (with_entry (shape_of t v) d name m) q c ≡ Some n
   stays q n c e = at_with_entry (shape_of t v) d name m (λ found. found ≡ Some n) q c (λ same alike. absurd (not_both (entry (shape_of t v) q c) n (ap (λ x. entry (shape_of t v) x c) same ∙ ap (entry (shape_of t v) d) alike ∙ free) e)) (λ _. e)
 
-  count : (n : ℕ) → names_of (with_entry (shape_of t v) d name m) n ≡ names_of (shape_of t v) n + one_for n m
+  count : (n : ℕ) → name_count_of (with_entry (shape_of t v) d name m) n ≡ name_count_of (shape_of t v) n + one_for n m
   count n = let sum = names_of-with_entry (shape_of t v) d n name m in let none = ap (weight (one_for n)) free in omega arith
 
-  pub mirrors-named : Mirrors (with_names (with_inode t m (record old { names = old.names + 1; up = Some d })) (t.names + 1)) (with_entry v above.real name old.real)
+  pub mirrors-named : IsMirror (with_names (with_inode t m (record old { names = old.names + 1; up = Some d })) (t.names + 1)) (with_entry v above.real name old.real)
   mirrors-named = record {
     pairs = pairs-with_names (with_inode t m (record old { names = old.names + 1; up = Some d })) (with_entry v above.real name old.real) (t.names + 1) (pairs-with_inode t (with_entry v above.real name old.real) m old _ (pairs-same_nodes t v (with_entry v above.real name old.real) s.pairs (root-with_entry v above.real name old.real) (is_some-with_entry v above.real name old.real (real_dir t v s.pairs d above at_d is)) closed) at_m refl);
-    kept = λ n inode e. subst (λ shape. Keeps shape n inode) (sym shape-named) (by_inode n inode e);
+    kept = λ n inode e. subst (λ shape. IsInodeOf shape n inode) (sym shape-named) (by_inode n inode e);
     counted = ap (λ n. n + 1) s.counted ∙ sym (ap (λ shape. name_count shape) shape-named ∙ name_count-with_entry (shape_of t v) d name m free);
   }
     where
@@ -150,10 +150,10 @@ module _ (t : Table) (v : Forest) (d m : ℕ) (above old : Inode) (name : List �
       up_still n None apart u = omega (arith, count n, one_for-other n m apart)
       up_still n (Some q) apart u = (u.0, stays q n u.0 u.1)
 
-      by_inode : (n : ℕ) (inode : Inode) → get (insert t.inodes m (record old { names = old.names + 1; up = Some d })) n ≡ Some inode → Keeps (with_entry (shape_of t v) d name m) n inode
-      by_inode n inode = at_insert nat_cmp_total nat_cmp-IsAntisymmetric (λ found. found ≡ Some inode → Keeps (with_entry (shape_of t v) d name m) n inode) t.inodes m (record old { names = old.names + 1; up = Some d }) n
+      by_inode : (n : ℕ) (inode : Inode) → get (insert t.inodes m (record old { names = old.names + 1; up = Some d })) n ≡ Some inode → IsInodeOf (with_entry (shape_of t v) d name m) n inode
+      by_inode n inode = at_insert nat_cmp_total nat_cmp-IsAntisymmetric (λ found. found ≡ Some inode → IsInodeOf (with_entry (shape_of t v) d name m) n inode) t.inodes m (record old { names = old.names + 1; up = Some d }) n
           (λ same e. let keeps = s.kept m old at_m in
-          subst (λ x. Keeps (with_entry (shape_of t v) d name m) x inode) (sym same) (subst (Keeps (with_entry (shape_of t v) d name m) m) (let here : record old { names = old.names + 1; up = Some d } ≡ inode = cc in here) (record {
+          subst (λ x. IsInodeOf (with_entry (shape_of t v) d name m) x inode) (sym same) (subst (IsInodeOf (with_entry (shape_of t v) d name m) m) (let here : record old { names = old.names + 1; up = Some d } ≡ inode = cc in here) (record {
             kind = kind-with_entry (shape_of t v) d name m is m ∙ keeps.kind;
             names = omega (arith, count m, one_for-same m, keeps.names);
             up = λ _. (name, at_with_entry (shape_of t v) d name m (λ found. found ≡ Some m) d name (λ _ _. refl) (λ apart. absurd (apart refl refl)));
@@ -165,7 +165,7 @@ module _ (t : Table) (v : Forest) (d m : ℕ) (above old : Inode) (name : List �
           })
 
 -- a name taken away
-module _ (t : Table) (v : Forest) (d m : ℕ) (above old : Inode) (name : List ℕ) (s : Mirrors t v) (at_d : get t.inodes d ≡ Some above) (at_m : get t.inodes m ≡ Some old) (here : entry (shape_of t v) d name ≡ Some m) (once : IsDir (shape_of t v) m → names_of (shape_of t v) m ≤ 1) where
+module _ (t : Table) (v : Forest) (d m : ℕ) (above old : Inode) (name : List ℕ) (s : IsMirror t v) (at_d : get t.inodes d ≡ Some above) (at_m : get t.inodes m ≡ Some old) (here : entry (shape_of t v) d name ≡ Some m) (once : IsDir (shape_of t v) m → name_count_of (shape_of t v) m ≤ 1) where
   is_d : IsDir (shape_of t v) d
   is_d = IsDir-entry (shape_of t v) d name m here
 
@@ -178,7 +178,7 @@ module _ (t : Table) (v : Forest) (d m : ℕ) (above old : Inode) (name : List �
   pub tree-unnamed : tree_of (with_names (with_inode t m (record old { names = old.names - 1; up = None })) (t.names - 1)) (without_entry v above.real name) ≡ with_shape (tree_of t v) (without_entry (shape_of t v) d name)
   tree-unnamed = let attributes = attributes-same t m old (record old { names = old.names - 1; up = None }) at_m refl in let shape = shape-unnamed in λ i. record { shape = shape i; attributes = attributes i; next = t.next }
 
-  one_less : (n : ℕ) → names_of (without_entry (shape_of t v) d name) n + one_for n m ≡ names_of (shape_of t v) n
+  one_less : (n : ℕ) → name_count_of (without_entry (shape_of t v) d name) n + one_for n m ≡ name_count_of (shape_of t v) n
   one_less n = let sum = names_of-without_entry (shape_of t v) d n name in let one = ap (weight (one_for n)) here in omega arith
 
   keeps_other : (q n : ℕ) (c : List ℕ) → n ≢ m → entry (shape_of t v) q c ≡ Some n → entry (without_entry (shape_of t v) d name) q c ≡ Some n
@@ -187,10 +187,10 @@ module _ (t : Table) (v : Forest) (d m : ℕ) (above old : Inode) (name : List �
       one : (found : Option ℕ) → found ≡ Some n → found ≡ Some m → n ≡ m
       one found a b = cc
 
-  pub mirrors-unnamed : Mirrors (with_names (with_inode t m (record old { names = old.names - 1; up = None })) (t.names - 1)) (without_entry v above.real name)
+  pub mirrors-unnamed : IsMirror (with_names (with_inode t m (record old { names = old.names - 1; up = None })) (t.names - 1)) (without_entry v above.real name)
   mirrors-unnamed = record {
     pairs = pairs-with_names (with_inode t m (record old { names = old.names - 1; up = None })) (without_entry v above.real name) (t.names - 1) (pairs-with_inode t (without_entry v above.real name) m old _ (pairs-same_nodes t v (without_entry v above.real name) s.pairs (root-without_entry v above.real name) (is_some-without_entry v above.real name (real_dir t v s.pairs d above at_d is_d)) closed) at_m refl);
-    kept = λ n inode e. subst (λ shape. Keeps shape n inode) (sym shape-unnamed) (by_inode n inode e);
+    kept = λ n inode e. subst (λ shape. IsInodeOf shape n inode) (sym shape-unnamed) (by_inode n inode e);
     counted = let less = name_count-without_entry (shape_of t v) d name m here in let now = ap (λ shape. name_count shape) shape-unnamed in omega (arith, s.counted);
   }
     where
@@ -203,10 +203,10 @@ module _ (t : Table) (v : Forest) (d m : ℕ) (above old : Inode) (name : List �
       up_still n None apart u = omega (arith, one_less n)
       up_still n (Some q) apart u = (u.0, keeps_other q n u.0 apart u.1)
 
-      by_inode : (n : ℕ) (inode : Inode) → get (insert t.inodes m (record old { names = old.names - 1; up = None })) n ≡ Some inode → Keeps (without_entry (shape_of t v) d name) n inode
-      by_inode n inode = at_insert nat_cmp_total nat_cmp-IsAntisymmetric (λ found. found ≡ Some inode → Keeps (without_entry (shape_of t v) d name) n inode) t.inodes m (record old { names = old.names - 1; up = None }) n
+      by_inode : (n : ℕ) (inode : Inode) → get (insert t.inodes m (record old { names = old.names - 1; up = None })) n ≡ Some inode → IsInodeOf (without_entry (shape_of t v) d name) n inode
+      by_inode n inode = at_insert nat_cmp_total nat_cmp-IsAntisymmetric (λ found. found ≡ Some inode → IsInodeOf (without_entry (shape_of t v) d name) n inode) t.inodes m (record old { names = old.names - 1; up = None }) n
           (λ same e. let keeps = s.kept m old at_m in
-          subst (λ x. Keeps (without_entry (shape_of t v) d name) x inode) (sym same) (subst (Keeps (without_entry (shape_of t v) d name) m) (let this : record old { names = old.names - 1; up = None } ≡ inode = cc in this) (record {
+          subst (λ x. IsInodeOf (without_entry (shape_of t v) d name) x inode) (sym same) (subst (IsInodeOf (without_entry (shape_of t v) d name) m) (let this : record old { names = old.names - 1; up = None } ≡ inode = cc in this) (record {
             kind = kind-without_entry (shape_of t v) d name is_d m ∙ keeps.kind;
             names = omega (arith, one_less m, one_for-same m, keeps.names);
             up = λ k. let most = once (dir_kind (node_at (shape_of t v) m) (keeps.kind ∙ ap Some k)) in omega (arith, one_less m, one_for-same m);
@@ -231,7 +231,7 @@ up-inode t v n inode s there is =
     by_up (Some d) h = sym (parent_is (shape_of t v) s.tree.shaped n d h.0 is h.1)
 
 -- what the test for an unused node reads, by what is kept of it
-pub is_unused-inode : (t : Table) (v : Forest) (n : ℕ) (inode : Inode) → Mirrors t v → get t.inodes n ≡ Some inode → is_unused (tree_of t v) n ≡ (not (n == 1) && (inode.names == 0) && (inode.holds == 0))
+pub is_unused-inode : (t : Table) (v : Forest) (n : ℕ) (inode : Inode) → IsMirror t v → get t.inodes n ≡ Some inode → is_unused (tree_of t v) n ≡ (not (n == 1) && (inode.names == 0) && (inode.holds == 0))
 is_unused-inode t v n inode s there =
     ap (λ k. not (n == 1) && (k == 0) && (holds_of (tree_of t v) n == 0)) (sym (s.kept n inode there).names)
     ∙ ap (λ k. not (n == 1) && (inode.names == 0) && (k == 0)) (ap (λ found. unwrap_or (option_map (λ (a : Attributes). a.holds) found) 0) (get-map_values nat_cmp_total attributes_of t.inodes n ∙ ap (option_map attributes_of) there))

@@ -7,7 +7,7 @@ use Rattle.std.specs.Prelude.{nat_lt, zero, suc}
 use Rattle.std.specs.List.{filter}
 use Rattle.dt_tree.specs.declared.list.Listed.{Listed}
 use Rattle.dt_tree.specs.Listing.{is_left, next_of}
-use Rattle.dt_tree.specs.inner.Lists.{added}
+use Rattle.dt_tree.specs.inner.Lists.{with_listed}
 
 take_none : {X : Type 0} (most : ℕ) → take {A = X} most [] ≡ []
 take_none zero = refl
@@ -24,7 +24,7 @@ take_push (suc most) (y ∷ ys) x =
     by_test true e = let same : nat_lt (suc (length (take most ys))) (suc most) ≡ true = grind (arith, nat_tests) in sym (ap (λ b. cond b (y ∷ (take most ys ++ x ∷ [])) (y ∷ take most ys)) same)
     by_test false e = let same : nat_lt (suc (length (take most ys))) (suc most) ≡ false = grind (arith, nat_tests) in sym (ap (λ b. cond b (y ∷ (take most ys ++ x ∷ [])) (y ∷ take most ys)) same)
 
-pub next_of-push : (last : Option (List ℕ)) (most : ℕ) (list : List Listed) (l : Listed) → next_of last most (list ++ l ∷ []) ≡ added last most (next_of last most list) l
+pub next_of-push : (last : Option (List ℕ)) (most : ℕ) (list : List Listed) (l : Listed) → next_of last most (list ++ l ∷ []) ≡ with_listed last most (next_of last most list) l
 next_of-push last most list l =
     ap (take most) (filter-append (λ (l : Listed). is_left last l.name) list (l ∷ []))
     ∙ by_test (is_left last l.name)

@@ -4,19 +4,19 @@ use Rattle.std.specs.Prelude.{IsSome, is_some, unwrap_or, option_map, option_and
 use Rattle.std.specs.Cmp.{nat_cmp_total}
 use Rattle.std.specs.FinMap.{get}
 use Rattle.dt_host.specs.World.{Forest, Node, file, dir, link, node_at, dir_names, dir_at, link_target, target_at, file_bytes, file_at, IsDir, IsLink, content}
-use Rattle.dt_host.specs.Values.{map_values}
-use Rattle.dt_host.proofs.Found.{some_true}
-use Rattle.dt_host.proofs.Valued.{get-map_values}
+use Rattle.dt_tables.specs.Values.{map_values}
+use Rattle.dt_tables.proofs.Found.{some_true}
+use Rattle.dt_tables.proofs.Valued.{get-map_values}
 use Rattle.dt_tree.specs.declared.inode.Kind.{Kind}
 use Rattle.dt_tree.specs.declared.inode.Kind.TheVariants.{File, Dir, Link}
 use Rattle.dt_tree.specs.declared.inode.Inode.{Inode}
 use Rattle.dt_tree.specs.declared.limits.TheConstants.{DIR_SIZE}
-use Rattle.dt_tree.specs.Shape.{names_of, is_dir, is_link, is_removed}
+use Rattle.dt_tree.specs.Shape.{name_count_of, is_dir, is_link, is_removed}
 use Rattle.dt_tree.specs.Listing.{type_of, type_at}
 use Rattle.dt_tree.specs.FileTree.{Attributes}
 use Rattle.dt_tree.specs.declared.meta.Meta.{Meta}
-use Rattle.dt_tree.specs.Meta.{node_size, nlink_of, subdirectories, meta_of}
-use Rattle.dt_tree.specs.Table.{Table, node_for, attributes_of, shape_of, tree_of, kind_of, Mirrors, Pairs}
+use Rattle.dt_tree.specs.Meta.{node_size, nlink_of, subdirectory_count, meta_of}
+use Rattle.dt_tree.specs.Table.{Table, node_for, attributes_of, shape_of, tree_of, kind_of, IsMirror, IsPairing}
 use Rattle.dt_tree.specs.inner.Kinds.{type_for}
 use Rattle.dt_tree.proofs.Mirroring.{node_at-shape, target_at-inode, file_at-inode}
 
@@ -39,7 +39,7 @@ type_by (Some (file bytes)) kind e = let same : File ≡ kind = cc in ap (λ k. 
 type_by (Some (dir names)) kind e = let same : Dir ≡ kind = cc in ap (λ k. Some (type_for k)) same
 type_by (Some (link target)) kind e = let same : Link ≡ kind = cc in ap (λ k. Some (type_for k)) same
 
-module _ (t : Table) (v : Forest) (s : Mirrors t v) (n : ℕ) (inode : Inode) (at : get t.inodes n ≡ Some inode) where
+module _ (t : Table) (v : Forest) (s : IsMirror t v) (n : ℕ) (inode : Inode) (at : get t.inodes n ≡ Some inode) where
   pub type_at-some : type_for inode.kind ≡ type_at (shape_of t v) n
   type_at-some = sym (ap (λ found. unwrap_or found 0) (type_by (node_at (shape_of t v) n) inode.kind (s.kept n inode at).kind))
 
@@ -107,12 +107,12 @@ module _ (t : Table) (v : Forest) (s : Mirrors t v) (n : ℕ) (inode : Inode) (a
           ∙ (λ i. Some (at_kind (kind i) (sized i)))
 
 -- the bytes of a file
-pub content-inode : (t : Table) (v : Forest) (s : Pairs t v) (n : ℕ) (inode : Inode) → get t.inodes n ≡ Some inode → content (shape_of t v) n ≡ content v inode.real
+pub content-inode : (t : Table) (v : Forest) (s : IsPairing t v) (n : ℕ) (inode : Inode) → get t.inodes n ≡ Some inode → content (shape_of t v) n ≡ content v inode.real
 unfolding content
 content-inode t v s n inode at = ap (λ (found : Option (List ℕ)). unwrap_or found []) (file_at-inode t v s n inode at)
 
 pub nlink_of-removed : (v : Forest) (d : ℕ) → IsDir v d → is_removed v d ≡ true → nlink_of v d ≡ 0
-nlink_of-removed v d is gone = ap (λ b. cond b (cond (is_removed v d) 0 (2 + subdirectories v d)) (names_of v d)) (some_true (dir_at v d) is) ∙ ap (λ b. cond b 0 (2 + subdirectories v d)) gone
+nlink_of-removed v d is gone = ap (λ b. cond b (cond (is_removed v d) 0 (2 + subdirectory_count v d)) (name_count_of v d)) (some_true (dir_at v d) is) ∙ ap (λ b. cond b 0 (2 + subdirectory_count v d)) gone
 
-pub nlink_of-there : (v : Forest) (d : ℕ) → IsDir v d → is_removed v d ≡ false → nlink_of v d ≡ 2 + subdirectories v d
-nlink_of-there v d is there = ap (λ b. cond b (cond (is_removed v d) 0 (2 + subdirectories v d)) (names_of v d)) (some_true (dir_at v d) is) ∙ ap (λ b. cond b 0 (2 + subdirectories v d)) there
+pub nlink_of-there : (v : Forest) (d : ℕ) → IsDir v d → is_removed v d ≡ false → nlink_of v d ≡ 2 + subdirectory_count v d
+nlink_of-there v d is there = ap (λ b. cond b (cond (is_removed v d) 0 (2 + subdirectory_count v d)) (name_count_of v d)) (some_true (dir_at v d) is) ∙ ap (λ b. cond b 0 (2 + subdirectory_count v d)) there

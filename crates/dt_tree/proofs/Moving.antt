@@ -3,17 +3,17 @@ use Rattle.std.proofs.Common.{arith, ◌≡◌, ◌≢◌, ℕ, zero, suc, ◌+�
 use Rattle.std.proofs.lemmas.Bool.{cases_eq}
 use Rattle.std.specs.Prelude.{IfSome, unwrap_or}
 use Rattle.dt_host.specs.World.{Forest, entry, with_entry, without_entry, IsDir, IsFile, IsLive, IsBare}
-use Rattle.dt_host.specs.inner.Weight.{weight}
-use Rattle.dt_host.proofs.Found.{not_both}
+use Rattle.dt_tables.specs.inner.Weight.{weight}
+use Rattle.dt_tables.proofs.Found.{not_both}
 use Rattle.dt_host.proofs.Changes.{IsFile-bound}
 use Rattle.dt_host.proofs.Spots.{IsDir-entry, at_with_entry, IsDir-with_entry, IsDir-from_with_entry, IsLive-with_entry, is_some-with_entry, len-with_entry, root-with_entry}
 use Rattle.dt_host.proofs.Gone.{at_without_entry, IsDir-without_entry, IsDir-from_without_entry, IsFile-without_entry, IsLive-without_entry, is_some-without_entry, len-without_entry, root-without_entry, without_entry-none, with_entry-cleared}
 use Rattle.dt_tree.specs.declared.limits.TheConstants.{NODE_LIMIT}
 use Rattle.std.specs.FinMap.{len}
-use Rattle.dt_tree.specs.Shape.{one_for, names_of, name_count, is_bare, is_removed, LeadsUp, IsBelow, IsUnder, IsRemoved, IsShaped}
+use Rattle.dt_tree.specs.Shape.{one_for, name_count_of, name_count, is_bare, is_removed, LeadsUp, IsBelow, IsUnder, IsRemoved, IsShaped}
 use Rattle.dt_tree.specs.Above.{is_below}
 use Rattle.dt_tree.specs.FileTree.{FileTree, IsTree, IsTreeBut}
-use Rattle.dt_tree.specs.Changes.{with_shape, with_stamp, stamped, swept_found, renamed}
+use Rattle.dt_tree.specs.Changes.{with_shape, with_stamp, tree_with_stamp, without_unused_found, tree_after_rename}
 use Rattle.dt_tree.specs.Calls.{KeepsHeld, MayMove}
 use Rattle.dt_tree.specs.inner.Moves.{IsMove}
 use Rattle.dt_tree.proofs.Namings.{one_for-same, weight_zero, names_of-with_entry, names_of-without_entry, name_count-with_entry, name_count-without_entry, named}
@@ -68,7 +68,7 @@ module _ (v : Forest) (s : IsShaped v) (from : ℕ) (old : List ℕ) (to : ℕ) 
   pub found_first : entry (without_entry v from old) to new ≡ entry v to new
   found_first = at_without_entry v from old (λ found. found ≡ entry v to new) to new (λ same alike. absurd (may.apart (ap (λ x. entry v x new) same ∙ ap (entry v from) alike ∙ may.here))) (λ _. refl)
 
-  pub once_first : (n : ℕ) → IsDir (without_entry v from old) n → names_of (without_entry v from old) n ≤ 1
+  pub once_first : (n : ℕ) → IsDir (without_entry v from old) n → name_count_of (without_entry v from old) n ≤ 1
   once_first n is = omega (arith, names_of-without_entry v from n old, s.once n (IsDir-from_without_entry v from old is_from n is))
 
   -- after what stood in the new place lost its name there
@@ -94,7 +94,7 @@ module _ (v : Forest) (s : IsShaped v) (from : ℕ) (old : List ℕ) (to : ℕ) 
   top_same : (with_entry (without_entry v from old) to new m).root ≡ v.root
   top_same = root-with_entry (without_entry v from old) to new m ∙ root-without_entry v from old
 
-  moved_count : (n : ℕ) → names_of (with_entry (without_entry v from old) to new m) n + weight (one_for n) (entry v to new) ≡ names_of v n
+  moved_count : (n : ℕ) → name_count_of (with_entry (without_entry v from old) to new m) n + weight (one_for n) (entry v to new) ≡ name_count_of v n
   moved_count n =
       let less = names_of-without_entry v from n old in
       let more = names_of-with_entry (without_entry v from old) to n new m in
@@ -164,7 +164,7 @@ module _ (v : Forest) (s : IsShaped v) (from : ℕ) (old : List ℕ) (to : ℕ) 
   shaped-moved = record {
     root = subst (IsDir (with_entry (without_entry v from old) to new m)) (sym top_same) (is_third v.root s.root);
     named = λ n h. live_third n (s.named n (omega (arith, moved_count n)));
-    unnamed = let at = ap (names_of (with_entry (without_entry v from old) to new m)) top_same in omega (arith, moved_count v.root, s.unnamed);
+    unnamed = let at = ap (name_count_of (with_entry (without_entry v from old) to new m)) top_same in omega (arith, moved_count v.root, s.unnamed);
     once = λ n is. omega (arith, moved_count n, s.once n (back n is));
     placed = λ n is. by_place n (back n is) (s.placed n (back n is));
   }
@@ -192,7 +192,7 @@ module _ (v : Forest) (s : IsShaped v) (from : ℕ) (old : List ℕ) (to : ℕ) 
 -- rename(2)
 module _ (t : FileTree) (s : IsTree t) (from : ℕ) (old : List ℕ) (to : ℕ) (new : List ℕ) (m : ℕ) (may : IsMove t.shape from old to new m) (stamp : ℕ) where
   -- before what was replaced is swept
-  pub IsTreeBut-moved : IsTreeBut (entry t.shape to new) (stamped (stamped (with_shape t (with_entry (without_entry t.shape from old) to new m)) from stamp) to stamp)
+  pub IsTreeBut-moved : IsTreeBut (entry t.shape to new) (tree_with_stamp (tree_with_stamp (with_shape t (with_entry (without_entry t.shape from old) to new m)) from stamp) to stamp)
   IsTreeBut-moved =
       let is = is_from t.shape s.shaped from old to new m may in
       let is_to = is_first t.shape s.shaped from old to new m may in
@@ -206,23 +206,23 @@ module _ (t : FileTree) (s : IsTree t) (from : ℕ) (old : List ℕ) (to : ℕ) 
       (omega (arith, few_moved t.shape s.shaped from old to new m may, s.few_names))
       (λ n apart. omega (arith, moved_count t.shape s.shaped from old to new m may n, weight_zero n (entry t.shape to new) apart))))
 
-  pub renamed-is : renamed t from old to new stamp ≡ swept_found (entry t.shape to new) (stamped (stamped (with_shape t (with_entry (without_entry t.shape from old) to new m)) from stamp) to stamp)
-  unfolding renamed
-  renamed-is = ap (λ found. swept_found (entry t.shape to new) (stamped (stamped (with_shape t (with_entry (without_entry t.shape from old) to new (unwrap_or found 0))) from stamp) to stamp)) may.here
+  pub renamed-is : tree_after_rename t from old to new stamp ≡ without_unused_found (entry t.shape to new) (tree_with_stamp (tree_with_stamp (with_shape t (with_entry (without_entry t.shape from old) to new m)) from stamp) to stamp)
+  unfolding tree_after_rename
+  renamed-is = ap (λ found. without_unused_found (entry t.shape to new) (tree_with_stamp (tree_with_stamp (with_shape t (with_entry (without_entry t.shape from old) to new (unwrap_or found 0))) from stamp) to stamp)) may.here
 
-  pub IsTree-renamed : IsTree (renamed t from old to new stamp)
+  pub IsTree-renamed : IsTree (tree_after_rename t from old to new stamp)
   IsTree-renamed = subst IsTree (sym renamed-is) (IsTree-swept_found _ (entry t.shape to new) IsTreeBut-moved)
 
-  pub KeepsHeld-renamed : KeepsHeld t (renamed t from old to new stamp)
+  pub KeepsHeld-renamed : KeepsHeld t (tree_after_rename t from old to new stamp)
   KeepsHeld-renamed =
       let moved : FileTree = with_shape t (with_entry (without_entry t.shape from old) to new m) in
-      let first : FileTree = stamped moved from stamp in
-      let second : FileTree = stamped first to stamp in
+      let first : FileTree = tree_with_stamp moved from stamp in
+      let second : FileTree = tree_with_stamp first to stamp in
       subst (λ t2. KeepsHeld t t2) (sym renamed-is)
-      (KeepsHeld-then t moved (swept_found (entry t.shape to new) second)
+      (KeepsHeld-then t moved (without_unused_found (entry t.shape to new) second)
       (KeepsHeld-with_shape t (with_entry (without_entry t.shape from old) to new m) (is_file_third t.shape s.shaped from old to new m may) (is_third t.shape s.shaped from old to new m may))
-      (KeepsHeld-then moved first (swept_found (entry t.shape to new) second) (KeepsHeld-stamped moved from stamp)
-      (KeepsHeld-then first second (swept_found (entry t.shape to new) second) (KeepsHeld-stamped first to stamp)
+      (KeepsHeld-then moved first (without_unused_found (entry t.shape to new) second) (KeepsHeld-stamped moved from stamp)
+      (KeepsHeld-then first second (without_unused_found (entry t.shape to new) second) (KeepsHeld-stamped first to stamp)
       (KeepsHeld-swept_found second (entry t.shape to new) IsTreeBut-moved))))
 
 -- the steps, one after the other: the old name goes, what has the new one goes, the new name is given, and two stamps
@@ -244,16 +244,16 @@ module _ (t0 t1 : FileTree) (from : ℕ) (old : List ℕ) (e1 : t1 ≡ with_shap
       pub shape_third : t3.shape ≡ with_entry (without_entry t0.shape from old) to new m
       shape_third = ap (λ (t : FileTree). t.shape) tree_third
 
-      module _ (t4 : FileTree) (stamp : ℕ) (e4 : t4 ≡ stamped t3 from stamp) where
+      module _ (t4 : FileTree) (stamp : ℕ) (e4 : t4 ≡ tree_with_stamp t3 from stamp) where
         pub shape_fourth : t4.shape ≡ with_entry (without_entry t0.shape from old) to new m
         shape_fourth = ap (λ (t : FileTree). t.shape) e4 ∙ shape-with_attributes t3 from (with_stamp stamp) ∙ shape_third
 
-        module _ (t5 : FileTree) (e5 : t5 ≡ stamped t4 to stamp) where
+        module _ (t5 : FileTree) (e5 : t5 ≡ tree_with_stamp t4 to stamp) where
           pub shape_fifth : t5.shape ≡ with_entry (without_entry t0.shape from old) to new m
           shape_fifth = ap (λ (t : FileTree). t.shape) e5 ∙ shape-with_attributes t4 to (with_stamp stamp) ∙ shape_fourth
 
-          pub tree_fifth : t5 ≡ stamped (stamped (with_shape t0 (with_entry (without_entry t0.shape from old) to new m)) from stamp) to stamp
-          tree_fifth = e5 ∙ ap (λ t. stamped t to stamp) (e4 ∙ ap (λ t. stamped t from stamp) tree_third)
+          pub tree_fifth : t5 ≡ tree_with_stamp (tree_with_stamp (with_shape t0 (with_entry (without_entry t0.shape from old) to new m)) from stamp) to stamp
+          tree_fifth = e5 ∙ ap (λ t. tree_with_stamp t to stamp) (e4 ∙ ap (λ t. tree_with_stamp t from stamp) tree_third)
 
           -- and the sweep of what was replaced
           module _ (s : IsTree t0) (may : IsMove t0.shape from old to new m) (replaced : Option ℕ) (is : replaced ≡ entry t0.shape to new) where
@@ -263,8 +263,8 @@ module _ (t0 t1 : FileTree) (from : ℕ) (old : List ℕ) (e1 : t1 ≡ with_shap
             pub live_replaced : IfSome replaced (IsLive t5.shape)
             live_replaced = subst (λ v. IfSome replaced (IsLive v)) (sym shape_fifth) (if_found (IsLive (with_entry (without_entry t0.shape from old) to new m)) replaced (λ n e. live_third t0.shape s.shaped from old to new m may n (live_named t0.shape s.shaped to n new (sym is ∙ e))))
 
-            pub tree_last : (t6 : FileTree) → t6 ≡ swept_found replaced t5 → t6 ≡ renamed t0 from old to new stamp
+            pub tree_last : (t6 : FileTree) → t6 ≡ without_unused_found replaced t5 → t6 ≡ tree_after_rename t0 from old to new stamp
             tree_last t6 e6 =
-                e6 ∙ ap (swept_found replaced) tree_fifth
-                ∙ ap (λ found. swept_found found (stamped (stamped (with_shape t0 (with_entry (without_entry t0.shape from old) to new m)) from stamp) to stamp)) is
+                e6 ∙ ap (without_unused_found replaced) tree_fifth
+                ∙ ap (λ found. without_unused_found found (tree_with_stamp (tree_with_stamp (with_shape t0 (with_entry (without_entry t0.shape from old) to new m)) from stamp) to stamp)) is
                 ∙ sym (renamed-is t0 s from old to new m may stamp)

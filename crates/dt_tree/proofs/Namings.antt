@@ -8,11 +8,11 @@ use Rattle.std.specs.FinMap.{empty, entries, len, len-entries, len-empty, len-in
 use Rattle.std.specs.Ordering.{nat_cmp}
 use Rattle.std.specs.Cmp.Lexicographic.{slice_cmp}
 use Rattle.dt_host.specs.World.{Forest, Node, Names, file, dir, link, node_at, dir_names, names_at, entry, with_node, with_entry, without_entry, without_node, IsBare}
-use Rattle.dt_host.specs.Total.{total, total_in}
-use Rattle.dt_host.specs.inner.Weight.{weight}
-use Rattle.dt_host.proofs.Maps.{at_insert, names_tie, get-remove_same}
-use Rattle.dt_host.proofs.Totals.{total-insert, total-remove, total-empty, put_again}
-use Rattle.dt_tree.specs.Shape.{one_for, entries_for, names_of, name_count}
+use Rattle.dt_tables.specs.Total.{total, total_in}
+use Rattle.dt_tables.specs.inner.Weight.{weight}
+use Rattle.dt_tables.proofs.Maps.{at_insert, names_tie, get-remove_same}
+use Rattle.dt_tables.proofs.Totals.{total-insert, total-remove, total-empty, put_again}
+use Rattle.dt_tree.specs.Shape.{one_for, entry_count_for, name_count_of, name_count}
 
 pub same_name : (a b : List ℕ) → (a ≡ b) ⊎ (a ≢ b)
 same_name a b = at_insert nat_list_cmp_total names_tie (λ _. (a ≡ b) ⊎ (a ≢ b)) (empty {X = ℕ}) b 0 a inl inr
@@ -27,7 +27,7 @@ pub one_for-other : (n x : ℕ) → n ≢ x → one_for n x ≡ 0
 one_for-other n x h = grind (arith, nat_tests)
 
 -- the entries for a node among those of a number
-held : (n : ℕ) (found : Option Node) → weight (entries_for n) found ≡ total (one_for n) (unwrap_or (option_and_then dir_names found) empty)
+held : (n : ℕ) (found : Option Node) → weight (entry_count_for n) found ≡ total (one_for n) (unwrap_or (option_and_then dir_names found) empty)
 held n None = sym (total-empty nat_list_cmp_total (one_for n))
 held n (Some (file bytes)) = refl
 held n (Some (dir names)) = refl
@@ -37,37 +37,37 @@ no_names : (names : Names) → ((name : List ℕ) → get names name ≡ None) �
 no_names names none = same_map nat_list_cmp_total names_tie names empty (λ name. none name ∙ sym (get-empty (slice_cmp nat_cmp) name))
 
 module _ (v : Forest) (d : ℕ) (n : ℕ) where
-  pub names_of-with_node : (node : Node) → names_of (with_node v d node) n + total (one_for n) (names_at v d) ≡ names_of v n + entries_for n node
-  unfolding names_of names_at
+  pub names_of-with_node : (node : Node) → name_count_of (with_node v d node) n + total (one_for n) (names_at v d) ≡ name_count_of v n + entry_count_for n node
+  unfolding name_count_of names_at
   names_of-with_node node =
-      let sum = total-insert nat_cmp_total (entries_for n) v.nodes d node in
+      let sum = total-insert nat_cmp_total (entry_count_for n) v.nodes d node in
       let there = held n (node_at v d) in
       omega arith
 
-  pub names_of-with_entry : (name : List ℕ) (x : ℕ) → names_of (with_entry v d name x) n + weight (one_for n) (entry v d name) ≡ names_of v n + one_for n x
+  pub names_of-with_entry : (name : List ℕ) (x : ℕ) → name_count_of (with_entry v d name x) n + weight (one_for n) (entry v d name) ≡ name_count_of v n + one_for n x
   unfolding with_entry entry
   names_of-with_entry name x =
       let node = names_of-with_node (dir (insert (names_at v d) name x)) in
       let more = total-insert nat_list_cmp_total (one_for n) (names_at v d) name x in
       omega arith
 
-  pub names_of-without_entry : (name : List ℕ) → names_of (without_entry v d name) n + weight (one_for n) (entry v d name) ≡ names_of v n
+  pub names_of-without_entry : (name : List ℕ) → name_count_of (without_entry v d name) n + weight (one_for n) (entry v d name) ≡ name_count_of v n
   unfolding without_entry entry
   names_of-without_entry name =
       let node = names_of-with_node (dir (remove (names_at v d) name)) in
       let less = total-remove nat_list_cmp_total (one_for n) names_tie (names_at v d) name in
       omega arith
 
-  pub names_of-without_node : IsBare v d → names_of (without_node v d) n ≡ names_of v n
-  unfolding names_of names_at entry
+  pub names_of-without_node : IsBare v d → name_count_of (without_node v d) n ≡ name_count_of v n
+  unfolding name_count_of names_at entry
   names_of-without_node bare =
-      let sum = total-remove nat_cmp_total (entries_for n) nat_cmp-IsAntisymmetric v.nodes d in
+      let sum = total-remove nat_cmp_total (entry_count_for n) nat_cmp-IsAntisymmetric v.nodes d in
       let there = held n (node_at v d) in
       let none = ap (total (one_for n)) (no_names (names_at v d) bare) in
       let zero = total-empty nat_list_cmp_total (one_for n) in
       omega arith
 
-  pub names_of-with_new : (node : Node) → node_at v d ≡ None → unwrap_or (dir_names node) empty ≡ empty → names_of (with_node v d node) n ≡ names_of v n
+  pub names_of-with_new : (node : Node) → node_at v d ≡ None → unwrap_or (dir_names node) empty ≡ empty → name_count_of (with_node v d node) n ≡ name_count_of v n
   unfolding names_at
   names_of-with_new node free none =
       let sum = names_of-with_node node in
@@ -76,7 +76,7 @@ module _ (v : Forest) (d : ℕ) (n : ℕ) where
       omega arith
 
   -- an entry is a name
-  pub named : (name : List ℕ) → entry v d name ≡ Some n → 1 ≤ names_of v n
+  pub named : (name : List ℕ) → entry v d name ≡ Some n → 1 ≤ name_count_of v n
   named name e =
       let sum = names_of-with_entry name (n + 1) in
       let one = ap (weight (one_for n)) e ∙ one_for-same n in
@@ -154,9 +154,9 @@ one_at_most n (e ∷ es) = omega (arith, one_or_none n e.1, one_at_most n es)
     one_or_none n x = grind (arith, nat_tests)
 
 -- a node has no more names than there are
-pub names_of-le : (v : Forest) (n : ℕ) → names_of v n ≤ name_count v
-unfolding names_of name_count total
-names_of-le v n = total_in-le (entries_for n) (λ node. len (unwrap_or (dir_names node) empty)) (λ node. at_node (unwrap_or (dir_names node) empty)) (entries v.nodes)
+pub names_of-le : (v : Forest) (n : ℕ) → name_count_of v n ≤ name_count v
+unfolding name_count_of name_count total
+names_of-le v n = total_in-le (entry_count_for n) (λ node. len (unwrap_or (dir_names node) empty)) (λ node. at_node (unwrap_or (dir_names node) empty)) (entries v.nodes)
   where
     at_node : (names : Names) → total (one_for n) names ≤ len names
     at_node names = let size = len-entries names in omega (arith, one_at_most n (entries names))

@@ -15,10 +15,10 @@ use Rattle.std.specs.Cmp.Lexicographic.{slice_cmp, nat_list_cmp_total}
 use Rattle.std.proofs.lemmas.Cmp.{tied_itself}
 use Rattle.std.specs.FinMap.{FinMap, get, len, entries, entries_sorted, get-entries}
 use Rattle.std.specs.FinMap.Entries.{find, below_all, is_sorted}
-use Rattle.dt_host.proofs.Conjuncts.{first, second}
+use Rattle.dt_tables.proofs.Conjuncts.{first, second}
 use Rattle.dt_host.specs.World.{Forest, Names, IsDir}
 use Rattle.dt_host.proofs.Spots.{IsDir-entry}
-use Rattle.dt_tree.specs.Shape.{names_of, LeadsUp, IsUnder, IsShaped, is_removed}
+use Rattle.dt_tree.specs.Shape.{name_count_of, LeadsUp, IsUnder, IsShaped, is_removed}
 use Rattle.dt_tree.specs.Above.{name_in, parent_at, dot_dot, names_up, path_of, path_text}
 use Rattle.dt_tree.specs.inner.Names.{name_for}
 use Rattle.dt_tree.proofs.Namings.{named}
@@ -72,11 +72,11 @@ module _ (v : Forest) (s : IsShaped v) where
     | inr r ↦ elim (cases_eq n v.root) [
       | inl top ↦
           let here : (n == v.root) ≡ true = grind (arith, nat_tests) in
-          ap (λ found. is_some (option_map path_text found)) (up_root 4096 v n [] (omega arith) top) ∙ sym (ap (λ b. not (not b && (names_of v n == 0))) here)
+          ap (λ found. is_some (option_map path_text found)) (up_root 4096 v n [] (omega arith) top) ∙ sym (ap (λ b. not (not b && (name_count_of v n == 0))) here)
       | inr apart ↦
           let here : (n == v.root) ≡ false = grind (arith, nat_tests) in
-          let none : (names_of v n == 0) ≡ true = grind (arith, nat_tests, r.nameless) in
-          ap (λ found. is_some (option_map path_text found)) (up_none 4096 v n [] apart (no_parent v n r.nameless)) ∙ sym (ap (λ b. not (not b && (names_of v n == 0))) here ∙ ap not none)
+          let none : (name_count_of v n == 0) ≡ true = grind (arith, nat_tests, r.nameless) in
+          ap (λ found. is_some (option_map path_text found)) (up_none 4096 v n [] apart (no_parent v n r.nameless)) ∙ sym (ap (λ b. not (not b && (name_count_of v n == 0))) here ∙ ap not none)
     ]
   ]
     where
@@ -87,35 +87,35 @@ module _ (v : Forest) (s : IsShaped v) where
       there : IsUnder v n → is_some (path_of v n) ≡ true
       there u = some_mapped (names_up 4096 v n []) (has_path u.0 4096 n [] is u.1 (let bound = depth_bound v s u.0 n is u.1 in omega arith))
 
-      named_if : (k : ℕ) → LeadsUp v k n v.root → n ≢ v.root → names_of v n ≢ 0
+      named_if : (k : ℕ) → LeadsUp v k n v.root → n ≢ v.root → name_count_of v n ≢ 0
       named_if k up apart none = apart (root_if_both v s n (k, up) none)
 
       by_root : IsUnder v n → (b : Bool) → (n == v.root) ≡ b → is_some (path_of v n) ≡ not (is_removed v n)
-      by_root u true e = there u ∙ sym (ap (λ b. not (not b && (names_of v n == 0))) e)
+      by_root u true e = there u ∙ sym (ap (λ b. not (not b && (name_count_of v n == 0))) e)
       by_root u false e =
           let apart : n ≢ v.root = grind (arith, nat_tests) in
           let some = named_if u.0 u.1 apart in
-          let test : (names_of v n == 0) ≡ false = grind (arith, nat_tests) in
-          there u ∙ sym (ap (λ b. not (not b && (names_of v n == 0))) e ∙ ap not test)
+          let test : (name_count_of v n == 0) ≡ false = grind (arith, nat_tests) in
+          there u ∙ sym (ap (λ b. not (not b && (name_count_of v n == 0))) e ∙ ap not test)
 
   -- nor is there a directory above it
   pub dot_dot-removed : (n : ℕ) → IsDir v n → is_some (dot_dot v n) ≡ not (is_removed v n)
   unfolding LeadsUp
   dot_dot-removed n is = by_root (n == v.root) refl
     where
-      below : (k : ℕ) → LeadsUp v k n v.root → n ≢ v.root → is_some (parent_at v n) ≡ not (names_of v n == 0)
+      below : (k : ℕ) → LeadsUp v k n v.root → n ≢ v.root → is_some (parent_at v n) ≡ not (name_count_of v n == 0)
       below zero up apart = absurd (apart up)
       below (suc k) up apart =
           let some = named v up.0 n up.1 up.2 in
-          let test : (names_of v n == 0) ≡ false = grind (arith, nat_tests) in
+          let test : (name_count_of v n == 0) ≡ false = grind (arith, nat_tests) in
           ap is_some (parent_is v s n up.0 up.1 is up.2) ∙ sym (ap not test)
 
-      by_root : (b : Bool) → (n == v.root) ≡ b → is_some (cond b (Some n) (parent_at v n)) ≡ not (not b && (names_of v n == 0))
+      by_root : (b : Bool) → (n == v.root) ≡ b → is_some (cond b (Some n) (parent_at v n)) ≡ not (not b && (name_count_of v n == 0))
       by_root true e = refl
       by_root false e = elim (s.placed n is) [
         | inl u ↦ let apart : n ≢ v.root = grind (arith, nat_tests) in below u.0 u.1 apart
         | inr r ↦
-            let none : (names_of v n == 0) ≡ true = grind (arith, nat_tests, r.nameless) in
+            let none : (name_count_of v n == 0) ≡ true = grind (arith, nat_tests, r.nameless) in
             ap is_some (no_parent v n r.nameless) ∙ sym (ap not none)
       ]
 

@@ -4,11 +4,11 @@ use Rattle.std.proofs.lemmas.Bool.{cases_eq}
 use Rattle.std.specs.Prelude.{unwrap_or}
 use Rattle.std.specs.FinMap.{empty}
 use Rattle.dt_host.specs.World.{Forest, Node, dir_names, with_node, node_at, entry, with_entry, without_entry, without_node, IsDir, IsLive, IsBare}
-use Rattle.dt_host.specs.inner.Weight.{weight}
-use Rattle.dt_host.proofs.Found.{none_there, not_both}
+use Rattle.dt_tables.specs.inner.Weight.{weight}
+use Rattle.dt_tables.proofs.Found.{none_there, not_both}
 use Rattle.dt_host.proofs.Spots.{IsDir-entry, IsLive-IsDir, entry-with_new, IsDir-with_new, IsDir-from_with_new, IsLive-with_new, at_with_entry, IsDir-with_entry, IsDir-from_with_entry, IsLive-with_entry, root-with_entry}
 use Rattle.dt_host.proofs.Gone.{at_without_entry, IsDir-without_entry, IsDir-from_without_entry, IsLive-without_entry, root-without_entry, entry-without_node, IsLive-without_node, IsDir-without_node, IsDir-from_without_node}
-use Rattle.dt_tree.specs.Shape.{one_for, names_of, LeadsUp, IsBelow, IsUnder, IsRemoved, IsShaped}
+use Rattle.dt_tree.specs.Shape.{one_for, name_count_of, LeadsUp, IsBelow, IsUnder, IsRemoved, IsShaped}
 use Rattle.dt_tree.proofs.Namings.{same_name, one_for-same, one_for-other, names_of-with_entry, names_of-without_entry, names_of-without_node, names_of-with_new, named}
 
 pub same_number : (found : Option ℕ) (n m : ℕ) → found ≡ Some n → found ≡ Some m → n ≡ m
@@ -52,7 +52,7 @@ module _ (v : Forest) (s : IsShaped v) where
           omega arith
 
   -- where a removed directory is below the root, it is the root
-  pub root_if_both : (n : ℕ) → IsUnder v n → names_of v n ≡ 0 → n ≡ v.root
+  pub root_if_both : (n : ℕ) → IsUnder v n → name_count_of v n ≡ 0 → n ≡ v.root
   unfolding LeadsUp
   root_if_both n u none = by_steps u.0 u.1
     where
@@ -64,7 +64,7 @@ module _ (v : Forest) (s : IsShaped v) where
   pub not_root : (d : ℕ) (name : List ℕ) (n : ℕ) → entry v d name ≡ Some n → n ≢ v.root
   not_root d name n e same =
       let some = named v d n name e in
-      let none = ap (names_of v) same ∙ s.unnamed in
+      let none = ap (name_count_of v) same ∙ s.unnamed in
       omega arith
 
   -- going up from a directory takes one number of steps
@@ -88,14 +88,14 @@ module _ (v : Forest) (s : IsShaped v) where
     bare_still : (q : ℕ) → IsBare v q → IsBare (without_entry v d a) q
     bare_still q bare c = at_without_entry v d a (λ found. found ≡ None) q c (λ _ _. refl) (λ _. bare c)
 
-    fewer : (n : ℕ) → names_of (without_entry v d a) n + one_for n m ≡ names_of v n
+    fewer : (n : ℕ) → name_count_of (without_entry v d a) n + one_for n m ≡ name_count_of v n
     fewer n = let sum = names_of-without_entry v d n a in let one = ap (weight (one_for n)) from in omega arith
 
     pub shaped-without_entry : IsShaped (without_entry v d a)
     shaped-without_entry = record {
       root = subst (IsDir (without_entry v d a)) (sym (root-without_entry v d a)) (IsDir-without_entry v d a v.root s.root);
       named = λ n h. IsLive-without_entry v d a n (s.named n (omega (arith, fewer n)));
-      unnamed = let none = ap (names_of (without_entry v d a)) (root-without_entry v d a) in omega (arith, fewer v.root, s.unnamed);
+      unnamed = let none = ap (name_count_of (without_entry v d a)) (root-without_entry v d a) in omega (arith, fewer v.root, s.unnamed);
       once = λ n is. omega (arith, fewer n, s.once n (IsDir-from_without_entry v d a (IsDir-entry v d a m from) n is));
       placed = λ n is. by_place n (s.placed n (IsDir-from_without_entry v d a (IsDir-entry v d a m from) n is)) (IsDir-from_without_entry v d a (IsDir-entry v d a m from) n is);
     }
@@ -112,7 +112,7 @@ module _ (v : Forest) (s : IsShaped v) where
 
   -- to give a node a new name: any node but the root; a directory only where it is removed
   module _ (d : ℕ) (a : List ℕ) (m : ℕ) (is_dir : IsDir v d) (under : IsUnder v d) (free : entry v d a ≡ None) (live : IsLive v m) (low : m ≢ v.root) (fresh : IsDir v m → IsRemoved v m) where
-    one_more : (n : ℕ) → names_of (with_entry v d a m) n ≡ names_of v n + one_for n m
+    one_more : (n : ℕ) → name_count_of (with_entry v d a m) n ≡ name_count_of v n + one_for n m
     one_more n = let sum = names_of-with_entry v d n a m in let none = ap (weight (one_for n)) free in omega arith
 
     stays : (q n : ℕ) (c : List ℕ) → entry v q c ≡ Some n → entry (with_entry v d a m) q c ≡ Some n
@@ -128,20 +128,20 @@ module _ (v : Forest) (s : IsShaped v) where
     shaped-with_entry = record {
       root = subst (IsDir (with_entry v d a m)) (sym (root-with_entry v d a m)) (IsDir-with_entry v d a m v.root s.root);
       named = λ n h. IsLive-with_entry v d a m n (alive n h);
-      unnamed = let none = ap (names_of (with_entry v d a m)) (root-with_entry v d a m) in omega (arith, one_more v.root, s.unnamed, one_for-other v.root m (λ e. low (sym e)));
+      unnamed = let none = ap (name_count_of (with_entry v d a m)) (root-with_entry v d a m) in omega (arith, one_more v.root, s.unnamed, one_for-other v.root m (λ e. low (sym e)));
       once = λ n is. few n (IsDir-from_with_entry v d a m is_dir n is);
       placed = λ n is. by_place n (IsDir-from_with_entry v d a m is_dir n is) (s.placed n (IsDir-from_with_entry v d a m is_dir n is));
     }
       where
-        alive : (n : ℕ) → 1 ≤ names_of (with_entry v d a m) n → IsLive v n
+        alive : (n : ℕ) → 1 ≤ name_count_of (with_entry v d a m) n → IsLive v n
         alive n h = elim (cases_eq n m) [
           | inl same ↦ subst (IsLive v) (sym same) live
           | inr apart ↦ s.named n (omega (arith, one_more n, one_for-other n m apart))
         ]
 
-        few : (n : ℕ) → IsDir v n → names_of (with_entry v d a m) n ≤ 1
+        few : (n : ℕ) → IsDir v n → name_count_of (with_entry v d a m) n ≤ 1
         few n is = elim (cases_eq n m) [
-          | inl same ↦ let none = (fresh (subst (IsDir v) same is)).nameless in let at = ap (names_of v) same in let one = ap (one_for n) (sym same) ∙ one_for-same n in omega (arith, one_more n)
+          | inl same ↦ let none = (fresh (subst (IsDir v) same is)).nameless in let at = ap (name_count_of v) same in let one = ap (one_for n) (sym same) ∙ one_for-same n in omega (arith, one_more n)
           | inr apart ↦ omega (arith, one_more n, one_for-other n m apart, s.once n is)
         ]
 
@@ -159,17 +159,17 @@ module _ (v : Forest) (s : IsShaped v) where
         ]
 
   -- a node goes that has neither a name nor an entry
-  module _ (m : ℕ) (none : names_of v m ≡ 0) (bare : IsBare v m) (low : m ≢ v.root) where
+  module _ (m : ℕ) (none : name_count_of v m ≡ 0) (bare : IsBare v m) (low : m ≢ v.root) where
     pub shaped-without_node : IsShaped (without_node v m)
     shaped-without_node = record {
       root = IsDir-without_node v m bare v.root (λ e. low (sym e)) s.root;
-      named = λ n h. IsLive-without_node v m bare n (λ e. let at = ap (names_of v) e in omega (arith, same_count n)) (s.named n (omega (arith, same_count n)));
+      named = λ n h. IsLive-without_node v m bare n (λ e. let at = ap (name_count_of v) e in omega (arith, same_count n)) (s.named n (omega (arith, same_count n)));
       unnamed = same_count v.root ∙ s.unnamed;
       once = λ n is. omega (arith, same_count n, s.once n (IsDir-from_without_node v m bare n is));
       placed = λ n is. by_place n (s.placed n (IsDir-from_without_node v m bare n is));
     }
       where
-        same_count : (n : ℕ) → names_of (without_node v m) n ≡ names_of v n
+        same_count : (n : ℕ) → name_count_of (without_node v m) n ≡ name_count_of v n
         same_count n = names_of-without_node v m n bare
 
         by_place : (n : ℕ) → IsUnder v n ⊎ IsRemoved v n → IsUnder (without_node v m) n ⊎ IsRemoved (without_node v m) n
@@ -177,7 +177,7 @@ module _ (v : Forest) (s : IsShaped v) where
         by_place n (inr r) = inr (record { nameless = same_count n ∙ r.nameless; bare = λ c. entry-without_node v m bare n c ∙ r.bare c })
 
   -- a directory without a name that isn't the root has no entries, nor has a node of another kind
-  pub bare_if_nameless : (n : ℕ) → names_of v n ≡ 0 → n ≢ v.root → IsBare v n
+  pub bare_if_nameless : (n : ℕ) → name_count_of v n ≡ 0 → n ≢ v.root → IsBare v n
   bare_if_nameless n none low name = by_entry (entry v n name) refl
     where
       by_entry : (found : Option ℕ) → entry v n name ≡ found → found ≡ None
@@ -189,10 +189,10 @@ module _ (v : Forest) (s : IsShaped v) where
 
   -- a new node without entries
   module _ (m : ℕ) (node : Node) (free : node_at v m ≡ None) (none : unwrap_or (dir_names node) empty ≡ empty) where
-    pub nameless_if_free : names_of v m ≡ 0
-    nameless_if_free = by_count (names_of v m) refl
+    pub nameless_if_free : name_count_of v m ≡ 0
+    nameless_if_free = by_count (name_count_of v m) refl
       where
-        by_count : (k : ℕ) → names_of v m ≡ k → k ≡ 0
+        by_count : (k : ℕ) → name_count_of v m ≡ k → k ≡ 0
         by_count zero e = refl
         by_count (suc k) e = absurd (none_there (node_at v m) free (s.named m (omega arith)))
 
@@ -215,7 +215,7 @@ module _ (v : Forest) (s : IsShaped v) where
       named = λ n h. IsLive-with_new v m node free none n (s.named n (omega (arith, same_count n)));
       unnamed = same_count v.root ∙ s.unnamed;
       once = λ n is. elim (cases_eq n m) [
-        | inl same ↦ let zero = ap (names_of v) same ∙ nameless_if_free in omega (arith, same_count n)
+        | inl same ↦ let zero = ap (name_count_of v) same ∙ nameless_if_free in omega (arith, same_count n)
         | inr apart ↦ omega (arith, same_count n, s.once n (IsDir-from_with_new v m node free none n apart is))
       ];
       placed = λ n is. elim (cases_eq n m) [
@@ -224,7 +224,7 @@ module _ (v : Forest) (s : IsShaped v) where
       ];
     }
       where
-        same_count : (n : ℕ) → names_of (with_node v m node) n ≡ names_of v n
+        same_count : (n : ℕ) → name_count_of (with_node v m node) n ≡ name_count_of v n
         same_count n = names_of-with_new v m n node free none
 
         by_place : (n : ℕ) → IsUnder v n ⊎ IsRemoved v n → IsUnder (with_node v m node) n ⊎ IsRemoved (with_node v m node) n

@@ -8,24 +8,24 @@ use Rattle.std.specs.Cmp.Lexicographic.{slice_cmp, nat_list_cmp_total}
 use Rattle.std.specs.declared.cmp.Ordering.{Ordering}
 use Rattle.std.specs.FinMap.{IsAntisymmetric, empty, get, insert, from_entries, get-from_entries, len, len-insert, len-empty, get-empty, same_map, nat_cmp-IsAntisymmetric}
 use Rattle.dt_host.specs.World.{Node, file, dir, node_at, dir_names, names_at, entry, empty_forest, IsDir, IsLive}
-use Rattle.dt_host.specs.Values.{map_values}
-use Rattle.dt_host.proofs.Found.{none_there, not_both}
-use Rattle.dt_host.proofs.Maps.{at_insert, names_tie, get-insert_same}
-use Rattle.dt_host.proofs.Totals.{total-insert, total-empty}
-use Rattle.dt_host.proofs.Valued.{get-map_values, map_values-insert}
+use Rattle.dt_tables.specs.Values.{map_values}
+use Rattle.dt_tables.proofs.Found.{none_there, not_both}
+use Rattle.dt_tables.proofs.Maps.{at_insert, names_tie, get-insert_same}
+use Rattle.dt_tables.proofs.Totals.{total-insert, total-empty}
+use Rattle.dt_tables.proofs.Valued.{get-map_values, map_values-insert}
 use Rattle.dt_tree.specs.declared.inode.Kind.TheVariants.{Dir}
 use Rattle.dt_tree.specs.declared.inode.Inode.{Inode}
-use Rattle.dt_tree.specs.Shape.{one_for, entries_for, names_of, name_count, IsBelow, IsShaped}
+use Rattle.dt_tree.specs.Shape.{one_for, entry_count_for, name_count_of, name_count, IsBelow, IsShaped}
 use Rattle.dt_tree.specs.FileTree.{Attributes, FileTree, IsGoodNode, IsTree}
-use Rattle.dt_tree.specs.ImageTree.{names_below, image_nodes, image_attributes, image_tree, at_start}
-use Rattle.dt_tree.specs.Table.{virtual, real_of, renumbered, node_for, shape_of, attributes_of, tree_of, kind_of, IsUp, Keeps, Mirrors}
+use Rattle.dt_tree.specs.ImageTree.{names_below, image_nodes, image_attributes, image_tree, start_attributes}
+use Rattle.dt_tree.specs.Table.{vino_of, real_of, renumbered_node, node_for, shape_of, attributes_of, tree_of, kind_of, IsUp, IsInodeOf, IsMirror}
 use Rattle.dt_tree.specs.inner.Tables.{root_table}
 use Rattle.dt_tree.proofs.Shapes.{itself}
 use Rattle.dt_tree.proofs.Admitting.{renumbered-bare}
 
 -- the tree of a root without entries
 abbrev pub root_tree : FileTree
-root_tree = record { shape = empty_forest 1; attributes = insert empty 1 (at_start 493); next = 2 }
+root_tree = record { shape = empty_forest 1; attributes = insert empty 1 (start_attributes 493); next = 2 }
 
 no_pairs : {K X : Type 0} {R : K → K → Ordering} → IsTotalOrder R → IsAntisymmetric R → from_entries {X = X} {R = R} [] ≡ empty
 no_pairs {R = R} o same = same_map o same _ _ (λ q. get-from_entries o [] q ∙ sym (get-empty R q))
@@ -34,7 +34,7 @@ pub image_tree-nil : image_tree [] ≡ root_tree
 unfolding image_nodes image_attributes names_below
 image_tree-nil =
     let nodes = ap (λ m. insert m 1 (dir (from_entries []))) (no_pairs {X = Node} nat_cmp_total nat_cmp-IsAntisymmetric) ∙ ap (λ names. insert empty 1 (dir names)) (no_pairs nat_list_cmp_total names_tie) in
-    let attributes = ap (λ m. insert m 1 (at_start 493)) (no_pairs {X = Attributes} nat_cmp_total nat_cmp-IsAntisymmetric) in
+    let attributes = ap (λ m. insert m 1 (start_attributes 493)) (no_pairs {X = Attributes} nat_cmp_total nat_cmp-IsAntisymmetric) in
     λ i. record { shape = record { nodes = nodes i; root = 1 }; attributes = attributes i; next = 2 }
 
 -- a map of one entry
@@ -45,11 +45,11 @@ pub no_entries : (root d : ℕ) (name : List ℕ) → entry (empty_forest root) 
 unfolding entry names_at
 no_entries root d name = at_only (λ found. get (unwrap_or (option_and_then dir_names found) empty) name ≡ None) root (dir empty) d (λ _. get-empty (slice_cmp nat_cmp) name) (λ _. get-empty (slice_cmp nat_cmp) name)
 
-pub no_names : (root n : ℕ) → names_of (empty_forest root) n ≡ 0
-unfolding names_of
+pub no_names : (root n : ℕ) → name_count_of (empty_forest root) n ≡ 0
+unfolding name_count_of
 no_names root n =
-    let sum = total-insert nat_cmp_total (entries_for n) (empty {R = nat_cmp}) root (dir empty) in
-    let none = total-empty nat_cmp_total (entries_for n) in
+    let sum = total-insert nat_cmp_total (entry_count_for n) (empty {R = nat_cmp}) root (dir empty) in
+    let none = total-empty nat_cmp_total (entry_count_for n) in
     let bare = total-empty nat_list_cmp_total (one_for n) in
     omega arith
 
@@ -76,9 +76,9 @@ no_name_count root =
     let bare = len-empty (slice_cmp nat_cmp) ℕ in
     omega arith
 
-good_root : (n : ℕ) (node : Node) (a : Attributes) → node_at (empty_forest 1) n ≡ Some node → get (insert (empty {R = nat_cmp}) 1 (at_start 493)) n ≡ Some a → IsGoodNode node a.mode
-good_root n node a = at_only (λ found. found ≡ Some node → get (insert (empty {R = nat_cmp}) 1 (at_start 493)) n ≡ Some a → IsGoodNode node a.mode) 1 (dir empty) n
-    (λ same e. at_only (λ found. found ≡ Some a → IsGoodNode node a.mode) 1 (at_start 493) n
+good_root : (n : ℕ) (node : Node) (a : Attributes) → node_at (empty_forest 1) n ≡ Some node → get (insert (empty {R = nat_cmp}) 1 (start_attributes 493)) n ≡ Some a → IsGoodNode node a.mode
+good_root n node a = at_only (λ found. found ≡ Some node → get (insert (empty {R = nat_cmp}) 1 (start_attributes 493)) n ≡ Some a → IsGoodNode node a.mode) 1 (dir empty) n
+    (λ same e. at_only (λ found. found ≡ Some a → IsGoodNode node a.mode) 1 (start_attributes 493) n
     (λ _ h. subst (λ x. IsGoodNode x a.mode) (same_Some (dir empty) node e) (subst (λ k. IsGoodNode (dir empty) k) (ap (λ (found : Option Attributes). unwrap_or (option_map (λ (a : Attributes). a.mode) found) 0) h) (λ name some. absurd (none_there (get (empty {X = ℕ} {R = slice_cmp nat_cmp}) name) (get-empty (slice_cmp nat_cmp) name) some), omega arith)))
     (λ _ h. cc))
     (λ _ e. cc)
@@ -110,15 +110,15 @@ module _ (root : ℕ) (inode : Inode) (real : inode.real ≡ root) (bare : inode
   shape_start = ap (λ nodes. record { nodes = nodes; root = 1 })
       (map_values-insert nat_cmp_total (node_for (root_table inode) (empty_forest root)) nat_cmp-IsAntisymmetric empty 1 inode
       ∙ ap (λ m. insert m 1 (node_for (root_table inode) (empty_forest root) inode)) (no_values (node_for (root_table inode) (empty_forest root)))
-      ∙ ap (insert empty 1) (ap (λ found. renumbered (virtual (root_table inode)) (unwrap_or found (file []))) (ap (node_at (empty_forest root)) real ∙ get-insert_same nat_cmp_total nat_cmp-IsAntisymmetric empty root (dir empty)) ∙ renumbered-bare (virtual (root_table inode)) (dir empty) refl))
+      ∙ ap (insert empty 1) (ap (λ found. renumbered_node (vino_of (root_table inode)) (unwrap_or found (file []))) (ap (node_at (empty_forest root)) real ∙ get-insert_same nat_cmp_total nat_cmp-IsAntisymmetric empty root (dir empty)) ∙ renumbered-bare (vino_of (root_table inode)) (dir empty) refl))
 
-  pub tree_start : attributes_of inode ≡ at_start 493 → tree_of (root_table inode) (empty_forest root) ≡ root_tree
+  pub tree_start : attributes_of inode ≡ start_attributes 493 → tree_of (root_table inode) (empty_forest root) ≡ root_tree
   tree_start mark =
       let shape = shape_start in
       let attributes = map_values-insert nat_cmp_total attributes_of nat_cmp-IsAntisymmetric empty 1 inode ∙ ap (λ m. insert m 1 (attributes_of inode)) (no_values attributes_of) ∙ ap (insert empty 1) mark in
       λ i. record { shape = shape i; attributes = attributes i; next = 2 }
 
-  pub mirrors_start : Mirrors (root_table inode) (empty_forest root)
+  pub mirrors_start : IsMirror (root_table inode) (empty_forest root)
   mirrors_start = record {
     pairs = record {
       forth = λ n other. at_only (λ found. found ≡ Some other → get (insert (empty {R = nat_cmp}) inode.real 1) other.real ≡ Some n) 1 inode n
@@ -133,8 +133,8 @@ module _ (root : ℕ) (inode : Inode) (real : inode.real ≡ root) (bare : inode
       closed = λ d r name e. absurd (not_both _ r (no_entries root d name) e);
       root = ap (option_map (λ (inode : Inode). inode.real)) (get-insert_same nat_cmp_total nat_cmp-IsAntisymmetric empty 1 inode) ∙ ap Some real;
     };
-    kept = λ n other e. subst (λ shape. Keeps shape n other) (sym shape_start) (at_only (λ found. found ≡ Some other → Keeps (empty_forest 1) n other) 1 inode n
-        (λ at h. let same : inode ≡ other = cc in subst (λ x. Keeps (empty_forest 1) x other) (sym at) (subst (Keeps (empty_forest 1) 1) same (record {
+    kept = λ n other e. subst (λ shape. IsInodeOf shape n other) (sym shape_start) (at_only (λ found. found ≡ Some other → IsInodeOf (empty_forest 1) n other) 1 inode n
+        (λ at h. let same : inode ≡ other = cc in subst (λ x. IsInodeOf (empty_forest 1) x other) (sym at) (subst (IsInodeOf (empty_forest 1) 1) same (record {
           kind = ap (option_map kind_of) (get-insert_same nat_cmp_total nat_cmp-IsAntisymmetric empty 1 (dir empty)) ∙ ap Some (sym kind);
           names = bare ∙ sym (no_names 1 1);
           up = λ _. subst (IsUp (empty_forest 1) 1) (sym up) (no_names 1 1);

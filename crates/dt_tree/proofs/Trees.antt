@@ -13,15 +13,15 @@ use Rattle.dt_base.specs.declared.image.What.TheVariants.{File, Dir, Link}
 use Rattle.dt_base.specs.declared.limits.TheConstants.{FILE_LIMIT, MODE_LIMIT, LINK_MODE}
 use Rattle.dt_base.specs.Image.{is_good_what, is_target}
 use Rattle.dt_host.specs.World.{Node, Names, file, dir, link, node_at, names_at, entry, dir_names, with_node, with_entry, IsLive, IsDir}
-use Rattle.dt_host.specs.inner.Weight.{weight}
-use Rattle.dt_host.proofs.Found.{none_there}
-use Rattle.dt_host.proofs.Maps.{at_insert, names_tie, get-insert_same, get-insert_other}
+use Rattle.dt_tables.specs.inner.Weight.{weight}
+use Rattle.dt_tables.proofs.Found.{none_there}
+use Rattle.dt_tables.proofs.Maps.{at_insert, names_tie, get-insert_same, get-insert_other}
 use Rattle.dt_host.proofs.Worlds.{node_at-with_node_other}
 use Rattle.dt_host.proofs.Spots.{IsLive-IsDir, is_some-with_entry, len-with_entry, IsDir-with_new, entry-with_new, root-with_entry}
 use Rattle.dt_tree.specs.declared.limits.TheConstants.{NAMES_LIMIT}
-use Rattle.dt_tree.specs.Shape.{one_for, names_of, name_count, IsShaped}
+use Rattle.dt_tree.specs.Shape.{one_for, name_count_of, name_count, IsShaped}
 use Rattle.dt_tree.specs.FileTree.{Attributes, FileTree, holds_of, is_entry_name, IsGoodNode, IsTreeBut, IsTree}
-use Rattle.dt_tree.specs.Changes.{new_node, created}
+use Rattle.dt_tree.specs.Changes.{new_node, tree_with_new}
 use Rattle.dt_tree.specs.inner.Created.{MayCreate}
 use Rattle.dt_tree.proofs.Namings.{one_for-same, names_of-with_entry, names_of-with_new, name_count-with_entry, name_count-with_new}
 use Rattle.dt_tree.proofs.Shapes.{shaped-with_new, removed-with_new, under-with_new, shaped-with_entry}
@@ -76,7 +76,7 @@ module _ (t : FileTree) (d : ℕ) (name : List ℕ) (what : What) (mode stamp : 
   shaped_both = shaped-with_entry (with_node t.shape t.next (new_node what)) (shaped-with_new t.shape s.shaped t.next (new_node what) free_node (bare_new what)) d name t.next is_first (under-with_new t.shape s.shaped t.next (new_node what) free_node (bare_new what) d may.under) free_first
       (at_first (λ found. IsSome found) t.next (λ _. refl) (λ apart. absurd (apart refl))) low (λ _. removed-with_new t.shape s.shaped t.next (new_node what) free_node (bare_new what))
 
-  count : (n : ℕ) → names_of (with_entry (with_node t.shape t.next (new_node what)) d name t.next) n ≡ names_of t.shape n + one_for n t.next
+  count : (n : ℕ) → name_count_of (with_entry (with_node t.shape t.next (new_node what)) d name t.next) n ≡ name_count_of t.shape n + one_for n t.next
   count n =
       let sum = names_of-with_entry (with_node t.shape t.next (new_node what)) d n name t.next in
       let none = ap (weight (one_for n)) free_first in
@@ -125,8 +125,8 @@ module _ (t : FileTree) (d : ℕ) (name : List ℕ) (what : What) (mode stamp : 
       same_mode : (a : Attributes) → Some (record { mode = mode; stamp = stamp; holds = 0 }) ≡ Some a → mode ≡ a.mode
       same_mode a e = ap (λ (found : Option Attributes). unwrap_or (option_map (λ (a : Attributes). a.mode) found) 0) e
 
-  pub IsTree-created : name_count t.shape < NAMES_LIMIT → IsTree (created t d name (new_node what) mode stamp)
-  unfolding created
+  pub IsTree-created : name_count t.shape < NAMES_LIMIT → IsTree (tree_with_new t d name (new_node what) mode stamp)
+  unfolding tree_with_new
   IsTree-created few_names = record {
     shaped = shaped_both;
     root = root-with_entry (with_node t.shape t.next (new_node what)) d name t.next ∙ s.root;
@@ -144,11 +144,11 @@ module _ (t : FileTree) (d : ℕ) (name : List ℕ) (what : What) (mode stamp : 
     few_names = let more = name_count-with_entry (with_node t.shape t.next (new_node what)) d name t.next free_first in let new = name_count-with_new t.shape t.next (new_node what) free_node (bare_new what) in omega arith;
     used = λ n live below _. elim (cases_eq n t.next) [
       | inl same ↦ let one = ap (one_for n) (sym same) ∙ one_for-same n in omega (arith, count n)
-      | inr apart ↦ subst (λ h. 1 ≤ names_of (with_entry (with_node t.shape t.next (new_node what)) d name t.next) n + h) (sym (holds_still n apart)) (omega (arith, count n, s.used n (alive n live apart) below (λ e. cc)))
+      | inr apart ↦ subst (λ h. 1 ≤ name_count_of (with_entry (with_node t.shape t.next (new_node what)) d name t.next) n + h) (sym (holds_still n apart)) (omega (arith, count n, s.used n (alive n live apart) below (λ e. cc)))
     ];
   }
 
   -- there is one node more
-  pub len-created : (let new = created t d name (new_node what) mode stamp in len new.shape.nodes ≡ len t.shape.nodes + 1)
-  unfolding created
+  pub len-created : (let new = tree_with_new t d name (new_node what) mode stamp in len new.shape.nodes ≡ len t.shape.nodes + 1)
+  unfolding tree_with_new
   len-created = let more = len-with_entry (with_node t.shape t.next (new_node what)) d name t.next is_first in let new = len-insert nat_cmp_total t.shape.nodes t.next (new_node what) ∙ ap (λ found. cond (is_some found) (len t.shape.nodes) (len t.shape.nodes + 1)) free_node in omega arith

@@ -23,18 +23,18 @@ abbrev pub dot_dot : Forest → ℕ → Option ℕ
 dot_dot v d = if d == v.root then Some d else parent_at v d
 
 -- what may be there passes a test
-abbrev pub passes : {X : Type 0} → (X → Bool) → Option X → Bool
-passes test None = false
-passes test (Some x) = test x
+abbrev pub is_there_and : {X : Type 0} → (X → Bool) → Option X → Bool
+is_there_and test None = false
+is_there_and test (Some x) = test x
 
 -- a node is that one, or going up from it leads there, in fewer than so many steps
-unfoldable pub climbs : ℕ → Forest → ℕ → ℕ → Bool
-climbs zero v n above = false
-climbs (suc k) v n above = (n == above) || passes (λ d. climbs k v d above) (parent_at v n)
+unfoldable pub is_below_within : ℕ → Forest → ℕ → ℕ → Bool
+is_below_within zero v n above = false
+is_below_within (suc k) v n above = (n == above) || is_there_and (λ d. is_below_within k v d above) (parent_at v n)
 
 -- a directory is that one, or stands below it. Going up in a tree takes fewer steps than there are nodes
 abbrev pub is_below : Forest → ℕ → ℕ → Bool
-is_below v n above = climbs NODE_LIMIT v n above
+is_below v n above = is_below_within NODE_LIMIT v n above
 
 -- the names that lead from the root to a directory, and others behind them; none where going up so many times doesn't reach the root
 unfoldable pub names_up : ℕ → Forest → ℕ → List (List ℕ) → Option (List (List ℕ))
@@ -44,14 +44,14 @@ names_up (suc k) v n rest =
     else option_and_then (λ d. names_up k v d (unwrap_or (name_in v d n) [] ∷ rest)) (parent_at v n)
 
 -- names one after the other, each behind a `/`
-abbrev pub joined : List (List ℕ) → List ℕ
-joined [] = []
-joined (name ∷ names) = codes "/" ++ (name ++ joined names)
+abbrev pub joined_names : List (List ℕ) → List ℕ
+joined_names [] = []
+joined_names (name ∷ names) = codes "/" ++ (name ++ joined_names names)
 
 -- the path of these names from the root; that of none is `/`
 abbrev pub path_text : List (List ℕ) → List ℕ
 path_text [] = codes "/"
-path_text (name ∷ names) = joined (name ∷ names)
+path_text (name ∷ names) = joined_names (name ∷ names)
 
 -- the path of a directory; none where it is removed. A directory of a tree reaches the root within as many as there are nodes
 abbrev pub path_of : Forest → ℕ → Option (List ℕ)

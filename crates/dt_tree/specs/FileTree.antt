@@ -8,7 +8,7 @@ use Rattle.dt_base.specs.Path.{is_slash, has_no_nul, is_name}
 use Rattle.dt_base.specs.Image.{is_target}
 use Rattle.dt_host.specs.World.{Forest, Node, file, dir, link, node_at, IsLive}
 use Rattle.dt_tree.specs.declared.limits.TheConstants.{ROOT, NODE_LIMIT, NAMES_LIMIT}
-use Rattle.dt_tree.specs.Shape.{names_of, name_count, IsShaped}
+use Rattle.dt_tree.specs.Shape.{name_count_of, name_count, IsShaped}
 
 -- what a node has beside its bytes, entries or target; its holds are the open descriptions and working directories that name it
 pub record Attributes : Type 0 where
@@ -47,7 +47,7 @@ pub record IsTreeBut (lost : Option ℕ) (t : FileTree) : Type 0 where
   pub fresh : (n : ℕ) → IsLive t.shape n → n < t.next
   pub few : len t.shape.nodes ≤ NODE_LIMIT
   pub few_names : name_count t.shape ≤ NAMES_LIMIT
-  pub used : (n : ℕ) → IsLive t.shape n → n ≢ ROOT → lost ≢ Some n → 1 ≤ names_of t.shape n + holds_of t n
+  pub used : (n : ℕ) → IsLive t.shape n → n ≢ ROOT → lost ≢ Some n → 1 ≤ name_count_of t.shape n + holds_of t n
 
 -- a tree: each node but the root has a name or a hold
 abbrev pub IsTree : FileTree → Type 0

@@ -17,12 +17,12 @@ abbrev pub last_name : List ℕ → List ℕ
 last_name path = after_last is_slash path
 
 -- each entry with its inode
-abbrev pub numbered : List Entry → List (ℕ × Entry)
-numbered entries = enumerate_from FIRST_INODE entries
+abbrev pub numbered_entries : List Entry → List (ℕ × Entry)
+numbered_entries entries = enumerate_from FIRST_INODE entries
 
 -- the names of a directory: the last name of each entry whose path without it is the directory's, with the entry's inode. The root's path is empty here
 unfoldable pub names_below : List Entry → List ℕ → Names
-names_below entries path = from_entries (map (λ e. (last_name e.1.path, e.0)) (filter (λ e. bytes_eq (parent_of e.1.path) path) (numbered entries)))
+names_below entries path = from_entries (map (λ e. (last_name e.1.path, e.0)) (filter (λ e. bytes_eq (parent_of e.1.path) path) (numbered_entries entries)))
 
 -- the node of what stands at a path
 abbrev pub node_of : List Entry → List ℕ → What → Node
@@ -32,15 +32,15 @@ node_of entries path (Link target) = link target
 
 -- the nodes by inode
 unfoldable pub image_nodes : List Entry → FinMap nat_cmp Node
-image_nodes entries = insert (from_entries (map (λ e. (e.0, node_of entries e.1.path e.1.what)) (numbered entries))) ROOT (dir (names_below entries []))
+image_nodes entries = insert (from_entries (map (λ e. (e.0, node_of entries e.1.path e.1.what)) (numbered_entries entries))) ROOT (dir (names_below entries []))
 
 -- a node of this mode at the start: never modified, and not held
-abbrev pub at_start : ℕ → Attributes
-at_start mode = record { mode = mode; stamp = 0; holds = 0 }
+abbrev pub start_attributes : ℕ → Attributes
+start_attributes mode = record { mode = mode; stamp = 0; holds = 0 }
 
 -- their attributes
 unfoldable pub image_attributes : List Entry → FinMap nat_cmp Attributes
-image_attributes entries = insert (from_entries (map (λ e. (e.0, at_start e.1.mode)) (numbered entries))) ROOT (at_start ROOT_MODE)
+image_attributes entries = insert (from_entries (map (λ e. (e.0, start_attributes e.1.mode)) (numbered_entries entries))) ROOT (start_attributes ROOT_MODE)
 
 -- the tree of an image's entries
 abbrev pub image_tree : List Entry → FileTree

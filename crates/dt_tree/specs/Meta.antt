@@ -5,7 +5,7 @@ use Rattle.std.specs.FinMap.{get, entries}
 use Rattle.dt_host.specs.World.{Forest, Node, file, dir, link, node_at, names_at}
 use Rattle.dt_tree.specs.declared.limits.TheConstants.{DIR_SIZE}
 use Rattle.dt_tree.specs.declared.meta.Meta.{Meta}
-use Rattle.dt_tree.specs.Shape.{names_of, is_dir, is_removed}
+use Rattle.dt_tree.specs.Shape.{name_count_of, is_dir, is_removed}
 use Rattle.dt_tree.specs.FileTree.{FileTree}
 use Rattle.dt_tree.specs.Listing.{type_of}
 
@@ -16,14 +16,14 @@ node_size (dir names) = DIR_SIZE
 node_size (link target) = length target
 
 -- how many of a directory's entries are for directories
-abbrev pub subdirectories : Forest → ℕ → ℕ
-subdirectories v d = count_by (λ e. is_dir v e.1) (entries (names_at v d))
+abbrev pub subdirectory_count : Forest → ℕ → ℕ
+subdirectory_count v d = count_by (λ e. is_dir v e.1) (entries (names_at v d))
 
 -- the link count (stat(2)): of a directory 2 and its subdirectories, 0 where it is removed; of any other node its names
 abbrev pub nlink_of : Forest → ℕ → ℕ
 nlink_of v n =
-    if is_dir v n then (if is_removed v n then 0 else 2 + subdirectories v n)
-    else names_of v n
+    if is_dir v n then (if is_removed v n then 0 else 2 + subdirectory_count v n)
+    else name_count_of v n
 
 -- what is told of a node, if it is there
 abbrev pub meta_of : FileTree → ℕ → Option Meta

@@ -4,12 +4,12 @@ use Rattle.std.specs.Prelude.{◌≡◌, ℕ, List, [], Option, None, Some, is_s
 use Rattle.std.specs.Ordering.{nat_cmp}
 use Rattle.std.specs.FinMap.{FinMap, get}
 use Rattle.dt_host.specs.World.{Forest, Node, file, dir, link, node_at, entry, IsLive}
-use Rattle.dt_host.specs.Values.{map_values}
+use Rattle.dt_tables.specs.Values.{map_values}
 use Rattle.dt_tree.specs.declared.inode.Kind.{Kind}
 use Rattle.dt_tree.specs.declared.inode.Kind.TheVariants.{File, Dir, Link}
 use Rattle.dt_tree.specs.declared.inode.Inode.{Inode}
 use Rattle.dt_tree.specs.declared.limits.TheConstants.{ROOT}
-use Rattle.dt_tree.specs.Shape.{names_of, name_count}
+use Rattle.dt_tree.specs.Shape.{name_count_of, name_count}
 use Rattle.dt_tree.specs.FileTree.{Attributes, FileTree, IsTree}
 
 -- what is kept of each node by its inode, the inode of each number at the host, the inode of the next new node, and how many
@@ -21,22 +21,22 @@ pub record Table : Type 0 where
   pub names : ℕ
 
 -- the inode of a number at the host
-abbrev pub virtual : Table → ℕ → ℕ
-virtual t real = unwrap_or (get t.by_real real) 0
+abbrev pub vino_of : Table → ℕ → ℕ
+vino_of t real = unwrap_or (get t.by_real real) 0
 
 -- the number at the host of a node
 abbrev pub real_of : Table → ℕ → Option ℕ
 real_of t n = option_map (λ inode. inode.real) (get t.inodes n)
 
 -- a node with inodes in the place of the host's numbers
-abbrev pub renumbered : (ℕ → ℕ) → Node → Node
-renumbered f (file bytes) = file bytes
-renumbered f (dir names) = dir (map_values f names)
-renumbered f (link target) = link target
+abbrev pub renumbered_node : (ℕ → ℕ) → Node → Node
+renumbered_node f (file bytes) = file bytes
+renumbered_node f (dir names) = dir (map_values f names)
+renumbered_node f (link target) = link target
 
 -- the node that is kept at the host, with inodes in its entries
 abbrev pub node_for : Table → Forest → Inode → Node
-node_for t v inode = renumbered (virtual t) (unwrap_or (node_at v inode.real) (file []))
+node_for t v inode = renumbered_node (vino_of t) (unwrap_or (node_at v inode.real) (file []))
 
 -- the nodes of the host by their inodes
 unfoldable pub shape_of : Table → Forest → Forest
@@ -58,17 +58,17 @@ kind_of (link target) = Link
 
 -- a directory is named by that one, or by none
 abbrev pub IsUp : Forest → ℕ → Option ℕ → Type 0
-IsUp s n None = names_of s n ≡ 0
+IsUp s n None = name_count_of s n ≡ 0
 IsUp s n (Some d) = (name : List ℕ) × (entry s d name ≡ Some n)
 
 -- what is kept of a node for speed is true
-pub record Keeps (s : Forest) (n : ℕ) (inode : Inode) : Type 0 where
+pub record IsInodeOf (s : Forest) (n : ℕ) (inode : Inode) : Type 0 where
   pub kind : option_map kind_of (node_at s n) ≡ Some inode.kind
-  pub names : inode.names ≡ names_of s n
+  pub names : inode.names ≡ name_count_of s n
   pub up : inode.kind ≡ Dir → IsUp s n inode.up
 
 -- inodes and numbers of the host go one to one, with nothing left over, and the root goes to the root
-pub record Pairs (t : Table) (v : Forest) : Type 0 where
+pub record IsPairing (t : Table) (v : Forest) : Type 0 where
   pub forth : (n : ℕ) (inode : Inode) → get t.inodes n ≡ Some inode → get t.by_real inode.real ≡ Some n
   pub back : (real n : ℕ) → get t.by_real real ≡ Some n → real_of t n ≡ Some real
   pub live : (real : ℕ) → is_some (get t.by_real real) ≡ is_some (node_at v real)
@@ -76,12 +76,12 @@ pub record Pairs (t : Table) (v : Forest) : Type 0 where
   pub root : real_of t ROOT ≡ Some v.root
 
 -- and what is kept for speed is true, and the names are counted
-pub record Mirrors (t : Table) (v : Forest) : Type 0 where
-  pub pairs : Pairs t v
-  pub kept : (n : ℕ) (inode : Inode) → get t.inodes n ≡ Some inode → Keeps (shape_of t v) n inode
+pub record IsMirror (t : Table) (v : Forest) : Type 0 where
+  pub pairs : IsPairing t v
+  pub kept : (n : ℕ) (inode : Inode) → get t.inodes n ≡ Some inode → IsInodeOf (shape_of t v) n inode
   pub counted : t.names ≡ name_count (shape_of t v)
 
 -- the table and the host's nodes stand for a file tree, which is `tree_of`
 pub record Stands (t : Table) (v : Forest) : Type 0 where
-  pub mirrors : Mirrors t v
+  pub mirrors : IsMirror t v
   pub tree : IsTree (tree_of t v)

@@ -2,10 +2,10 @@
 ghost use Rattle.std.specs.Prelude.{◌≡◌, ◌++◌, [], OnOk, is_some, not, Some, List, map, reverse, unwrap_or, IfOk};
 ghost use Rattle.std.specs.Prelude.{option_map};
 ghost use Rattle.dt_host.specs.Asks.{Asks};
-ghost use Rattle.dt_host.specs.Legal.{named};
+ghost use Rattle.dt_host.specs.Legal.{pair_of};
 ghost use Rattle.dt_host.specs.World.{IsDir};
 ghost use Rattle.dt_tree.specs.declared.limits.TheConstants.{NODE_LIMIT};
-ghost use Rattle.dt_tree.specs.Above.{parent_at, name_in, names_up, joined, path_of, path_text, is_below};
+ghost use Rattle.dt_tree.specs.Above.{parent_at, name_in, names_up, joined_names, path_of, path_text, is_below};
 ghost use Rattle.dt_tree.specs.Shape.{is_removed};
 ghost use Rattle.dt_tree.specs.Table.{Stands, shape_of};
 ghost use Rattle.dt_tree.specs.inner.Names.{name_for};
@@ -93,7 +93,7 @@ impl Tree {
 
 // The first name that is for this number of the host; empty where there is none.
 fn name_for(alloc: Global, entries: &[HostEntry], real: u64) -> Result<Blob, NoMemory>
-    ensures { IfOk result (λ name. name ≡ unwrap_or (name_for real (map named entries.now)) []) }
+    ensures { IfOk result (λ name. name ≡ unwrap_or (name_for real (map pair_of entries.now)) []) }
 {
     for entry in entries {
         if entry.ino == real {
@@ -117,7 +117,7 @@ fn path_text(alloc: Global, names: Vec<Blob>) -> Result<Blob, NoMemory>
 
 // Adds names to a path, each behind a `/`, the last of them first.
 fn add_names(path: &mut Vec<u8>, names: Vec<Blob>) -> Result<(), NoMemory>
-    ensures { OnOk result (path.new.items ≡ path.old.items ++ joined (reverse names.items)) }
+    ensures { OnOk result (path.new.items ≡ path.old.items ++ joined_names (reverse names.items)) }
 {
     let mut names = names;
     while let Some(name) = names.pop() {

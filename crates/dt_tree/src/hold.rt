@@ -3,7 +3,7 @@ ghost use Rattle.std.specs.Prelude.{◌≡◌, ◌<◌, ◌≤◌, false, OnOk, 
 ghost use Rattle.dt_base.specs.declared.limits.TheConstants.{MODE_LIMIT};
 ghost use Rattle.dt_host.specs.Cause.{HasCause};
 ghost use Rattle.dt_host.specs.World.{Forest, IsLive, OnlyForest};
-ghost use Rattle.dt_tree.specs.Changes.{chmodded, held, released};
+ghost use Rattle.dt_tree.specs.Changes.{tree_after_chmod, tree_after_hold, tree_after_release};
 ghost use Rattle.dt_tree.specs.Shape.{is_link};
 ghost use Rattle.dt_tree.specs.FileTree.{holds_of};
 ghost use Rattle.dt_tree.specs.Calls.{KeepsHeld};
@@ -22,7 +22,7 @@ impl Tree {
         requires no_link { is_link (shape_of self.old (H.view host.now).forest) vino ≡ false }
         requires mode { mode ≤ MODE_LIMIT }
         ensures tree { tree_of self.new (H.view host.now).forest
-            ≡ chmodded (tree_of self.old (H.view host.now).forest) vino mode }
+            ≡ tree_after_chmod (tree_of self.old (H.view host.now).forest) vino mode }
         ensures stands { Stands self.new (H.view host.now).forest }
         ensures held { KeepsHeld (tree_of self.old (H.view host.now).forest)
             (tree_of self.new (H.view host.now).forest) }
@@ -37,7 +37,7 @@ impl Tree {
         requires stands { Stands self.old (H.view host.now).forest }
         requires live { IsLive (shape_of self.old (H.view host.now).forest) vino }
         ensures tree { OnOk result (tree_of self.new (H.view host.now).forest
-            ≡ held (tree_of self.old (H.view host.now).forest) vino) }
+            ≡ tree_after_hold (tree_of self.old (H.view host.now).forest) vino) }
         ensures stands { OnOk result (Stands self.new (H.view host.now).forest) }
     {
         let inode = self.inode(vino);
@@ -59,7 +59,7 @@ impl Tree {
         requires stands { Stands self.old (H.view host.old).forest }
         requires held { 0 < holds_of (tree_of self.old (H.view host.old).forest) vino }
         ensures tree { OnOk result (tree_of self.new (H.view host.new).forest
-            ≡ released (tree_of self.old (H.view host.old).forest) vino) }
+            ≡ tree_after_release (tree_of self.old (H.view host.old).forest) vino) }
         ensures stands { OnOk result (Stands self.new (H.view host.new).forest) }
         ensures rest { OnlyForest (H.view host.old) (H.view host.new) }
         ensures cause { HasCause (H.count host.old) (H.count host.new)

@@ -7,7 +7,7 @@ ghost use Rattle.dt_host.specs.Cause.{HasCause};
 ghost use Rattle.dt_host.specs.World.{OnlyForest};
 ghost use Rattle.dt_tree.specs.ImageTree.{last_name, image_tree};
 ghost use Rattle.dt_tree.specs.Table.{Stands, tree_of};
-ghost use Rattle.dt_tree.specs.inner.Places.{LeadsTo};
+ghost use Rattle.dt_tree.specs.inner.Places.{IsInodeOfPath};
 
 use crate::limits::{FIRST_INODE, ROOT};
 use crate::tree::Tree;
@@ -61,7 +61,7 @@ fn name_start(path: &[u8]) -> usize
 // The inode of the entry at a path, and the root's for the empty path.
 fn inode_at(entries: &[Entry], path: &[u8]) -> u64
     requires { IsImage entries.now }
-    ensures { LeadsTo entries.now path.now result }
+    ensures { IsInodeOfPath entries.now path.now result }
 {
     if path.is_empty() {
         return ROOT;

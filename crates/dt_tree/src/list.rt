@@ -3,9 +3,9 @@ ghost use Rattle.std.specs.Prelude.{◌≡◌, ◌++◌, List, map, codes, IfOk,
 ghost use Rattle.dt_host.specs.Asks.{Asks};
 ghost use Rattle.dt_host.specs.World.{Forest, IsDir, IsLive};
 ghost use Rattle.dt_tree.specs.Shape.{is_removed};
-ghost use Rattle.dt_tree.specs.Listing.{type_at, rank, comes_after, is_left, listed, listing, next_of};
+ghost use Rattle.dt_tree.specs.Listing.{type_at, rank, is_listed_after, is_left, listed_entry, listing, next_of};
 ghost use Rattle.dt_tree.specs.Table.{Stands, kind_of, shape_of};
-ghost use Rattle.dt_tree.specs.inner.Lists.{added, listed_real};
+ghost use Rattle.dt_tree.specs.inner.Lists.{with_listed, listed_host_entry};
 ghost use Rattle.dt_tree.specs.inner.Kinds.{type_for};
 
 use crate::inode::Kind;
@@ -36,8 +36,8 @@ fn rank(name: &[u8]) -> u8
 }
 
 // Whether a name comes after another in a listing.
-fn comes_after(last: &[u8], name: &[u8]) -> bool
-    ensures { result ≡ comes_after last.now name.now }
+fn is_listed_after(last: &[u8], name: &[u8]) -> bool
+    ensures { result ≡ is_listed_after last.now name.now }
 {
     let (a, b) = (rank(last), rank(name));
     a < b || (a == b && last.cmp(name).is_lt())
@@ -48,7 +48,7 @@ fn is_left(last: Option<&[u8]>, name: &[u8]) -> bool
     ensures { result ≡ is_left (option_map (λ l. l.now) last.entry) name.now }
 {
     match last {
-        Some(last) => comes_after(last, name),
+        Some(last) => is_listed_after(last, name),
         None => true,
     }
 }
@@ -85,8 +85,8 @@ impl Tree {
         vino: u64,
     ) -> Result<(), NoMemory>
         ensures { (v : Forest) → Stands self.now v → OnOk result (list.new.items
-            ≡ added (option_map (λ l. l.now) last.entry) most list.old.items
-            (listed (shape_of self.now v) (name.now, vino))) }
+            ≡ with_listed (option_map (λ l. l.now) last.entry) most list.old.items
+            (listed_entry (shape_of self.now v) (name.now, vino))) }
     {
         if list.len() < most && is_left(last, name) {
             list.push(Listed {
@@ -109,7 +109,7 @@ impl Tree {
         ensures { (v : Forest) → Stands self.now v → (before : List Listed)
             → list.old.items ≡ next_of (option_map (λ l. l.now) last.entry) most before
             → OnOk result (list.new.items ≡ next_of (option_map (λ l. l.now) last.entry) most
-            (before ++ map (listed_real self.now v) entries.now)) }
+            (before ++ map (listed_host_entry self.now v) entries.now)) }
     {
         for entry in entries {
             let vino = self.vino(entry.ino);

@@ -4,8 +4,9 @@ ghost use Rattle.dt_base.specs.Image.{is_good_what};
 ghost use Rattle.dt_host.specs.declared.error.CallErr.TheVariants.{Host as host_failed};
 ghost use Rattle.dt_host.specs.World.{OnlyForest};
 ghost use Rattle.dt_host.specs.Cause.{HasCause};
-ghost use Rattle.dt_tree.specs.Calls.{Does, UnlessFailed, KeepsHeld, IsNewName, MayAdd, make_node_of, add_name_of};
-ghost use Rattle.dt_tree.specs.Changes.{made, linked};
+ghost use Rattle.dt_tree.specs.Calls.{IsTreeAnswer, UnlessFailed, KeepsHeld, IsNewName, MayAdd, make_node_of};
+ghost use Rattle.dt_tree.specs.Calls.{add_name_of};
+ghost use Rattle.dt_tree.specs.Changes.{tree_after_make, tree_after_link};
 ghost use Rattle.dt_tree.specs.Shape.{is_removed};
 ghost use Rattle.dt_tree.specs.Table.{Stands, shape_of, tree_of};
 ghost use Rattle.dt_tree.specs.inner.Created.{MayCreate};
@@ -30,7 +31,7 @@ impl Tree {
         requires stands { Stands self.old (H.view host.old).forest }
         requires new { IsNewName (tree_of self.old (H.view host.old).forest) dir name.now }
         requires good { IsTrue (is_good_what what.now mode) }
-        ensures done { Does result (tree_of self.new (H.view host.new).forest)
+        ensures done { IsTreeAnswer result (tree_of self.new (H.view host.new).forest)
             (make_node_of (tree_of self.old (H.view host.old).forest) dir name.now what.now mode stamp) }
         ensures stands { UnlessFailed result (Stands self.new (H.view host.new).forest) }
         ensures held { UnlessFailed result (KeepsHeld (tree_of self.old (H.view host.old).forest)
@@ -60,7 +61,7 @@ impl Tree {
     ) -> Result<(), CallErr>
         requires stands { Stands self.old (H.view host.old).forest }
         requires may { MayAdd (tree_of self.old (H.view host.old).forest) dir name.now vino }
-        ensures done { Does result (tree_of self.new (H.view host.new).forest)
+        ensures done { IsTreeAnswer result (tree_of self.new (H.view host.new).forest)
             (add_name_of (tree_of self.old (H.view host.old).forest) dir name.now vino stamp) }
         ensures stands { UnlessFailed result (Stands self.new (H.view host.new).forest) }
         ensures held { UnlessFailed result (KeepsHeld (tree_of self.old (H.view host.old).forest)
@@ -91,7 +92,7 @@ impl Tree {
         ensures number { IfOk result (λ n. n ≡ self.old.next) }
         ensures stands { OnOk result (Stands self.new (H.view host.new).forest) }
         ensures tree { OnOk result (tree_of self.new (H.view host.new).forest
-            ≡ made (tree_of self.old (H.view host.old).forest) dir name.now what.now mode stamp) }
+            ≡ tree_after_make (tree_of self.old (H.view host.old).forest) dir name.now what.now mode stamp) }
         ensures held { OnOk result (KeepsHeld (tree_of self.old (H.view host.old).forest)
             (tree_of self.new (H.view host.new).forest)) }
         ensures rest { OnlyForest (H.view host.old) (H.view host.new) }
@@ -117,7 +118,7 @@ impl Tree {
         requires there { is_removed (shape_of self.old (H.view host.old).forest) dir ≡ false }
         ensures stands { OnOk result (Stands self.new (H.view host.new).forest) }
         ensures tree { OnOk result (tree_of self.new (H.view host.new).forest
-            ≡ linked (tree_of self.old (H.view host.old).forest) dir name.now n stamp) }
+            ≡ tree_after_link (tree_of self.old (H.view host.old).forest) dir name.now n stamp) }
         ensures held { OnOk result (KeepsHeld (tree_of self.old (H.view host.old).forest)
             (tree_of self.new (H.view host.new).forest)) }
         ensures rest { OnlyForest (H.view host.old) (H.view host.new) }

@@ -6,8 +6,8 @@ ghost use Rattle.dt_host.specs.Asks.{Asks};
 ghost use Rattle.dt_host.specs.World.{Forest, IsDir, IsLive, node_at};
 ghost use Rattle.dt_tree.specs.declared.limits.TheConstants.{NAMES_LIMIT};
 ghost use Rattle.dt_tree.specs.Shape.{is_dir, is_removed, is_bare};
-ghost use Rattle.dt_tree.specs.Meta.{nlink_of, meta_of, node_size, subdirectories};
-ghost use Rattle.dt_tree.specs.Table.{Stands, virtual, shape_of, tree_of};
+ghost use Rattle.dt_tree.specs.Meta.{nlink_of, meta_of, node_size, subdirectory_count};
+ghost use Rattle.dt_tree.specs.Table.{Stands, vino_of, shape_of, tree_of};
 
 use crate::inode::Kind;
 use crate::limits::{DIR_SIZE, ROOT};
@@ -105,7 +105,7 @@ impl Tree {
         if self.is_removed(dir) {
             return Ok(0);
         }
-        Ok(2 + self.subdirectories(host, dir)?)
+        Ok(2 + self.count_subdirectories(host, dir)?)
     }
 
     // Whether a directory is removed.
@@ -118,11 +118,11 @@ impl Tree {
     }
 
     // How many of a directory's entries are for directories.
-    fn subdirectories<H: Host>(&self, host: &mut H, dir: u64) -> Result<u32, HostErr>
+    fn count_subdirectories<H: Host>(&self, host: &mut H, dir: u64) -> Result<u32, HostErr>
         requires stands { Stands self.now (H.view host.old).forest }
         requires directory { IsDir (shape_of self.now (H.view host.old).forest) dir }
         ensures ok { IfOk result
-            (λ count. count ≡ subdirectories (shape_of self.now (H.view host.old).forest) dir) }
+            (λ count. count ≡ subdirectory_count (shape_of self.now (H.view host.old).forest) dir) }
         ensures few { IfOk result (λ count. count ≤ NAMES_LIMIT) }
         ensures asks { Asks H.view H.count host.old host.new result }
     {
@@ -134,7 +134,7 @@ impl Tree {
     fn count_dirs(&self, entries: &[HostEntry]) -> u32
         requires { length entries.now ≤ NAMES_LIMIT }
         ensures count { (v : Forest) → Stands self.now v → result
-            ≡ count_by (λ e. is_dir (shape_of self.now v) (virtual self.now e.ino)) entries.now }
+            ≡ count_by (λ e. is_dir (shape_of self.now v) (vino_of self.now e.ino)) entries.now }
         ensures few { result ≤ length entries.now }
     {
         let mut count = 0;

@@ -3,8 +3,8 @@ ghost use Rattle.std.specs.Prelude.{◌≡◌, OnOk, IsErrOf};
 ghost use Rattle.dt_host.specs.declared.error.CallErr.TheVariants.{Host as host_failed};
 ghost use Rattle.dt_host.specs.World.{OnlyForest};
 ghost use Rattle.dt_host.specs.Cause.{HasCause};
-ghost use Rattle.dt_tree.specs.Calls.{Does, UnlessFailed, KeepsHeld, MayMove, move_name_of};
-ghost use Rattle.dt_tree.specs.Changes.{renamed};
+ghost use Rattle.dt_tree.specs.Calls.{IsTreeAnswer, UnlessFailed, KeepsHeld, MayMove, move_name_of};
+ghost use Rattle.dt_tree.specs.Changes.{tree_after_rename};
 ghost use Rattle.dt_tree.specs.Table.{Stands, shape_of, tree_of};
 ghost use Rattle.dt_tree.specs.inner.Moves.{IsMove};
 
@@ -28,7 +28,7 @@ impl Tree {
         requires may { IsMove (shape_of self.old (H.view host.old).forest) from old.now to new.now n }
         ensures stands { OnOk result (Stands self.new (H.view host.new).forest) }
         ensures tree { OnOk result (tree_of self.new (H.view host.new).forest
-            ≡ renamed (tree_of self.old (H.view host.old).forest) from old.now to new.now stamp) }
+            ≡ tree_after_rename (tree_of self.old (H.view host.old).forest) from old.now to new.now stamp) }
         ensures held { OnOk result (KeepsHeld (tree_of self.old (H.view host.old).forest)
             (tree_of self.new (H.view host.new).forest)) }
         ensures rest { OnlyForest (H.view host.old) (H.view host.new) }
@@ -57,7 +57,7 @@ impl Tree {
     ) -> Result<(), CallErr>
         requires stands { Stands self.old (H.view host.old).forest }
         requires may { MayMove (shape_of self.old (H.view host.old).forest) from old.now to new.now }
-        ensures done { Does result (tree_of self.new (H.view host.new).forest)
+        ensures done { IsTreeAnswer result (tree_of self.new (H.view host.new).forest)
             (move_name_of (tree_of self.old (H.view host.old).forest) from old.now to new.now stamp) }
         ensures stands { UnlessFailed result (Stands self.new (H.view host.new).forest) }
         ensures held { UnlessFailed result (KeepsHeld (tree_of self.old (H.view host.old).forest)

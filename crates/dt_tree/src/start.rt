@@ -19,6 +19,6 @@ impl Tree {
         ensures asks { Asks H.view H.count host.old host.new result }
     {
         let real = host.root()?;
-        Ok(Tree::of_root(alloc, Inode::new(real, Kind::Dir, ROOT_MODE, 0))?)
+        Ok(Tree::with_root(alloc, Inode::new(real, Kind::Dir, ROOT_MODE, 0))?)
     }
 }

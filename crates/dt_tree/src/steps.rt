@@ -6,10 +6,11 @@ ghost use Rattle.dt_base.specs.Image.{is_good_what};
 ghost use Rattle.dt_host.specs.Cause.{HasCause};
 ghost use Rattle.dt_host.specs.World.{Forest, IsDir, IsLive, entry, with_entry, without_entry, OnlyForest};
 ghost use Rattle.dt_tree.specs.declared.limits.TheConstants.{ROOT, NAMES_LIMIT};
-ghost use Rattle.dt_tree.specs.Shape.{names_of, name_count};
-ghost use Rattle.dt_tree.specs.Table.{Mirrors, Stands, kind_of, shape_of, tree_of};
+ghost use Rattle.dt_tree.specs.Shape.{name_count_of, name_count};
+ghost use Rattle.dt_tree.specs.Table.{IsMirror, Stands, kind_of, shape_of, tree_of};
 ghost use Rattle.dt_tree.specs.FileTree.{IsTreeBut};
-ghost use Rattle.dt_tree.specs.Changes.{new_node, with_made, with_shape, created, stamped, swept, swept_found};
+ghost use Rattle.dt_tree.specs.Changes.{new_node, with_nameless, with_shape, tree_with_new, tree_with_stamp};
+ghost use Rattle.dt_tree.specs.Changes.{without_unused, without_unused_found};
 ghost use Rattle.dt_tree.specs.inner.Created.{IsMadeAt, MayCreate};
 
 use crate::inode::{Inode, Kind};
@@ -66,9 +67,9 @@ impl Tree {
         requires stands { Stands self.old (H.view host.old).forest }
         requires good { IsTrue (is_good_what what.now mode) }
         ensures number { IfOk result (λ n. n ≡ self.old.next) }
-        ensures mirrors { OnOk result (Mirrors self.new (H.view host.new).forest) }
+        ensures mirrors { OnOk result (IsMirror self.new (H.view host.new).forest) }
         ensures tree { OnOk result (tree_of self.new (H.view host.new).forest
-            ≡ with_made (tree_of self.old (H.view host.old).forest) (new_node what.now) mode stamp) }
+            ≡ with_nameless (tree_of self.old (H.view host.old).forest) (new_node what.now) mode stamp) }
         ensures rest { OnlyForest (H.view host.old) (H.view host.new) }
         ensures cause { HasCause (H.count host.old) (H.count host.new)
             (IsErrOf result HostErr.Failed) }
@@ -86,13 +87,13 @@ impl Tree {
         name: &[u8],
         n: u64,
     ) -> Result<(), HostErr>
-        requires mirrors { Mirrors self.old (H.view host.old).forest }
+        requires mirrors { IsMirror self.old (H.view host.old).forest }
         requires directory { IsDir (shape_of self.old (H.view host.old).forest) dir }
         requires free { entry (shape_of self.old (H.view host.old).forest) dir name.now ≡ None }
         requires live { IsLive (shape_of self.old (H.view host.old).forest) n }
         ensures room { OnOk result
             (name_count (shape_of self.old (H.view host.old).forest) < NAMES_LIMIT) }
-        ensures mirrors { OnOk result (Mirrors self.new (H.view host.new).forest) }
+        ensures mirrors { OnOk result (IsMirror self.new (H.view host.new).forest) }
         ensures tree { OnOk result (tree_of self.new (H.view host.new).forest
             ≡ with_shape (tree_of self.old (H.view host.old).forest)
             (with_entry (shape_of self.old (H.view host.old).forest) dir name.now n)) }
@@ -127,11 +128,11 @@ impl Tree {
         name: &[u8],
         n: u64,
     ) -> Result<(), HostErr>
-        requires mirrors { Mirrors self.old (H.view host.old).forest }
+        requires mirrors { IsMirror self.old (H.view host.old).forest }
         requires here { entry (shape_of self.old (H.view host.old).forest) dir name.now ≡ Some n }
         requires once { IsDir (shape_of self.old (H.view host.old).forest) n
-            → names_of (shape_of self.old (H.view host.old).forest) n ≤ 1 }
-        ensures mirrors { OnOk result (Mirrors self.new (H.view host.new).forest) }
+            → name_count_of (shape_of self.old (H.view host.old).forest) n ≤ 1 }
+        ensures mirrors { OnOk result (IsMirror self.new (H.view host.new).forest) }
         ensures tree { OnOk result (tree_of self.new (H.view host.new).forest
             ≡ with_shape (tree_of self.old (H.view host.old).forest)
             (without_entry (shape_of self.old (H.view host.old).forest) dir name.now)) }
@@ -162,12 +163,12 @@ impl Tree {
         name: &[u8],
         found: Option<u64>,
     ) -> Result<(), HostErr>
-        requires mirrors { Mirrors self.old (H.view host.old).forest }
+        requires mirrors { IsMirror self.old (H.view host.old).forest }
         requires directory { IsDir (shape_of self.old (H.view host.old).forest) dir }
         requires found { found ≡ entry (shape_of self.old (H.view host.old).forest) dir name.now }
         requires once { IfSome found (λ n. IsDir (shape_of self.old (H.view host.old).forest) n
-            → names_of (shape_of self.old (H.view host.old).forest) n ≤ 1) }
-        ensures mirrors { OnOk result (Mirrors self.new (H.view host.new).forest) }
+            → name_count_of (shape_of self.old (H.view host.old).forest) n ≤ 1) }
+        ensures mirrors { OnOk result (IsMirror self.new (H.view host.new).forest) }
         ensures tree { OnOk result (tree_of self.new (H.view host.new).forest
             ≡ with_shape (tree_of self.old (H.view host.old).forest)
             (without_entry (shape_of self.old (H.view host.old).forest) dir name.now)) }
@@ -185,9 +186,9 @@ impl Tree {
     // Notes when a node was modified.
     pub(crate) fn stamp(&mut self, n: u64, stamp: u64)
         requires { IsSome (get self.old.inodes n) }
-        ensures mirrors { (v : Forest) → Mirrors self.old v → Mirrors self.new v }
-        ensures tree { (v : Forest) → Mirrors self.old v
-            → tree_of self.new v ≡ stamped (tree_of self.old v) n stamp }
+        ensures mirrors { (v : Forest) → IsMirror self.old v → IsMirror self.new v }
+        ensures tree { (v : Forest) → IsMirror self.old v
+            → tree_of self.new v ≡ tree_with_stamp (tree_of self.old v) n stamp }
     {
         let inode = self.inode(n);
         self.set(n, Inode { stamp, ..inode });
@@ -195,12 +196,12 @@ impl Tree {
 
     // Lets a node go that has neither names nor holds. Any other stays.
     pub(crate) fn sweep<H: Host>(&mut self, host: &mut H, n: u64) -> Result<(), HostErr>
-        requires mirrors { Mirrors self.old (H.view host.old).forest }
+        requires mirrors { IsMirror self.old (H.view host.old).forest }
         requires tree { IsTreeBut (Some n) (tree_of self.old (H.view host.old).forest) }
         requires live { IsLive (shape_of self.old (H.view host.old).forest) n }
-        ensures mirrors { OnOk result (Mirrors self.new (H.view host.new).forest) }
+        ensures mirrors { OnOk result (IsMirror self.new (H.view host.new).forest) }
         ensures tree { OnOk result (tree_of self.new (H.view host.new).forest
-            ≡ swept (tree_of self.old (H.view host.old).forest) n) }
+            ≡ without_unused (tree_of self.old (H.view host.old).forest) n) }
         ensures rest { OnlyForest (H.view host.old) (H.view host.new) }
         ensures cause { HasCause (H.count host.old) (H.count host.new)
             (IsErrOf result HostErr.Failed) }
@@ -221,12 +222,12 @@ impl Tree {
         host: &mut H,
         found: Option<u64>,
     ) -> Result<(), HostErr>
-        requires mirrors { Mirrors self.old (H.view host.old).forest }
+        requires mirrors { IsMirror self.old (H.view host.old).forest }
         requires tree { IsTreeBut found (tree_of self.old (H.view host.old).forest) }
         requires live { IfSome found (IsLive (shape_of self.old (H.view host.old).forest)) }
-        ensures mirrors { OnOk result (Mirrors self.new (H.view host.new).forest) }
+        ensures mirrors { OnOk result (IsMirror self.new (H.view host.new).forest) }
         ensures tree { OnOk result (tree_of self.new (H.view host.new).forest
-            ≡ swept_found found (tree_of self.old (H.view host.old).forest)) }
+            ≡ without_unused_found found (tree_of self.old (H.view host.old).forest)) }
         ensures rest { OnlyForest (H.view host.old) (H.view host.new) }
         ensures cause { HasCause (H.count host.old) (H.count host.new)
             (IsErrOf result HostErr.Failed) }
@@ -253,7 +254,7 @@ impl Tree {
         ensures number { IfOk result (λ n. n ≡ self.old.next) }
         ensures stands { OnOk result (Stands self.new (H.view host.new).forest) }
         ensures tree { OnOk result (tree_of self.new (H.view host.new).forest
-            ≡ created (tree_of self.old (H.view host.old).forest) dir name.now
+            ≡ tree_with_new (tree_of self.old (H.view host.old).forest) dir name.now
             (new_node what.now) mode stamp) }
         ensures rest { OnlyForest (H.view host.old) (H.view host.new) }
         ensures cause { HasCause (H.count host.old) (H.count host.new)

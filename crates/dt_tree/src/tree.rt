@@ -1,7 +1,7 @@
 // The virtual tree, and what it keeps of each node.
 ghost use Rattle.std.specs.Prelude.{◌≡◌, Some, IsSome, IfOk, OnOk};
 ghost use Rattle.std.specs.FinMap.{get, len};
-ghost use Rattle.dt_tree.specs.Table.{virtual};
+ghost use Rattle.dt_tree.specs.Table.{vino_of};
 ghost use Rattle.dt_tree.specs.inner.Tables.{with_inode, with_names, with_new, without_inode, root_table};
 
 use crate::inode::Inode;
@@ -23,7 +23,7 @@ pub struct Tree {
 }
 
 impl Model for Tree {
-    ghost use Rattle.dt_host.specs.Entries.{map_of};
+    ghost use Rattle.dt_tables.specs.Entries.{map_of};
     ghost use Rattle.dt_tree.specs.Table.{Table};
     ghost use Rattle.dt_tree.specs.inner.Codes.{table_code};
 
@@ -41,7 +41,7 @@ impl Model for Tree {
 
 impl Tree {
     // The tree of a root alone.
-    pub(crate) fn of_root(alloc: Global, inode: Inode) -> Result<Tree, NoMemory>
+    pub(crate) fn with_root(alloc: Global, inode: Inode) -> Result<Tree, NoMemory>
         ensures { IfOk result (λ t. t ≡ root_table inode) }
     {
         let mut inodes = BTreeMap::new(alloc);
@@ -77,7 +77,7 @@ impl Tree {
 
     // The inode of a number at the host; 0 where it is none of a node.
     pub(crate) fn vino(&self, real: u64) -> u64
-        ensures { result ≡ virtual self.now real }
+        ensures { result ≡ vino_of self.now real }
     {
         self.by_real.get(&real).copied().unwrap_or(0)
     }

@@ -2,9 +2,9 @@
 ghost use Rattle.std.specs.Prelude.{◌≡◌, true, IfSome, OnOk, IsErrOf};
 ghost use Rattle.dt_host.specs.declared.error.CallErr.TheVariants.{Host as host_failed};
 ghost use Rattle.dt_host.specs.Cause.{HasCause};
-ghost use Rattle.dt_tree.specs.Calls.{Does, UnlessFailed, KeepsHeld, MayDrop, drop_name_of};
+ghost use Rattle.dt_tree.specs.Calls.{IsTreeAnswer, UnlessFailed, KeepsHeld, MayDrop, drop_name_of};
 ghost use Rattle.dt_host.specs.World.{IsDir, entry, OnlyForest};
-ghost use Rattle.dt_tree.specs.Changes.{unlinked};
+ghost use Rattle.dt_tree.specs.Changes.{tree_after_unlink};
 ghost use Rattle.dt_tree.specs.Shape.{is_bare};
 ghost use Rattle.dt_tree.specs.Table.{Stands, shape_of, tree_of};
 
@@ -24,7 +24,7 @@ impl Tree {
     ) -> Result<(), CallErr>
         requires stands { Stands self.old (H.view host.old).forest }
         requires may { MayDrop (shape_of self.old (H.view host.old).forest) dir name.now }
-        ensures done { Does result (tree_of self.new (H.view host.new).forest)
+        ensures done { IsTreeAnswer result (tree_of self.new (H.view host.new).forest)
             (drop_name_of (tree_of self.old (H.view host.old).forest) dir name.now stamp) }
         ensures stands { UnlessFailed result (Stands self.new (H.view host.new).forest) }
         ensures held { UnlessFailed result (KeepsHeld (tree_of self.old (H.view host.old).forest)
@@ -57,7 +57,7 @@ impl Tree {
             → is_bare (shape_of self.old (H.view host.old).forest) n ≡ true) }
         ensures stands { OnOk result (Stands self.new (H.view host.new).forest) }
         ensures tree { OnOk result (tree_of self.new (H.view host.new).forest
-            ≡ unlinked (tree_of self.old (H.view host.old).forest) dir name.now stamp) }
+            ≡ tree_after_unlink (tree_of self.old (H.view host.old).forest) dir name.now stamp) }
         ensures held { OnOk result (KeepsHeld (tree_of self.old (H.view host.old).forest)
             (tree_of self.new (H.view host.new).forest)) }
         ensures rest { OnlyForest (H.view host.old) (H.view host.new) }

@@ -4,10 +4,10 @@ ghost use Rattle.dt_base.specs.declared.limits.TheConstants.{FILE_LIMIT};
 ghost use Rattle.dt_host.specs.declared.error.CallErr.TheVariants.{Host as host_failed};
 ghost use Rattle.dt_host.specs.Cause.{HasCause};
 ghost use Rattle.dt_host.specs.World.{IsFile, OnlyForest};
-ghost use Rattle.dt_tree.specs.Calls.{Does, UnlessFailed, KeepsHeld, write_at_of, cut_of};
-ghost use Rattle.dt_tree.specs.Changes.{written, truncated};
+ghost use Rattle.dt_tree.specs.Calls.{IsTreeAnswer, UnlessFailed, KeepsHeld, write_at_of, cut_of};
+ghost use Rattle.dt_tree.specs.Changes.{tree_after_write, tree_after_truncate};
 ghost use Rattle.dt_tree.specs.Table.{Stands, shape_of, tree_of};
-ghost use Rattle.dt_tree.specs.inner.Files.{with_padding, with_written};
+ghost use Rattle.dt_tree.specs.inner.Files.{with_padding, with_padded_write};
 
 use crate::tree::Tree;
 use dt_base::{Errno, FILE_LIMIT};
@@ -33,7 +33,7 @@ fn write_padded<H: Host>(host: &mut H, real: u64, off: u64, bytes: &[u8]) -> Res
     requires file { IsFile (H.view host.old).forest real }
     requires fits { off + length bytes.now ≤ FILE_LIMIT }
     ensures padded { OnOk result
-        (H.view host.new ≡ with_written (H.view host.old) real off bytes.now) }
+        (H.view host.new ≡ with_padded_write (H.view host.old) real off bytes.now) }
     ensures rest { OnlyForest (H.view host.old) (H.view host.new) }
     ensures cause { HasCause (H.count host.old) (H.count host.new) (IsErrOf result HostErr.Failed) }
 {
@@ -56,7 +56,7 @@ impl Tree {
         requires fits { off + length bytes.now ≤ FILE_LIMIT }
         ensures stands { OnOk result (Stands self.new (H.view host.new).forest) }
         ensures tree { OnOk result (tree_of self.new (H.view host.new).forest
-            ≡ written (tree_of self.old (H.view host.old).forest) vino off bytes.now stamp) }
+            ≡ tree_after_write (tree_of self.old (H.view host.old).forest) vino off bytes.now stamp) }
         ensures held { OnOk result (KeepsHeld (tree_of self.old (H.view host.old).forest)
             (tree_of self.new (H.view host.new).forest)) }
         ensures rest { OnlyForest (H.view host.old) (H.view host.new) }
@@ -81,7 +81,7 @@ impl Tree {
         requires fits { len ≤ FILE_LIMIT }
         ensures stands { OnOk result (Stands self.new (H.view host.new).forest) }
         ensures tree { OnOk result (tree_of self.new (H.view host.new).forest
-            ≡ truncated (tree_of self.old (H.view host.old).forest) vino len stamp) }
+            ≡ tree_after_truncate (tree_of self.old (H.view host.old).forest) vino len stamp) }
         ensures held { OnOk result (KeepsHeld (tree_of self.old (H.view host.old).forest)
             (tree_of self.new (H.view host.new).forest)) }
         ensures rest { OnlyForest (H.view host.old) (H.view host.new) }
@@ -105,7 +105,7 @@ impl Tree {
     ) -> Result<(), CallErr>
         requires stands { Stands self.old (H.view host.old).forest }
         requires file { IsFile (shape_of self.old (H.view host.old).forest) vino }
-        ensures done { Does result (tree_of self.new (H.view host.new).forest)
+        ensures done { IsTreeAnswer result (tree_of self.new (H.view host.new).forest)
             (write_at_of (tree_of self.old (H.view host.old).forest) vino off bytes.now stamp) }
         ensures stands { UnlessFailed result (Stands self.new (H.view host.new).forest) }
         ensures held { UnlessFailed result (KeepsHeld (tree_of self.old (H.view host.old).forest)
@@ -132,7 +132,7 @@ impl Tree {
     ) -> Result<(), CallErr>
         requires stands { Stands self.old (H.view host.old).forest }
         requires file { IsFile (shape_of self.old (H.view host.old).forest) vino }
-        ensures done { Does result (tree_of self.new (H.view host.new).forest)
+        ensures done { IsTreeAnswer result (tree_of self.new (H.view host.new).forest)
             (cut_of (tree_of self.old (H.view host.old).forest) vino len stamp) }
         ensures stands { UnlessFailed result (Stands self.new (H.view host.new).forest) }
         ensures held { UnlessFailed result (KeepsHeld (tree_of self.old (H.view host.old).forest)

@@ -3,7 +3,7 @@ use Rattle.std.proofs.Common.{◌≡◌, ℕ, zero, suc, ◌+◌, ◌*◌, ◌%�
 use Rattle.std.specs.Int.{w32, to_le_bytes}
 use Rattle.rand_core.specs.Steps.{word_bytes, first_bytes, fill_via_u32}
 use Rattle.rand_chacha.specs.ChaCha.{ChaCha, next_word, key_of}
-use Rattle.dt_virt.specs.Words.{word, bytes_from, covering}
+use Rattle.dt_virt.specs.Words.{word, bytes_from, word_count}
 
 -- a generator of a stream at a position
 abbrev pub at : List ℕ → ℕ → ℕ → ChaCha
@@ -25,10 +25,10 @@ word_bytes-from key stream word_pos (suc count) h =
 
 -- what a buffer and a generator are after so many bytes
 pub record Filled (key : List ℕ) (stream word_pos count : ℕ) (bytes : List ℕ) (next : ChaCha) : Type 0 where
-  pub prefix : bytes ≡ take count (bytes_from key stream word_pos (covering count))
+  pub prefix : bytes ≡ take count (bytes_from key stream word_pos (word_count count))
   pub key_kept : next.key ≡ key_of key
   pub stream_kept : next.stream ≡ stream
-  pub moved : next.word_pos ≡ (word_pos + covering count) % 2 ^ 68
+  pub moved : next.word_pos ≡ (word_pos + word_count count) % 2 ^ 68
 
 -- a generator fills a buffer from its position on
 pub filled : (key : List ℕ) (stream word_pos count : ℕ) (g next : ChaCha) (bytes : List ℕ)
@@ -41,7 +41,7 @@ filled key stream word_pos count g next bytes its_key its_stream its_word_pos h 
     ∙ ap (λ (s : ℕ). at (key_of key) s g.word_pos) its_stream
     ∙ ap (at (key_of key) stream) its_word_pos in
     let all = e ∙ ap (fill_via_u32 (next_word 10) count) here
-    ∙ ap (first_bytes count) (word_bytes-from key stream word_pos (covering count) h) in
+    ∙ ap (first_bytes count) (word_bytes-from key stream word_pos (word_count count) h) in
     record {
       prefix = ap (λ (p : List ℕ × ChaCha). p.0) all;
       key_kept = ap (λ (p : List ℕ × ChaCha). p.1.key) all;

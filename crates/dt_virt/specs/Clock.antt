@@ -3,5 +3,5 @@ use Rattle.std.specs.Prelude.{ℕ, ◌+◌, min}
 use Rattle.dt_virt.specs.declared.clock.TheConstants.{TICK_LIMIT}
 
 -- the ticks after some nanoseconds more, the limit where they would pass it
-abbrev pub later : ℕ → ℕ → ℕ
-later ticks more = min (ticks + more) TICK_LIMIT
+abbrev pub ticks_after : ℕ → ℕ → ℕ
+ticks_after ticks more = min (ticks + more) TICK_LIMIT

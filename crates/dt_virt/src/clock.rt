@@ -1,6 +1,6 @@
 // Logical time.
 ghost use Rattle.std.specs.Prelude.{◌≡◌, ◌≤◌};
-ghost use Rattle.dt_virt.specs.Clock.{later};
+ghost use Rattle.dt_virt.specs.Clock.{ticks_after};
 
 use std::marker::Model;
 
@@ -45,8 +45,8 @@ impl Clock {
 
     /// Reads the clock: the reading takes [`READING_TICKS`] first, and gives the new value.
     pub fn read(&mut self) -> u64
-        ensures value { result ≡ later self.old READING_TICKS }
-        ensures rest { self.new ≡ later self.old READING_TICKS }
+        ensures value { result ≡ ticks_after self.old READING_TICKS }
+        ensures rest { self.new ≡ ticks_after self.old READING_TICKS }
         ensures forward { self.old ≤ self.new }
     {
         self.sleep(READING_TICKS);
@@ -55,7 +55,7 @@ impl Clock {
 
     /// Lets `ns` nanoseconds pass.
     pub fn sleep(&mut self, ns: u64)
-        ensures rest { self.new ≡ later self.old ns }
+        ensures rest { self.new ≡ ticks_after self.old ns }
         ensures forward { self.old ≤ self.new }
     {
         self.ticks = self.ticks.saturating_add(ns).min(TICK_LIMIT);
@@ -63,8 +63,8 @@ impl Clock {
 
     /// The stamp of all that one call changes: [`READING_TICKS`] pass once, and the new value is the stamp.
     pub fn stamp(&mut self) -> u64
-        ensures value { result ≡ later self.old READING_TICKS }
-        ensures rest { self.new ≡ later self.old READING_TICKS }
+        ensures value { result ≡ ticks_after self.old READING_TICKS }
+        ensures rest { self.new ≡ ticks_after self.old READING_TICKS }
         ensures forward { self.old ≤ self.new }
     {
         self.read()

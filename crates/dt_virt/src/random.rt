@@ -1,7 +1,7 @@
 // The words of a seed.
 ghost use Rattle.std.specs.Prelude.{◌≡◌, ◌<◌, ◌^◌, length};
 ghost use Rattle.rand_chacha.specs.ChaCha.{key_of};
-ghost use Rattle.dt_virt.specs.Words.{key_by, seeded_by, drawn, rest_after, start_bytes};
+ghost use Rattle.dt_virt.specs.Words.{key_of_seed, words_of_seed, next_bytes, rest_after, start_bytes};
 
 use rand_chacha::ChaCha20Rng;
 use rand_core::SeedableRng;
@@ -22,9 +22,9 @@ pub struct Rand {
 impl Model for Rand {
     ghost use Rattle.std.specs.Prelude.{◌≡◌, ◌<◌, ◌^◌};
     ghost use Rattle.rand_chacha.specs.ChaCha.{key_of};
-    ghost use Rattle.dt_virt.specs.Words.{Seeded};
+    ghost use Rattle.dt_virt.specs.Words.{SeededWords};
 
-    ghost Value = { Seeded };
+    ghost Value = { SeededWords };
 
     ghost view = { λ r. record { key = r.key; word_pos = r.words.word_pos } };
 
@@ -34,7 +34,7 @@ impl Model for Rand {
 impl Rand {
     /// The words of a seed.
     pub fn new(seed: u64) -> Rand
-        ensures { result ≡ seeded_by seed }
+        ensures { result ≡ words_of_seed seed }
     {
         let key = key_of_seed(seed);
         Rand {
@@ -46,7 +46,7 @@ impl Rand {
     /// Fills `buf` with the next bytes of stream 0: as many whole words as cover it, each with its lowest byte first,
     /// the rest of the last dropped.
     pub fn fill(&mut self, buf: &mut [u8])
-        ensures bytes { buf.new ≡ drawn self.old (length buf.old) }
+        ensures bytes { buf.new ≡ next_bytes self.old (length buf.old) }
         ensures rest { self.new ≡ rest_after self.old (length buf.old) }
     {
         fill_bytes_via_u32(&mut self.words, buf);
@@ -65,7 +65,7 @@ impl Rand {
 
 // The key of a seed: the SHA-256 of its 8 bytes, the lowest first.
 fn key_of_seed(seed: u64) -> [u8; 32]
-    ensures { result ≡ key_by seed }
+    ensures { result ≡ key_of_seed seed }
 {
     Sha256::digest(seed.to_le_bytes())
 }

@@ -12,7 +12,7 @@ use Rattle.dt_tree.specs.Shape.{IsShaped, is_link}
 use Rattle.dt_tree.specs.FileTree.{Attributes, FileTree, IsTree, IsGoodNode, is_entry_name}
 use Rattle.dt_walk.specs.declared.place.Place.{Place}
 use Rattle.dt_walk.specs.declared.place.Last.{Last}
-use Rattle.dt_walk.specs.Walk.{keeps}
+use Rattle.dt_walk.specs.Walk.{is_keep}
 use Rattle.dt_walk.specs.Placed.{IsNamedWell, IsFollowed, is_special}
 use Rattle.dt_walk.proofs.Ends.{Steps}
 use Rattle.dt_walk.proofs.Fit.{HasByte, IsClean, byte_names, clean_names}
@@ -80,9 +80,9 @@ module _ (v : Forest) (s : IsShaped v) (root : v.root ≡ 1) where
   no_link None h = tt
   no_link (Some n) h = ap is_some h
 
-  pub follow_steps : (last : Last) → Steps v (keeps last) (IsFollowed v last) HasByte
+  pub follow_steps : (last : Last) → Steps v (is_keep last) (IsFollowed v last) HasByte
   follow_steps last = record {
-    ends = λ at final slash name place some h follows. no_link place.node ((ended_at v (keeps last) final slash at name place h).straight (ap keeps follows));
+    ends = λ at final slash name place some h follows. no_link place.node ((ended_at v (is_keep last) final slash at name place h).straight (ap is_keep follows));
     top = λ slash follows. ap is_some (no_target 1 (subst (IsDir v) root s.root));
     names = λ at final slash name target h. byte_names target;
   }

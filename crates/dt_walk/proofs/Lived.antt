@@ -10,7 +10,7 @@ use Rattle.dt_tree.proofs.Namings.{named}
 use Rattle.dt_tree.proofs.Aboves.{parent-entry}
 use Rattle.dt_walk.specs.declared.place.Place.{Place}
 use Rattle.dt_walk.specs.declared.step.Found.TheVariants.{Node, Missing, Gone}
-use Rattle.dt_walk.specs.Walk.{node_or, looked_up, is_nil}
+use Rattle.dt_walk.specs.Walk.{node_or, lookup_in, is_nil}
 use Rattle.dt_walk.specs.Placed.{IsPlaceIn, is_special}
 use Rattle.dt_walk.proofs.Ends.{Steps, top_place}
 use Rattle.dt_walk.proofs.Fit.{HasByte, byte_names}
@@ -28,7 +28,7 @@ module _ (v : Forest) (s : IsShaped v) (at : ℕ) (is : IsDir v at) where
       by_test true h = let same : at ≡ n = cc in subst (IsLive v) same (IsLive-IsDir v at is)
       by_test false h = by_parent (parent_at v at) refl h
 
-  looked_live : (name : List ℕ) (n : ℕ) → looked_up v at name ≡ Node n → IsLive v n
+  looked_live : (name : List ℕ) (n : ℕ) → lookup_in v at name ≡ Node n → IsLive v n
   looked_live name n e = by_dot (bytes_eq name (codes ".")) e
     where
       by_entry : (found : Option ℕ) → entry v at name ≡ found → node_or Missing found ≡ Node n → IsLive v n
@@ -51,7 +51,7 @@ module _ (v : Forest) (at : ℕ) (name : List ℕ) where
   same_found (Some x) None h = absurd (cc)
   same_found (Some x) (Some y) h = let same : x ≡ y = cc in ap Some same
 
-  looked_entry : (found : Option ℕ) → is_special name ≡ false → looked_up v at name ≡ node_or Missing found → entry v at name ≡ found
+  looked_entry : (found : Option ℕ) → is_special name ≡ false → lookup_in v at name ≡ node_or Missing found → entry v at name ≡ found
   looked_entry found plain looked = by_tests (is_nil name) (bytes_eq name (codes ".")) (bytes_eq name (codes "..")) plain looked
     where
       by_tests : (a b c : Bool) → (a || (b || c)) ≡ false → cond b (Node at) (cond c (node_or Gone (dot_dot v at)) (node_or Missing (entry v at name))) ≡ node_or Missing found → entry v at name ≡ found
@@ -61,7 +61,7 @@ module _ (v : Forest) (at : ℕ) (name : List ℕ) where
       by_tests false false false off h = same_found (entry v at name) found h
 
   -- a special name is found, or refused
-  looked_plain : HasByte name → looked_up v at name ≡ Missing → is_special name ≡ false
+  looked_plain : HasByte name → lookup_in v at name ≡ Missing → is_special name ≡ false
   looked_plain some looked = ap (λ b. b || (bytes_eq name (codes ".") || bytes_eq name (codes ".."))) some ∙ by_tests (bytes_eq name (codes ".")) (bytes_eq name (codes "..")) looked
     where
       by_up : (up : Option ℕ) → node_or Gone up ≢ Missing

@@ -26,43 +26,43 @@ node_or otherwise None = otherwise
 node_or otherwise (Some n) = Node n
 
 -- what is under a name of a directory; `.` is the directory itself, and `..` is gone where that is removed
-abbrev pub looked_up : Forest → ℕ → List ℕ → Found
-looked_up v at name =
+abbrev pub lookup_in : Forest → ℕ → List ℕ → Found
+lookup_in v at name =
     if bytes_eq name (codes ".") then Node at
     else if bytes_eq name (codes "..") then node_or Gone (dot_dot v at)
     else node_or Missing (entry v at name)
 
 -- at the last name: a path that ends in a slash leads to a directory or is refused
-abbrev pub walk_ended : Forest → (slash : Bool) → ℕ → List ℕ → ℕ → Step
-walk_ended v slash at name n =
+abbrev pub end_step : Forest → (slash : Bool) → ℕ → List ℕ → ℕ → Step
+end_step v slash at name n =
     if slash && not (is_dir v n) then Refused NotDir
     else Done (record { parent = at; name = name; node = Some n; slash = slash })
 
 -- at a node that is no link
-abbrev pub stopped : Forest → (last slash : Bool) → ℕ → List ℕ → ℕ → Step
-stopped v last slash at name n = if last then walk_ended v slash at name n else On n
+abbrev pub plain_step : Forest → (last slash : Bool) → ℕ → List ℕ → ℕ → Step
+plain_step v last slash at name n = if last then end_step v slash at name n else On n
 
 -- at a node, with its target if it is a link: a link is followed, but for one that is the last name and kept
-abbrev pub reached_node : Forest → (keep last slash : Bool) → ℕ → List ℕ → ℕ → Option (List ℕ) → Step
-reached_node v keep last slash at name n None = stopped v last slash at name n
-reached_node v keep last slash at name n (Some target) = if last && keep then walk_ended v slash at name n else Follow target
+abbrev pub node_step : Forest → (keep last slash : Bool) → ℕ → List ℕ → ℕ → Option (List ℕ) → Step
+node_step v keep last slash at name n None = plain_step v last slash at name n
+node_step v keep last slash at name n (Some target) = if last && keep then end_step v slash at name n else Follow target
 
 -- at a name that is not there: a place, if it is the last
-abbrev pub missed : (last slash : Bool) → ℕ → List ℕ → Step
-missed last slash at name =
+abbrev pub missing_step : (last slash : Bool) → ℕ → List ℕ → Step
+missing_step last slash at name =
     if last then Done (record { parent = at; name = name; node = None; slash = slash }) else Refused NoEnt
 
 -- at what was found under a name
 abbrev pub after_look : Forest → (keep last slash : Bool) → ℕ → List ℕ → Found → Step
 after_look v keep last slash at name Gone = Refused NoEnt
-after_look v keep last slash at name Missing = missed last slash at name
-after_look v keep last slash at name (Node n) = reached_node v keep last slash at name n (target_at v n)
+after_look v keep last slash at name Missing = missing_step last slash at name
+after_look v keep last slash at name (Node n) = node_step v keep last slash at name n (target_at v n)
 
 -- one name of a path, looked up in a directory
 abbrev pub step_in_dir : Forest → (keep last slash : Bool) → ℕ → List ℕ → Step
 step_in_dir v keep last slash at name =
     if nat_le (NAME_LIMIT + 1) (length name) then Refused NameTooLong
-    else after_look v keep last slash at name (looked_up v at name)
+    else after_look v keep last slash at name (lookup_in v at name)
 
 -- one name of a path, looked up where the walk stands
 unfoldable pub step_of : Forest → (keep last slash : Bool) → ℕ → List ℕ → Step
@@ -107,10 +107,10 @@ walk_by zero v keep at names slash = walk_from v keep (λ _ _ _. Err Loop) at na
 walk_by (suc left) v keep at names slash = walk_from v keep (walk_by left v keep) at names slash
 
 -- whether a link that is the last name stays as it is
-abbrev pub keeps : Last → Bool
-keeps follow_last = false
-keeps keep_last = true
+abbrev pub is_keep : Last → Bool
+is_keep follow_last = false
+is_keep keep_last = true
 
 -- where a path leads from a directory, or the first refusal
 abbrev pub walk_of : Forest → ℕ → List ℕ → Last → Result Place Errno
-walk_of v start path last = walk_by LINK_LIMIT v (keeps last) (start_of start path) (path_names path) (ends_in_slash path)
+walk_of v start path last = walk_by LINK_LIMIT v (is_keep last) (start_of start path) (path_names path) (ends_in_slash path)

@@ -5,11 +5,11 @@ ghost use Rattle.dt_host.specs.declared.error.HostErr.TheVariants.{NoMemory as n
 ghost use Rattle.dt_host.specs.Asks.{Asks, AsksOr};
 ghost use Rattle.dt_host.specs.World.{IsDir};
 ghost use Rattle.dt_tree.specs.Table.{Stands, shape_of};
-ghost use Rattle.dt_walk.specs.Answer.{Answers};
+ghost use Rattle.dt_walk.specs.Answer.{IsAnswer};
 ghost use Rattle.dt_base.specs.Path.{has_no_nul};
 ghost use Rattle.dt_walk.specs.Placed.{IsPlaceIn, IsNamedWell, IsFollowed};
 ghost use Rattle.dt_walk.specs.Walk.{is_nil, path_names, ends_in_slash, start_of, walk_of};
-ghost use Rattle.dt_walk.specs.inner.Stretch.{stretch_of, goes_on, reached_of};
+ghost use Rattle.dt_walk.specs.inner.Stretch.{stretch_of, goes_on, stretch_end_of};
 
 use crate::names::{ends_in_slash, push_names, start_of};
 use crate::place::{LINK_LIMIT, Last, Place};
@@ -49,7 +49,7 @@ pub fn walk<H: Host>(
 ) -> Result<Place, CallErr>
     requires stands { Stands tree.now (H.view host.old).forest }
     requires directory { IsDir (shape_of tree.now (H.view host.old).forest) start }
-    ensures exact { Answers result
+    ensures exact { IsAnswer result
         (walk_of (shape_of tree.now (H.view host.old).forest) start path.now last) }
     ensures place { IfOk result (IsPlaceIn (shape_of tree.now (H.view host.old).forest)) }
     ensures named { IsTrue (has_no_nul path.now) → IfOk result IsNamedWell }
@@ -98,7 +98,7 @@ fn walk_on<H: Host>(
     slash: bool,
 ) -> Result<Stretch, HostErr>
     requires { Stands tree.now (H.view host.old).forest }
-    ensures ok { IfOk result (λ reached. reached_of reached names.new.items
+    ensures ok { IfOk result (λ reached. stretch_end_of reached names.new.items
         ≡ stretch_of (shape_of tree.now (H.view host.old).forest) keep start
         (reverse names.old.items) slash) }
     ensures asks { Asks H.view H.count host.old host.new result }
@@ -130,7 +130,7 @@ fn follow(
     names: &mut Vec<Blob>,
     slash: bool,
 ) -> Result<Stretch, NoMemory>
-    ensures { IfOk result (λ reached. reached_of reached names.new.items
+    ensures { IfOk result (λ reached. stretch_end_of reached names.new.items
         ≡ goes_on (start_of at target.now) (path_names target.now ++ reverse names.old.items)
         (slash || (is_nil names.old.items && ends_in_slash target.now))) }
 {

@@ -5,7 +5,7 @@ ghost use Rattle.dt_host.specs.World.{Forest, IsDir, IsLive, target_at};
 ghost use Rattle.dt_tree.specs.Table.{Stands, shape_of};
 ghost use Rattle.dt_tree.specs.Above.{dot_dot};
 ghost use Rattle.dt_walk.specs.declared.step.Found.TheVariants.{Gone};
-ghost use Rattle.dt_walk.specs.Walk.{node_or, looked_up, reached_node, missed, step_in_dir, step_of};
+ghost use Rattle.dt_walk.specs.Walk.{node_or, lookup_in, node_step, missing_step, step_in_dir, step_of};
 
 use crate::place::Place;
 use dt_base::{Blob, Errno, NAME_LIMIT};
@@ -81,7 +81,7 @@ fn step_in<H: Host>(
     }
     match look(host, tree, at, name.as_slice())? {
         Found::Gone => Ok(Step::Refused(Errno::NoEnt)),
-        Found::Missing => Ok(missing(at, name, last, slash)),
+        Found::Missing => Ok(missing_step(at, name, last, slash)),
         Found::Node(n) => arrive(host, tree, at, name, n, keep, last, slash),
     }
 }
@@ -91,7 +91,7 @@ fn look<H: Host>(host: &mut H, tree: &Tree, at: u64, name: &[u8]) -> Result<Foun
     requires stands { Stands tree.now (H.view host.old).forest }
     requires directory { IsDir (shape_of tree.now (H.view host.old).forest) at }
     ensures ok { IfOk result
-        (λ found. found ≡ looked_up (shape_of tree.now (H.view host.old).forest) at name.now) }
+        (λ found. found ≡ lookup_in (shape_of tree.now (H.view host.old).forest) at name.now) }
     ensures asks { Asks H.view H.count host.old host.new result }
 {
     let _before = host.faults();
@@ -99,7 +99,7 @@ fn look<H: Host>(host: &mut H, tree: &Tree, at: u64, name: &[u8]) -> Result<Foun
         return Ok(Found::Node(at));
     }
     if name == b"..".as_slice() {
-        return Ok(above(tree, at));
+        return Ok(look_above(tree, at));
     }
     match tree.find(host, at, name)? {
         None => Ok(Found::Missing),
@@ -108,7 +108,7 @@ fn look<H: Host>(host: &mut H, tree: &Tree, at: u64, name: &[u8]) -> Result<Foun
 }
 
 // What is under `..` of a directory.
-fn above(tree: &Tree, at: u64) -> Found
+fn look_above(tree: &Tree, at: u64) -> Found
     ensures { (v : Forest) → Stands tree.now v → IsDir (shape_of tree.now v) at
         → result ≡ node_or Gone (dot_dot (shape_of tree.now v) at) }
 {
@@ -131,7 +131,7 @@ fn arrive<H: Host>(
 ) -> Result<Step, HostErr>
     requires stands { Stands tree.now (H.view host.old).forest }
     ensures ok { IfOk result (λ step. step
-        ≡ reached_node (shape_of tree.now (H.view host.old).forest) keep last slash at name n
+        ≡ node_step (shape_of tree.now (H.view host.old).forest) keep last slash at name n
         (target_at (shape_of tree.now (H.view host.old).forest) n)) }
     ensures asks { Asks H.view H.count host.old host.new result }
 {
@@ -154,8 +154,8 @@ fn arrive<H: Host>(
 }
 
 // Where a path leads whose name is not there.
-fn missing(at: u64, name: Blob, last: bool, slash: bool) -> Step
-    ensures { result ≡ missed last slash at name }
+fn missing_step(at: u64, name: Blob, last: bool, slash: bool) -> Step
+    ensures { result ≡ missing_step last slash at name }
 {
     if !last {
         return Step::Refused(Errno::NoEnt);

@@ -11,7 +11,7 @@ pub record IsAdded (piece : Piece) (before after : List ℕ) : Type 0 where
   pub spelled : IsSpelled piece (drop (length before) after)
 
 -- a field was bad, or memory ran out
-abbrev pub RefusesField : Bool → AsmErr → Type 0
-RefusesField bad BadField = bad ≡ true
-RefusesField bad NoMemory = Unit {0}
-RefusesField bad _ = ⊥
+abbrev pub IsFieldRefusal : Bool → AsmErr → Type 0
+IsFieldRefusal bad BadField = bad ≡ true
+IsFieldRefusal bad NoMemory = Unit {0}
+IsFieldRefusal bad _ = ⊥

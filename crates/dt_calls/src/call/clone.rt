@@ -7,9 +7,9 @@ ghost use Rattle.dt_host.specs.Cause.{HasCause};
 ghost use Rattle.dt_calls.specs.Clone.{clone_call, is_supported, with_pid, with_stack, child_machine, parent_machine};
 ghost use Rattle.dt_calls.specs.Clone.{child_process, with_child_of};
 ghost use Rattle.dt_calls.specs.Container.{signals_in};
-ghost use Rattle.dt_signals.specs.Signals.{forked};
+ghost use Rattle.dt_signals.specs.Signals.{after_fork};
 ghost use Rattle.dt_calls.specs.InCode.{shared_of};
-ghost use Rattle.dt_calls.specs.Sound.{IsSoundHand, Serves, hand};
+ghost use Rattle.dt_calls.specs.Sound.{IsSoundHand, HasEffect, hand};
 
 use super::{Effect, Outcome};
 use crate::shared::{Process, Shared};
@@ -33,7 +33,7 @@ pub fn clone<H: Host>(
     machine: &mut Machine,
 ) -> Result<Effect, HostErr>
     requires { IsSoundHand (hand shared.old own.old (H.view host.old)) }
-    ensures { Serves (clone_call (shared_of shared.old (H.view host.old)) shared.old.pids.next own.old machine.old)
+    ensures { HasEffect (clone_call (shared_of shared.old (H.view host.old)) shared.old.pids.next own.old machine.old)
         (hand shared.old own.old (H.view host.old)) (hand shared.new own.new (H.view host.new)) machine.new result
         (H.count host.old) (H.count host.new) }
 {
@@ -142,10 +142,10 @@ impl Shared {
         requires { IsSome (get self.old.signals own.now.caller.vpid) }
         ensures { OnOk result (self.new ≡ record self.old {
           processes = insert self.old.processes vpid (child_process own.now vpid);
-          signals = insert self.old.signals vpid (forked (signals_in self.old.signals own.now.caller.vpid));
+          signals = insert self.old.signals vpid (after_fork (signals_in self.old.signals own.now.caller.vpid));
         }) }
     {
-        let signals = self.signals_of(own.caller.vpid).forked();
+        let signals = self.signals_of(own.caller.vpid).fork();
         self.processes.put(u64::from(vpid), own.copy_as(vpid))?;
         self.signals.put(u64::from(vpid), signals)?;
         Ok(())

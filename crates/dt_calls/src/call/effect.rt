@@ -2,7 +2,7 @@
 ghost use Rattle.std.specs.Prelude.{◌≡◌, ◌-◌, ◌^◌, [], ◌∷◌, None, length, IfOk, OnOk};
 ghost use Rattle.dt_base.specs.declared.event.Event.TheVariants.{Out};
 ghost use Rattle.dt_base.specs.Errno.{errno_number};
-ghost use Rattle.dt_rv64.specs.Effects.{answered};
+ghost use Rattle.dt_rv64.specs.Effects.{machine_after_answer};
 
 use dt_base::{Blob, End, Errno, Event, NoMemory};
 use dt_rv64::Machine;
@@ -48,7 +48,7 @@ impl Effect {
 
     /// The call is done, and answers a number.
     pub fn done(alloc: Global, machine: &mut Machine, value: u64) -> Self
-        ensures machine { machine.new ≡ answered machine.old value }
+        ensures machine { machine.new ≡ machine_after_answer machine.old value }
         ensures child { result.child ≡ None }
         ensures events { result.events.items ≡ [] }
         ensures outcome { result.outcome ≡ Outcome.Done }
@@ -59,7 +59,7 @@ impl Effect {
 
     /// The call is refused: its answer is minus the errno.
     pub fn refused(alloc: Global, machine: &mut Machine, errno: Errno) -> Self
-        ensures machine { machine.new ≡ answered machine.old (2 ^ 64 - errno_number errno) }
+        ensures machine { machine.new ≡ machine_after_answer machine.old (2 ^ 64 - errno_number errno) }
         ensures child { result.child ≡ None }
         ensures events { result.events.items ≡ [] }
         ensures outcome { result.outcome ≡ Outcome.Done }
@@ -68,13 +68,13 @@ impl Effect {
     }
 
     /// The call is done: bytes go out on a stream, and their number is its answer.
-    pub fn puts_out(
+    pub fn output(
         alloc: Global,
         machine: &mut Machine,
         stream: u8,
         bytes: Blob,
     ) -> Result<Self, NoMemory>
-        ensures machine { OnOk result (machine.new ≡ answered machine.old (length bytes)) }
+        ensures machine { OnOk result (machine.new ≡ machine_after_answer machine.old (length bytes)) }
         ensures child { IfOk result (λ e. e.child ≡ None) }
         ensures events { IfOk result (λ e. e.events.items ≡ Out stream bytes ∷ []) }
         ensures outcome { IfOk result (λ e. e.outcome ≡ Outcome.Done) }

@@ -1,8 +1,8 @@
 // Another program for a process.
 ghost use Rattle.std.specs.Prelude.{◌≡◌, Ok};
-ghost use Rattle.dt_calls.specs.Execve.{execve_call, by_program};
+ghost use Rattle.dt_calls.specs.Execve.{execve_call, effect_of_program};
 ghost use Rattle.dt_calls.specs.InCode.{shared_of};
-ghost use Rattle.dt_calls.specs.Sound.{IsSoundHand, Serves, hand};
+ghost use Rattle.dt_calls.specs.Sound.{IsSoundHand, HasEffect, hand};
 
 use super::{Effect, Outcome};
 use crate::shared::{Process, Shared};
@@ -23,7 +23,7 @@ pub fn execve<H: Host>(
     machine: &mut Machine,
 ) -> Result<Effect, HostErr>
     requires { IsSoundHand (hand shared.old own.old (H.view host.old)) }
-    ensures { Serves (execve_call (shared_of shared.old (H.view host.old)) own.old machine.old)
+    ensures { HasEffect (execve_call (shared_of shared.old (H.view host.old)) own.old machine.old)
         (hand shared.old own.old (H.view host.old)) (hand shared.new own.new (H.view host.new)) machine.new result
         (H.count host.old) (H.count host.new) }
 {
@@ -41,13 +41,13 @@ pub fn execve<H: Host>(
         &random,
     )?;
     match found {
-        Ok(program) => take_up(alloc, host, shared, own, machine, program),
+        Ok(program) => replace_program(alloc, host, shared, own, machine, program),
         Err(errno) => Ok(Effect::refused(alloc, machine, errno)),
     }
 }
 
 // Takes up a program that can be started.
-fn take_up<H: Host>(
+fn replace_program<H: Host>(
     alloc: Global,
     host: &mut H,
     shared: &mut Shared,
@@ -56,7 +56,7 @@ fn take_up<H: Host>(
     program: Program,
 ) -> Result<Effect, HostErr>
     requires { IsSoundHand (hand shared.old own.old (H.view host.old)) }
-    ensures { Serves (by_program (shared_of shared.old (H.view host.old)) own.old machine.old (Ok program))
+    ensures { HasEffect (effect_of_program (shared_of shared.old (H.view host.old)) own.old machine.old (Ok program))
         (hand shared.old own.old (H.view host.old)) (hand shared.new own.new (H.view host.new)) machine.new result
         (H.count host.old) (H.count host.new) }
 {

@@ -2,7 +2,7 @@
 ghost use Rattle.std.specs.Prelude.{◌≡◌, None};
 ghost use Rattle.dt_host.specs.World.{World};
 ghost use Rattle.dt_calls.specs.Call.{exit_call};
-ghost use Rattle.dt_calls.specs.Effect.{reads_counter};
+ghost use Rattle.dt_calls.specs.Effect.{counter_effect};
 ghost use Rattle.dt_calls.specs.InCode.{shared_of, effect_as};
 
 use super::{Effect, Outcome};
@@ -14,7 +14,7 @@ use std::alloc::Global;
 
 /// A counter gives the logical time, and its reading takes some.
 pub fn read_counter(alloc: Global, shared: &mut Shared, machine: &mut Machine, rd: u8) -> Effect
-    ensures served { (w : World) → (own : _) → reads_counter (shared_of shared.old w) own machine.old rd
+    ensures served { (w : World) → (own : _) → counter_effect (shared_of shared.old w) own machine.old rd
         ≡ effect_as (shared_of shared.new w) own machine.new result }
     ensures rest { shared.new ≡ record shared.old { fs = shared.new.fs } }
     ensures child { result.child ≡ None }

@@ -1,22 +1,23 @@
 // Calls on files, on time and on random bytes.
 ghost use Rattle.std.specs.Prelude.{◌≡◌};
-ghost use Rattle.dt_scene.specs.Sound.{Sound, Serves, stage};
+ghost use Rattle.dt_callbase.specs.Sound.{Sound, HasRowReply, stage};
 ghost use Rattle.dt_calls.specs.FileCalls.{arguments, done_after, row_of, file_call};
 ghost use Rattle.dt_calls.specs.InCode.{shared_of};
-ghost use Rattle.dt_calls.specs.Sound.{IsSoundHand, Serves as Served, hand};
+ghost use Rattle.dt_calls.specs.Sound.{IsSoundHand, HasEffect as Served, hand};
 
 use super::Effect;
-use super::memory::answered;
+use super::memory::give_answer;
 use crate::shared::{Process, Shared};
 use dt_base::abi::{A0, A1, A2, A3, A4, A5};
 use dt_base::{Answer, Caller};
+use dt_callbase::Fs;
 use dt_fcalls::file_call;
 use dt_host::{Host, HostErr};
 use dt_iocalls::{io_call, is_io};
 use dt_namecalls::{is_naming, name_call};
 use dt_rv64::Machine;
-use dt_scene::Fs;
 use dt_space::Space;
+use dt_timecalls::{is_time_call, time_call};
 use std::alloc::Global;
 
 /// Serves the call of a number, if it is one on files, on time or on random bytes.
@@ -47,7 +48,7 @@ pub fn call<H: Host>(
     )?;
     shared.raise_after(vpid, &answer);
     own.caller.done = done_after(own.caller.done, &answer);
-    Ok(answered(alloc, machine, number, answer)?)
+    Ok(give_answer(alloc, machine, number, answer)?)
 }
 
 #[tactic(auto, unfolding(crate::specs::FileCalls::row_of))]
@@ -61,7 +62,7 @@ fn serve_row<H: Host>(
     args: [u64; 6],
 ) -> Result<Answer, HostErr>
     requires { Sound (stage fs.old (H.view host.old) caller.old space.old) }
-    ensures { Serves (row_of number) args (stage fs.old (H.view host.old) caller.old space.old)
+    ensures { HasRowReply (row_of number) args (stage fs.old (H.view host.old) caller.old space.old)
         (stage fs.new (H.view host.new) caller.new space.new) result
         (H.count host.old) (H.count host.new) }
 {
@@ -69,6 +70,8 @@ fn serve_row<H: Host>(
         io_call(alloc, fs, host, caller, space, number, args)
     } else if is_naming(number) {
         name_call(alloc, fs, host, caller, space, number, args)
+    } else if is_time_call(number) {
+        time_call(alloc, fs, host, caller, space, number, args)
     } else {
         file_call(alloc, fs, host, caller, space, number, args)
     }

@@ -2,9 +2,9 @@
 ghost use Rattle.std.specs.Prelude.{◌≡◌, None};
 ghost use Rattle.dt_host.specs.World.{World};
 ghost use Rattle.dt_calls.specs.Kill.{is_below_one, is_unsupported_signal};
-ghost use Rattle.dt_calls.specs.Kill.{kill_call, tkill_call, tgkill_call, sends_to};
+ghost use Rattle.dt_calls.specs.Kill.{kill_call, tkill_call, tgkill_call, send_effect_to};
 ghost use Rattle.dt_calls.specs.InCode.{shared_of, effect_as};
-ghost use Rattle.dt_calls.specs.Sound.{StillSignalled};
+ghost use Rattle.dt_calls.specs.Sound.{KeepsSignals};
 
 use super::{Effect, Outcome};
 use crate::shared::Shared;
@@ -21,7 +21,7 @@ pub fn kill(alloc: Global, shared: &mut Shared, machine: &mut Machine) -> Effect
     ensures served { (w : World) → (own : _) → kill_call (shared_of shared.old w) own machine.old
         ≡ effect_as (shared_of shared.new w) own machine.new result }
     ensures rest { shared.new ≡ record shared.old { signals = shared.new.signals } }
-    ensures still { StillSignalled shared.old.signals shared.new.signals }
+    ensures still { KeepsSignals shared.old.signals shared.new.signals }
     ensures child { result.child ≡ None }
 {
     let (pid, signal) = (low_word(machine.reg(A0)), low_word(machine.reg(A1)));
@@ -37,7 +37,7 @@ pub fn tkill(alloc: Global, shared: &mut Shared, machine: &mut Machine) -> Effec
     ensures served { (w : World) → (own : _) → tkill_call (shared_of shared.old w) own machine.old
         ≡ effect_as (shared_of shared.new w) own machine.new result }
     ensures rest { shared.new ≡ record shared.old { signals = shared.new.signals } }
-    ensures still { StillSignalled shared.old.signals shared.new.signals }
+    ensures still { KeepsSignals shared.old.signals shared.new.signals }
     ensures child { result.child ≡ None }
 {
     let (tid, signal) = (low_word(machine.reg(A0)), low_word(machine.reg(A1)));
@@ -56,7 +56,7 @@ pub fn tgkill(alloc: Global, shared: &mut Shared, machine: &mut Machine) -> Effe
     ensures served { (w : World) → (own : _) → tgkill_call (shared_of shared.old w) own machine.old
         ≡ effect_as (shared_of shared.new w) own machine.new result }
     ensures rest { shared.new ≡ record shared.old { signals = shared.new.signals } }
-    ensures still { StillSignalled shared.old.signals shared.new.signals }
+    ensures still { KeepsSignals shared.old.signals shared.new.signals }
     ensures child { result.child ≡ None }
 {
     let (tgid, tid) = (low_word(machine.reg(A0)), low_word(machine.reg(A1)));
@@ -89,10 +89,10 @@ fn is_unsupported_signal(signal: u32) -> bool
 
 // Sends a signal to a process: EINVAL where there is none of this number, ESRCH where no such process is there.
 fn send(alloc: Global, shared: &mut Shared, machine: &mut Machine, pid: u32, signal: u32) -> Effect
-    ensures served { (w : World) → (own : _) → sends_to (shared_of shared.old w) own machine.old pid signal
+    ensures served { (w : World) → (own : _) → send_effect_to (shared_of shared.old w) own machine.old pid signal
         ≡ effect_as (shared_of shared.new w) own machine.new result }
     ensures rest { shared.new ≡ record shared.old { signals = shared.new.signals } }
-    ensures still { StillSignalled shared.old.signals shared.new.signals }
+    ensures still { KeepsSignals shared.old.signals shared.new.signals }
     ensures child { result.child ≡ None }
 {
     if signal > SIGNAL_LIMIT as u32 {

@@ -33,7 +33,7 @@ pub fn munmap(alloc: Global, machine: &mut Machine) -> Result<Effect, NoMemory>
 {
     let (address, len) = (machine.reg(A0), machine.reg(A1));
     let answer = dt_mcalls::munmap(&mut machine.space, address, len);
-    answered(alloc, machine, MUNMAP, answer)
+    give_answer(alloc, machine, MUNMAP, answer)
 }
 
 /// Maps pages of zeros, with MAP_FIXED at the address, and answers where they begin (mmap(2)).
@@ -46,7 +46,7 @@ pub fn mmap(alloc: Global, machine: &mut Machine) -> Result<Effect, NoMemory>
     let (address, len) = (machine.reg(A0), machine.reg(A1));
     let (prot, flags) = (machine.reg(A2), machine.reg(A3));
     let answer = dt_mcalls::mmap(&mut machine.space, address, len, prot, flags)?;
-    answered(alloc, machine, MMAP, answer)
+    give_answer(alloc, machine, MMAP, answer)
 }
 
 /// Gives the pages of a range other rights, if all of them are there (mprotect(2)).
@@ -58,11 +58,11 @@ pub fn mprotect(alloc: Global, machine: &mut Machine) -> Result<Effect, NoMemory
 {
     let (address, len, prot) = (machine.reg(A0), machine.reg(A1), machine.reg(A2));
     let answer = dt_mcalls::mprotect(&mut machine.space, address, len, prot);
-    answered(alloc, machine, MPROTECT, answer)
+    give_answer(alloc, machine, MPROTECT, answer)
 }
 
 /// Gives the answer of a call of this number.
-pub fn answered(
+pub fn give_answer(
     alloc: Global,
     machine: &mut Machine,
     number: u64,
@@ -75,7 +75,7 @@ pub fn answered(
     match answer {
         Answer::Value(value) => Ok(Effect::done(alloc, machine, value)),
         Answer::Refused(errno) => Ok(Effect::refused(alloc, machine, errno)),
-        Answer::Output(stream, bytes) => Effect::puts_out(alloc, machine, stream, bytes),
+        Answer::Output(stream, bytes) => Effect::output(alloc, machine, stream, bytes),
         Answer::Waits => Ok(Effect::quiet(alloc, Outcome::Blocked)),
         Answer::Part(_) => Ok(Effect::quiet(alloc, Outcome::Progress)),
         Answer::Pipe(Ok(moved)) => Ok(Effect::done(alloc, machine, moved)),

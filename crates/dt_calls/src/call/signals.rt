@@ -8,16 +8,16 @@ ghost use Rattle.dt_rv64.specs.Effects.{register};
 ghost use Rattle.dt_calls.specs.SignalCalls.{sigaction_call, sigprocmask_call, sigreturn_call, after_sigreturn};
 ghost use Rattle.dt_calls.specs.Container.{signals_in};
 ghost use Rattle.dt_calls.specs.InCode.{SigreturnAt, CalledAt, shared_of, effect_as};
-ghost use Rattle.dt_calls.specs.Sound.{StillSignalled};
+ghost use Rattle.dt_calls.specs.Sound.{KeepsSignals};
 
-use super::memory::answered;
+use super::memory::give_answer;
 use super::{Effect, Outcome};
 use crate::shared::{Process, Shared};
 use dt_base::abi::{A0, A1, A2, A3, RT_SIGACTION, RT_SIGPROCMASK, SIGSEGV};
 use dt_base::{Answer, End, NoMemory};
-use dt_numbered::Numbered;
 use dt_rv64::Machine;
 use dt_signals::{Sig, sigreturn};
+use dt_tables::Numbered;
 use std::alloc::Global;
 
 /// Tells what the process does about a signal, and may put another action in its place (rt_sigaction(2)).
@@ -33,11 +33,11 @@ pub fn rt_sigaction(
         (λ e. sigaction_call (shared_of shared.old w) own.now machine.old
         ≡ effect_as (shared_of shared.new w) own.now machine.new e) }
     ensures rest { shared.new ≡ record shared.old { signals = shared.new.signals } }
-    ensures still { StillSignalled shared.old.signals shared.new.signals }
+    ensures still { KeepsSignals shared.old.signals shared.new.signals }
     ensures child { IfOk result (λ e. e.child ≡ None) }
 {
     let answer = change_action(&mut shared.signals, own.caller.vpid, machine);
-    answered(alloc, machine, RT_SIGACTION, answer)
+    give_answer(alloc, machine, RT_SIGACTION, answer)
 }
 
 /// Tells the process's signal mask, and may change it by a set (rt_sigprocmask(2)).
@@ -53,11 +53,11 @@ pub fn rt_sigprocmask(
         (λ e. sigprocmask_call (shared_of shared.old w) own.now machine.old
         ≡ effect_as (shared_of shared.new w) own.now machine.new e) }
     ensures rest { shared.new ≡ record shared.old { signals = shared.new.signals } }
-    ensures still { StillSignalled shared.old.signals shared.new.signals }
+    ensures still { KeepsSignals shared.old.signals shared.new.signals }
     ensures child { IfOk result (λ e. e.child ≡ None) }
 {
     let answer = change_mask(&mut shared.signals, own.caller.vpid, machine);
-    answered(alloc, machine, RT_SIGPROCMASK, answer)
+    give_answer(alloc, machine, RT_SIGPROCMASK, answer)
 }
 
 /// rt_sigreturn(2): a frame that can't be read ends the process.
@@ -72,7 +72,7 @@ pub fn rt_sigreturn(
     ensures served { (w : World) → sigreturn_call (shared_of shared.old w) own.now machine.old
         ≡ effect_as (shared_of shared.new w) own.now machine.new result }
     ensures rest { shared.new ≡ record shared.old { signals = shared.new.signals } }
-    ensures still { StillSignalled shared.old.signals shared.new.signals }
+    ensures still { KeepsSignals shared.old.signals shared.new.signals }
     ensures child { result.child ≡ None }
 {
     let outcome = return_from_handler(&mut shared.signals, own.caller.vpid, machine);

@@ -1,24 +1,24 @@
 // The wait for a child that ends.
 ghost use Rattle.std.specs.Prelude.{◌≡◌, ◌&&◌};
-ghost use Rattle.dt_space.specs.Argument.{may_fill};
+ghost use Rattle.dt_space.specs.Argument.{is_writable_or_null};
 ghost use Rattle.dt_calls.specs.declared.numbers.TheConstants.{RUSAGE_SIZE as RUSAGE};
 ghost use Rattle.dt_procs.specs.declared.member.Reaped.{Reaped as Found};
 ghost use Rattle.dt_procs.specs.Members.{look_for};
-ghost use Rattle.dt_calls.specs.Wait.{wait4_call, by_found, which_child, is_group, status_of};
+ghost use Rattle.dt_calls.specs.Wait.{wait4_call, effect_of_reaped, which_child, is_group, status_of};
 ghost use Rattle.dt_calls.specs.InCode.{shared_of};
-ghost use Rattle.dt_calls.specs.Sound.{IsSoundHand, Serves, hand};
+ghost use Rattle.dt_calls.specs.Sound.{IsSoundHand, HasEffect, hand};
 
 use super::{Effect, Outcome};
 use crate::numbers::RUSAGE_SIZE;
 use crate::shared::{Process, Shared};
 use dt_base::abi::{
-    A0, A1, A2, A3, ANY_CHILD, GREATEST_PID, WAIT_OPTIONS, WAIT4, WNOHANG, has, low_word,
+    A0, A1, A2, A3, ANY_CHILD, GREATEST_PID, WAIT_OPTIONS, WAIT4, WNOHANG, has_flag, low_word,
 };
 use dt_base::{End, Errno};
 use dt_host::{Host, HostErr};
 use dt_procs::Reaped;
 use dt_rv64::Machine;
-use dt_space::{Space, fill_unless_null, may_fill};
+use dt_space::{Space, fill_unless_null, is_writable_or_null};
 use std::alloc::Global;
 
 /// wait4(2): reaps a child that has ended; the process waits where one may still.
@@ -31,7 +31,7 @@ pub fn wait4<H: Host>(
     machine: &mut Machine,
 ) -> Result<Effect, HostErr>
     requires { IsSoundHand (hand shared.old own.old (H.view host.old)) }
-    ensures { Serves (wait4_call (shared_of shared.old (H.view host.old)) own.old machine.old)
+    ensures { HasEffect (wait4_call (shared_of shared.old (H.view host.old)) own.old machine.old)
         (hand shared.old own.old (H.view host.old)) (hand shared.new own.new (H.view host.new)) machine.new result
         (H.count host.old) (H.count host.new) }
 {
@@ -46,7 +46,7 @@ pub fn wait4<H: Host>(
     let which = which_child(pid);
     match shared.pids.look_for(own.caller.vpid, which) {
         Reaped::Got(vpid, end) => reap(alloc, host, shared, own, machine, which, vpid, end),
-        Reaped::NoneReady if has(options, WNOHANG) => Ok(Effect::done(alloc, machine, 0)),
+        Reaped::NoneReady if has_flag(options, WNOHANG) => Ok(Effect::done(alloc, machine, 0)),
         Reaped::NoneReady => Ok(Effect::quiet(alloc, Outcome::Blocked)),
         Reaped::NoChild => Ok(Effect::refused(alloc, machine, Errno::Child)),
     }
@@ -81,9 +81,9 @@ fn status_of(end: End) -> u32
 
 // Whether a status and the use of resources can be written there.
 fn takes_both(space: &Space, status: u64, usage: u64) -> bool
-    ensures { result ≡ (may_fill space.now status 4 && may_fill space.now usage RUSAGE) }
+    ensures { result ≡ (is_writable_or_null space.now status 4 && is_writable_or_null space.now usage RUSAGE) }
 {
-    may_fill(space, status, 4) && may_fill(space, usage, RUSAGE_SIZE)
+    is_writable_or_null(space, status, 4) && is_writable_or_null(space, usage, RUSAGE_SIZE)
 }
 
 // Reaps a zombie that was found, if its status and the use of resources can be given.
@@ -100,7 +100,8 @@ fn reap<H: Host>(
     requires sound { IsSoundHand (hand shared.old own.now (H.view host.old)) }
     requires found { look_for (shared_of shared.old (H.view host.old)).members own.now.caller.vpid which
         ≡ Found.Got vpid end }
-    ensures { Serves (by_found (shared_of shared.old (H.view host.old)) own.now machine.old (Found.Got vpid end))
+    ensures { HasEffect (effect_of_reaped (shared_of shared.old (H.view host.old)) own.now machine.old
+        (Found.Got vpid end))
         (hand shared.old own.now (H.view host.old)) (hand shared.new own.now (H.view host.new)) machine.new result
         (H.count host.old) (H.count host.new) }
 {

@@ -5,8 +5,8 @@ use Rattle.dt_base.specs.declared.limits.TheConstants.{ADDRESS_LIMIT}
 use Rattle.dt_elf.specs.declared.layout.TheConstants.{FILE_HEADER_SIZE, HEADER_SIZE, HEADER_LIMIT}
 use Rattle.dt_elf.specs.declared.elf.ElfErr.{ElfErr}
 use Rattle.dt_elf.specs.declared.elf.ElfErr.TheVariants.{Segment as BadSegment, Overlap, Interp}
-use Rattle.dt_elf.specs.Header.{table_end, e_phentsize, e_phnum, e_entry, loads, is_interp, program_headers}
-use Rattle.dt_elf.specs.Executable.{all_placed, overlap}
+use Rattle.dt_elf.specs.Header.{table_end, e_phentsize, e_phnum, e_entry, load_segments, is_interp, program_headers}
+use Rattle.dt_elf.specs.Executable.{are_placed, has_overlap}
 
 -- the file's header and its program headers don't fit into the file
 abbrev pub is_short : List ℕ → Bool
@@ -21,7 +21,7 @@ is_bad_header bytes =
 -- the first reason that lies in the program headers
 abbrev pub segments_refusal : List ℕ → Option ElfErr
 segments_refusal bytes =
-    if not (all_placed bytes (loads bytes)) then Some BadSegment
-    else if overlap (loads bytes) then Some Overlap
+    if not (are_placed bytes (load_segments bytes)) then Some BadSegment
+    else if has_overlap (load_segments bytes) then Some Overlap
     else if list_any is_interp (program_headers bytes) then Some Interp
     else None

@@ -5,7 +5,7 @@ use Rattle.std.specs.Result.{IsOkAnd}
 use Rattle.dt_base.specs.Path.{has_no_nul}
 use Rattle.dt_base.specs.declared.errno.Errno.{Errno}
 use Rattle.dt_base.specs.declared.limits.TheConstants.{ARGUMENT_LIMIT}
-use Rattle.dt_elf.specs.Stack.{size}
+use Rattle.dt_elf.specs.Stack.{words_size}
 
 -- these are the words of a list, and none has a NUL
 pub record AreListed (list : Result (List (List ℕ)) Errno) (words : List (List ℕ)) : Type 0 where
@@ -14,4 +14,4 @@ pub record AreListed (list : Result (List (List ℕ)) Errno) (words : List (List
 
 -- the list counts more than the limit
 abbrev pub IsTooBig : Result (List (List ℕ)) Errno → Type 0
-IsTooBig list = IsOkAnd list (λ words. ARGUMENT_LIMIT < size words)
+IsTooBig list = IsOkAnd list (λ words. ARGUMENT_LIMIT < words_size words)

@@ -1,22 +1,22 @@
 // The status of a node.
 ghost use Rattle.std.specs.Prelude.{◌≡◌, IfOk, Some, true, false};
-ghost use Rattle.dt_base.specs.Abi.{has, low_word};
+ghost use Rattle.dt_base.specs.Abi.{has_flag, low_word};
 ghost use Rattle.dt_host.specs.World.{IsLive};
 ghost use Rattle.dt_tree.specs.Meta.{meta_of};
 ghost use Rattle.dt_tree.specs.Table.{shape_of, tree_of};
 ghost use Rattle.dt_walk.specs.Placed.{IsPlaceIn};
-ghost use Rattle.dt_scene.specs.Arguments.{argument, has_only};
-ghost use Rattle.dt_scene.specs.Places.{place_at};
-ghost use Rattle.dt_scene.specs.Sound.{Sound, Serves, Ends, stage, scene};
-ghost use Rattle.dt_fcalls.specs.Status.{tells_status, tells_descriptor, is_of_dirfd, status_rule, fstat_row};
+ghost use Rattle.dt_callbase.specs.Arguments.{argument, has_only};
+ghost use Rattle.dt_callbase.specs.Places.{place_at};
+ghost use Rattle.dt_callbase.specs.Sound.{Sound, HasRowReply, HasReplyOf, stage, scene};
+ghost use Rattle.dt_fcalls.specs.Status.{status_reply, descriptor_status_reply, is_of_dirfd, status_rule, fstat_row};
 ghost use Rattle.dt_fcalls.specs.Status.{newfstatat_row};
 
 use crate::stat::{STAT_FLAGS, pipe_stat, stat_of, stream_stat};
-use dt_base::abi::{AT_EMPTY_PATH, AT_FDCWD, AT_SYMLINK_NOFOLLOW, has, low_word, signed_word};
+use dt_base::abi::{AT_EMPTY_PATH, AT_FDCWD, AT_SYMLINK_NOFOLLOW, has_flag, low_word, signed_word};
 use dt_base::{Answer, Caller, Errno, NoMemory};
+use dt_callbase::{Fs, LastLink, fill, place_at};
 use dt_fds::DescKind;
 use dt_host::{Host, HostErr};
-use dt_scene::{Fs, LastLink, fill, place_at};
 use dt_space::{Space, text_argument};
 use dt_tree::Meta;
 use dt_walk::Place;
@@ -26,7 +26,7 @@ use std::alloc::Global;
 fn status_rule(flags: u32) -> LastLink
     ensures { result ≡ status_rule flags }
 {
-    if has(flags, AT_SYMLINK_NOFOLLOW) {
+    if has_flag(flags, AT_SYMLINK_NOFOLLOW) {
         LastLink::KeepWithoutSlash
     } else {
         LastLink::Follow
@@ -37,7 +37,7 @@ fn status_rule(flags: u32) -> LastLink
 fn is_of_dirfd(space: &Space, address: u64, flags: u32) -> Result<bool, NoMemory>
     ensures { IfOk result (λ is. is ≡ is_of_dirfd space.now address flags) }
 {
-    if !has(flags, AT_EMPTY_PATH) {
+    if !has_flag(flags, AT_EMPTY_PATH) {
         return Ok(false);
     }
     match text_argument(space, address)? {
@@ -59,7 +59,7 @@ pub fn newfstatat<H: Host>(
     args: [u64; 6],
 ) -> Result<Answer, HostErr>
     requires { Sound (stage fs.now (H.view host.old) caller.now space.old) }
-    ensures { Serves newfstatat_row args (stage fs.now (H.view host.old) caller.now space.old)
+    ensures { HasRowReply newfstatat_row args (stage fs.now (H.view host.old) caller.now space.old)
         (stage fs.now (H.view host.new) caller.now space.new) result
         (H.count host.old) (H.count host.new) }
 {
@@ -88,7 +88,7 @@ fn tell_dirfd<H: Host>(
     requires sound { Sound (stage fs.now (H.view host.old) caller.now space.old) }
     requires flags { has_only (low_word (argument args 3)) STAT_FLAGS ≡ true }
     requires empty { is_of_dirfd space.old (argument args 1) (low_word (argument args 3)) ≡ true }
-    ensures { Serves newfstatat_row args (stage fs.now (H.view host.old) caller.now space.old)
+    ensures { HasRowReply newfstatat_row args (stage fs.now (H.view host.old) caller.now space.old)
         (stage fs.now (H.view host.new) caller.now space.new) result
         (H.count host.old) (H.count host.new) }
 {
@@ -110,7 +110,7 @@ pub fn fstat<H: Host>(
     args: [u64; 6],
 ) -> Result<Answer, HostErr>
     requires { Sound (stage fs.now (H.view host.old) caller.now space.old) }
-    ensures { Serves fstat_row args (stage fs.now (H.view host.old) caller.now space.old)
+    ensures { HasRowReply fstat_row args (stage fs.now (H.view host.old) caller.now space.old)
         (stage fs.now (H.view host.new) caller.now space.new) result
         (H.count host.old) (H.count host.new) }
 {
@@ -118,7 +118,7 @@ pub fn fstat<H: Host>(
 }
 
 // Tells the status of what a descriptor refers to.
-#[tactic(auto, unfolding(crate::specs::Status::tells_descriptor), using(crate::proofs::Kept::in_other_words, crate::proofs::Described::is_there))]
+#[tactic(auto, unfolding(crate::specs::Status::descriptor_status_reply), using(crate::proofs::Kept::in_other_words, crate::proofs::Described::is_there))]
 fn tell_descriptor<H: Host>(
     fs: &Fs,
     host: &mut H,
@@ -128,7 +128,7 @@ fn tell_descriptor<H: Host>(
     buffer: u64,
 ) -> Result<Answer, HostErr>
     requires { Sound (stage fs.now (H.view host.old) caller.now space.old) }
-    ensures { Ends (tells_descriptor fd buffer)
+    ensures { HasReplyOf (descriptor_status_reply fd buffer)
         (stage fs.now (H.view host.old) caller.now space.old)
         (stage fs.now (H.view host.new) caller.now space.new) result
         (H.count host.old) (H.count host.new) }
@@ -164,7 +164,7 @@ fn tell_found<H: Host>(
     requires found { found ≡ place_at (scene (stage fs.now (H.view host.old) caller.now space.old))
         (argument args 0) (argument args 1) (status_rule (low_word (argument args 3))) }
     requires place { IfOk found (IsPlaceIn (shape_of fs.now.tree (H.view host.old).forest)) }
-    ensures { Serves newfstatat_row args (stage fs.now (H.view host.old) caller.now space.old)
+    ensures { HasRowReply newfstatat_row args (stage fs.now (H.view host.old) caller.now space.old)
         (stage fs.now (H.view host.new) caller.now space.new) result
         (H.count host.old) (H.count host.new) }
 {
@@ -190,7 +190,7 @@ fn tell_status<H: Host>(
 ) -> Result<Answer, HostErr>
     requires sound { Sound (stage fs.now (H.view host.old) caller.now space.old) }
     requires live { IsLive (shape_of fs.now.tree (H.view host.old).forest) n }
-    ensures { Ends (tells_status buffer n)
+    ensures { HasReplyOf (status_reply buffer n)
         (stage fs.now (H.view host.old) caller.now space.old)
         (stage fs.now (H.view host.new) caller.now space.new) result
         (H.count host.old) (H.count host.new) }
@@ -212,7 +212,7 @@ fn fill_status<H: Host>(
 ) -> Result<Answer, HostErr>
     requires sound { Sound (stage fs.now (H.view host.now) caller.now space.old) }
     requires meta { meta_of (tree_of fs.now.tree (H.view host.now).forest) n ≡ Some meta.now }
-    ensures { Ends (tells_status buffer n)
+    ensures { HasReplyOf (status_reply buffer n)
         (stage fs.now (H.view host.now) caller.now space.old)
         (stage fs.now (H.view host.now) caller.now space.new) result
         (H.count host.now) (H.count host.now) }

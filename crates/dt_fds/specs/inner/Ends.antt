@@ -9,13 +9,13 @@ use Rattle.std.specs.FinMap.{FinMap, get, remove}
 use Rattle.dt_host.specs.World as host
 use Rattle.dt_fds.specs.declared.desc.DescKind.{DescKind}
 use Rattle.dt_fds.specs.declared.ends.Ends.{Ends}
-use Rattle.dt_fds.specs.Descriptions.{pipe_of, named_by}
+use Rattle.dt_fds.specs.Descriptions.{pipe_of, one_if_named}
 use Rattle.dt_fds.specs.Ends.{is_read, is_written}
 
 -- whether a description that went, if one did, was of that end of a pipe: 1 or 0
-abbrev pub named_end : ℕ → (DescKind → Option ℕ) → Option DescKind → ℕ
-named_end q pipe None = 0
-named_end q pipe (Some kind) = named_by q (pipe kind)
+abbrev pub one_if_end : ℕ → (DescKind → Option ℕ) → Option DescKind → ℕ
+one_if_end q pipe None = 0
+one_if_end q pipe (Some kind) = one_if_named q (pipe kind)
 
 -- a pipe, if there is one, none of whose ends is open
 abbrev pub without_ends : FinMap nat_cmp Ends → Option ℕ → Option ℕ
@@ -28,14 +28,14 @@ last_end ends None = None
 last_end ends (Some kind) = without_ends ends (pipe_of kind)
 
 -- the pipes without that one, if there is one to go
-abbrev pub without_last : host.Pipes → Option ℕ → host.Pipes
+abbrev pub without_last : host.PipeContents → Option ℕ → host.PipeContents
 without_last pipes None = pipes
 without_last pipes (Some q) = remove pipes q
 
 -- the pipe that a description is an end of, by this way to name one, and whether its calls don't wait
-abbrev pub end_by : (DescKind → Option ℕ) → Option Desc → Option (ℕ × Bool)
-end_by pipe None = None
-end_by pipe (Some desc) = option_map (λ q. (q, desc.nonblock)) (pipe desc.kind)
+abbrev pub pipe_end_by : (DescKind → Option ℕ) → Option Desc → Option (ℕ × Bool)
+pipe_end_by pipe None = None
+pipe_end_by pipe (Some desc) = option_map (λ q. (q, desc.nonblock)) (pipe desc.kind)
 
 -- the answer of a call
 abbrev pub as_call : {A : Type 0} → Result A Errno → Result A CallErr

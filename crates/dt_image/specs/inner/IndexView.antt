@@ -10,7 +10,7 @@ use Rattle.dt_image.specs.declared.index.EntryRef.{EntryRef}
 use Rattle.dt_image.specs.declared.index.SourceRef.{SourceRef}
 use Rattle.dt_image.specs.declared.index.SourceRef.TheVariants.{File, Dir, Link}
 use Rattle.dt_image.specs.declared.blobs.Measured.{Measured}
-use Rattle.dt_host.specs.Store.{Files, size_of}
+use Rattle.dt_host.specs.Store.{StoreFiles, size_of}
 use Rattle.dt_base.specs.declared.image.Entry.{Entry}
 use Rattle.dt_base.specs.declared.limits.TheConstants.{MODE_LIMIT}
 use Rattle.dt_base.specs.Image.{is_dir}
@@ -18,7 +18,7 @@ use Rattle.dt_base.specs.Path.{is_path}
 use Rattle.dt_image.specs.Index.{Source, file, dir, link, IndexEntry, is_good_source}
 use Rattle.dt_base.specs.declared.refusal.Refusal.{Refusal}
 use Rattle.dt_base.specs.declared.refusal.Refusal.TheVariants.{NoParent}
-use Rattle.dt_image.specs.ImageOf.{name_below, makes_dir, lists_parent, with_blobs}
+use Rattle.dt_image.specs.ImageOf.{name_below, is_dir_source, has_listed_parent, with_blobs}
 
 -- what the references of a source point to
 abbrev pub source_in : SourceRef → Source
@@ -35,17 +35,17 @@ abbrev pub entry_at : Bor (List ℕ) × SourceRef → EntryRef
 entry_at e = record { path = e.0; source = e.1 }
 
 -- the same, with what the references point to
-abbrev pub keyed : Bor (List ℕ) × SourceRef → IndexEntry
-keyed e = entry_in (entry_at e)
+abbrev pub keyed_entry : Bor (List ℕ) × SourceRef → IndexEntry
+keyed_entry e = entry_in (entry_at e)
 
 -- the size of the folder's blob that a file is made from; other entries have none, which counts as 0
-abbrev pub blob_size : Files → List ℕ → Source → Option ℕ
+abbrev pub blob_size : StoreFiles → List ℕ → Source → Option ℕ
 blob_size held folder (file mode blob) = size_of held (name_below folder blob)
 blob_size held folder (dir mode) = Some 0
 blob_size held folder (link target) = Some 0
 
 -- that size was measured
-abbrev pub HasSize : Files → List ℕ → Measured → Type 0
+abbrev pub HasSize : StoreFiles → List ℕ → Measured → Type 0
 HasSize held folder blob = blob_size held folder (source_in blob.entry.source) ≡ Some blob.size
 
 -- how entries compare: by the bytes of their paths
@@ -75,13 +75,13 @@ abbrev pub is_sound : IndexEntry → Bool
 is_sound entry = is_path entry.path && is_good_made entry.source
 
 -- where an image's entry stands, and whether it is a directory
-abbrev pub spot : Entry → List ℕ × Bool
-spot entry = (entry.path, is_dir entry.what)
+abbrev pub path_kind : Entry → List ℕ × Bool
+path_kind entry = (entry.path, is_dir entry.what)
 
 -- the same of an entry of an index
-abbrev pub spot_of : IndexEntry → List ℕ × Bool
-spot_of entry = (entry.path, makes_dir entry.source)
+abbrev pub path_kind_of : IndexEntry → List ℕ × Bool
+path_kind_of entry = (entry.path, is_dir_source entry.source)
 
 -- the image of entries in order; or that one of them stands in no directory of these, or why the blobs give none
-abbrev pub in_dirs : Files → List ℕ → List IndexEntry → Result (List Entry) Refusal
-in_dirs held folder order = if not (list_all (lists_parent order) order) then Err NoParent else with_blobs held folder order
+abbrev pub image_in_order : StoreFiles → List ℕ → List IndexEntry → Result (List Entry) Refusal
+image_in_order held folder order = if not (list_all (has_listed_parent order) order) then Err NoParent else with_blobs held folder order

@@ -8,7 +8,7 @@ use Rattle.dt_host.specs.declared.error.HostErr.{HostErr}
 use Rattle.dt_iocalls.specs.Piping.{flow_answer}
 
 -- the answer, unless the host failed or memory was wanting
-abbrev pub answered : Result Flow CallErr → Result Answer HostErr
-answered (Ok flow) = Ok (flow_answer (Ok flow))
-answered (Err (is_refused errno)) = Ok (flow_answer (Err errno))
-answered (Err (has_failed error)) = Err error
+abbrev pub pipe_answer : Result Flow CallErr → Result Answer HostErr
+pipe_answer (Ok flow) = Ok (flow_answer (Ok flow))
+pipe_answer (Err (is_refused errno)) = Ok (flow_answer (Err errno))
+pipe_answer (Err (has_failed error)) = Err error

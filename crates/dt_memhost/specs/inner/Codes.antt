@@ -3,14 +3,14 @@ use Rattle.std.specs.Prelude.{ℕ, List, refl}
 use Rattle.std.specs.Coded.{Coded, code_by, coded×, coded_ℕ, coded_list}
 use Rattle.std.specs.FinMap.{code}
 use Rattle.dt_host.specs.inner.Codes.{files_code, forest_code, pipes_code, world_code}
-use Rattle.dt_host.specs.Store.{Files}
-use Rattle.dt_host.specs.World.{World, Forest, Pipes}
+use Rattle.dt_host.specs.Store.{StoreFiles}
+use Rattle.dt_host.specs.World.{World, Forest, PipeContents}
 use Rattle.rand_chacha.specs.ChaCha.{ChaCha}
 use Rattle.dt_memhost.specs.Picks.{Picks}
 use Rattle.dt_memhost.specs.Script.{Script}
 use Rattle.dt_memhost.specs.Store.{StoreState}
 use Rattle.dt_memhost.specs.Order.{Order, Orders}
-use Rattle.dt_memhost.specs.inner.Forest.{Ordered}
+use Rattle.dt_memhost.specs.inner.Forest.{OrderedForest}
 use Rattle.dt_memhost.specs.Host.{HostState}
 
 -- a stream, as its key, its number and its position
@@ -31,7 +31,7 @@ script_code =
 -- a store, as its files and its script
 abbrev pub store_code : Coded StoreState
 store_code =
-    code_by (Files × Script) (coded× files_code script_code) (λ s. (s.files, s.script)) (λ p. record { files = p.0; script = p.1 }) (λ _. refl)
+    code_by (StoreFiles × Script) (coded× files_code script_code) (λ s. (s.files, s.script)) (λ p. record { files = p.0; script = p.1 }) (λ _. refl)
 
 -- the entries of a directory in the order of their binding
 abbrev pub order_code : Coded Order
@@ -42,9 +42,9 @@ abbrev pub orders_code : Coded Orders
 orders_code = code coded_ℕ order_code
 
 -- a forest with its orders and the pipes, as the three
-abbrev pub ordered_code : Coded Ordered
+abbrev pub ordered_code : Coded OrderedForest
 ordered_code =
-    code_by (Forest × (Orders × Pipes)) (coded× forest_code (coded× orders_code pipes_code)) (λ o. (o.forest, (o.orders, o.pipes))) (λ p. record { forest = p.0; orders = p.1.0; pipes = p.1.1 }) (λ _. refl)
+    code_by (Forest × (Orders × PipeContents)) (coded× forest_code (coded× orders_code pipes_code)) (λ o. (o.forest, (o.orders, o.pipes))) (λ p. record { forest = p.0; orders = p.1.0; pipes = p.1.1 }) (λ _. refl)
 
 -- a host, as what it keeps and its script
 abbrev pub host_code : Coded HostState

@@ -6,7 +6,7 @@ use Rattle.std.specs.BTreeMap.{BTreeMap}
 use Rattle.std.specs.FinMap.{FinMap, empty}
 use Rattle.dt_host.specs.declared.kind.NodeKind.{NodeKind}
 use Rattle.dt_host.specs.declared.kind.NodeKind.TheVariants as kind
-use Rattle.dt_host.specs.World.{Node, file, dir, link, Pipes}
+use Rattle.dt_host.specs.World.{Node, file, dir, link, PipeContents}
 use Rattle.dt_memhost.specs.declared.node.MemNode.{MemNode}
 use Rattle.dt_memhost.specs.declared.node.MemNode.TheVariants.{File, Dir, Link, Pipe}
 use Rattle.dt_memhost.specs.Order.{Order, Orders}
@@ -43,7 +43,7 @@ abbrev pub orders_of : List (ℕ × MemNode) → Orders
 orders_of entries = kept_of entries_of entries
 
 -- what the pipes of a list of entries hold
-abbrev pub pipes_of : List (ℕ × MemNode) → Pipes
+abbrev pub pipes_of : List (ℕ × MemNode) → PipeContents
 pipes_of entries = kept_of held_of entries
 
 -- the node under a number

@@ -7,7 +7,7 @@ ghost use Rattle.std.specs.FinSet.{contains};
 ghost use Rattle.dt_host.specs.Cause.{HasCause};
 ghost use Rattle.dt_host.specs.World.{IsLive, IsFile, IsDir, IsLink, IsPipe, file_at, target_at, names_at};
 ghost use Rattle.dt_host.specs.World.{entry, content, pipe_bytes};
-ghost use Rattle.dt_host.specs.Legal.{Makes, Binds, Unbinds, MayGo, Forgets, named, Reads, Writes, Cuts};
+ghost use Rattle.dt_host.specs.Legal.{Makes, Binds, Unbinds, MayGo, Forgets, pair_of, Reads, Writes, Cuts};
 ghost use Rattle.dt_host.specs.Legal.{Takes, Puts, MakesPid, DropsPid};
 ghost use Rattle.dt_memhost.specs.Host.{RootsBy, FindsBy, MakesBy, BindsBy, UnbindsBy, ForgetsBy, NamesBy, RawBy};
 ghost use Rattle.dt_memhost.specs.Host.{TargetBy, ReadsBy, WritesBy, CutsBy, MakesPidBy, DropsPidBy, StopsBy, WordBy};
@@ -110,7 +110,7 @@ impl Host for MemHost {
         ensures exact { NamesBy self.old dir result self.new }
         ensures ok { IfOk result
             (λ found. IsPermutation
-            (entries (names_at self.old.view.forest dir)) (map named found.items)) }
+            (entries (names_at self.old.view.forest dir)) (map pair_of found.items)) }
         ensures stays { self.new.view ≡ self.old.view }
         ensures cause { HasCause self.old.script.faults self.new.script.faults
             (IsErrOf result HostErr.Failed) }

@@ -7,6 +7,7 @@ ghost use Rattle.dt_options.specs.Options.{image_rule, number_rule, budget_rule,
 ghost use Rattle.dt_options.specs.Options.{number_in, default_seed, default_budget};
 
 use clap::{Arg, ArgMatches, Command, Error};
+use dt_base::BUDGET_LIMIT;
 use std::alloc::{AllocError, Global};
 
 // The seed and the budget of a run whose words give none.
@@ -65,7 +66,7 @@ fn budget_arg<'a>(alloc: Global) -> Arg<'a>
 {
     Arg::new(alloc, "budget")
         .long("budget")
-        .value_parser(clap::value_parser!(u64).range(1..=1_000_000_000))
+        .value_parser(clap::value_parser!(u64).range(1..=BUDGET_LIMIT as i64))
 }
 
 /// IMAGE, as `run` was given it.

@@ -7,11 +7,11 @@ use Rattle.dt_run.specs.declared.error.RunErr.{RunErr}
 use Rattle.dt_run.specs.declared.error.RunErr.TheVariants.{Host, Sink, NoMemory}
 
 -- of an error of the host
-abbrev pub of_host : HostErr → RunErr
-of_host HostFailed = Host
-of_host NoHostMemory = NoMemory
+abbrev pub run_err_of_host : HostErr → RunErr
+run_err_of_host HostFailed = Host
+run_err_of_host NoHostMemory = NoMemory
 
 -- of an error of the sink
-abbrev pub of_sink : SinkErr → RunErr
-of_sink SinkFailed = Sink
-of_sink NoSinkMemory = NoMemory
+abbrev pub run_err_of_sink : SinkErr → RunErr
+run_err_of_sink SinkFailed = Sink
+run_err_of_sink NoSinkMemory = NoMemory

@@ -9,18 +9,18 @@ use Rattle.dt_run.specs.declared.failure.Failure.{Failure}
 use Rattle.dt_run.specs.declared.failure.Failure.TheVariants.{Usage, Image, Store, Host, Output, NoMemory}
 
 -- of an error in the words
-abbrev pub of_usage : UsageErr → Failure
-of_usage WordsRefused = Usage
-of_usage NoWordsMemory = NoMemory
+abbrev pub failure_of_usage : UsageErr → Failure
+failure_of_usage WordsRefused = Usage
+failure_of_usage NoWordsMemory = NoMemory
 
 -- of an error in reading the image
-abbrev pub of_image : ImageErr → Failure
-of_image (ImageRefused refusal) = Image refusal
-of_image StoreFailed = Store
-of_image NoImageMemory = NoMemory
+abbrev pub failure_of_image : ImageErr → Failure
+failure_of_image (ImageRefused refusal) = Image refusal
+failure_of_image StoreFailed = Store
+failure_of_image NoImageMemory = NoMemory
 
 -- of an error in the run
-abbrev pub of_run : RunErr → Failure
-of_run HostFailed = Host
-of_run SinkFailed = Output
-of_run NoRunMemory = NoMemory
+abbrev pub failure_of_run : RunErr → Failure
+failure_of_run HostFailed = Host
+failure_of_run SinkFailed = Output
+failure_of_run NoRunMemory = NoMemory

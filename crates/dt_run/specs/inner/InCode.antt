@@ -11,7 +11,7 @@ use Rattle.dt_sched.specs.declared.process.Process.{Process}
 use Rattle.dt_sched.specs.declared.process.Phase as queue
 use Rattle.dt_sched.specs.declared.process.Phase.TheVariants as as_queued
 use Rattle.dt_calls.specs.Container.{Machines}
-use Rattle.dt_calls.specs.InCode.{shared_of, home_of}
+use Rattle.dt_calls.specs.InCode.{shared_of, machines_at_home}
 use Rattle.dt_calls.specs.declared.container.Served.{Served}
 use Rattle.dt_calls.specs.declared.container.Served.TheVariants.{Done, Child, LastChild, Blocked, Progress, Ended, Unsupported}
 use Rattle.dt_run.specs.declared.phase.Phase.{Phase}
@@ -21,7 +21,7 @@ use Rattle.dt_run.specs.declared.state.State.{State as StateInCode}
 use Rattle.dt_run.specs.Work.{Work, Works}
 use Rattle.dt_run.specs.Queue.{Queue}
 use Rattle.dt_run.specs.Turn.{State, Turn}
-use Rattle.dt_run.specs.Run.{Run, run_turns}
+use Rattle.dt_run.specs.Run.{Run, run_of_turns}
 
 -- where the processes stand; of one that has run no segment yet nothing may be noted
 abbrev pub Phases : Type 0
@@ -47,7 +47,7 @@ queue_of core = record { order = map (λ (p : Process). p.vpid) core.queue; bloc
 abbrev pub state_of : StateInCode → World → State
 state_of s w = record {
   shared = shared_of s.container.shared w;
-  works = works_in (home_of s.container.places) s.phases;
+  works = works_in (machines_at_home s.container.places) s.phases;
   queue = queue_of s.core;
   next = s.container.shared.pids.next;
 }
@@ -60,21 +60,21 @@ run_as run w = record { events = run.events.items; verdict = run.verdict; last =
 
 -- what is left of a run: its turns, or nothing after a turn's verdict
 abbrev pub rest_of : State → Option Verdict → Run
-rest_of s None = run_turns s
+rest_of s None = run_of_turns s
 rest_of s (Some verdict) = record { events = []; verdict = verdict; last = s.shared }
 
 -- a process that stands so, as the queue knows it
-abbrev pub known : Phase → queue.Phase
-known Owes = as_queued.Owes
-known (Ran seg) = as_queued.Arrived seg.count
-known Waits = as_queued.Waits
+abbrev pub queue_phase : Phase → queue.Phase
+queue_phase Owes = as_queued.Owes
+queue_phase (Ran seg) = as_queued.Arrived seg.count
+queue_phase Waits = as_queued.Waits
 
 -- what is noted once the stop of a process was served
-abbrev pub noted : Phases → ℕ → Served → Phases
-noted phases p Done = insert phases p Owes
-noted phases p (Child vpid) = insert phases p Owes
-noted phases p (LastChild vpid) = remove phases p
-noted phases p Blocked = insert phases p Waits
-noted phases p Progress = insert phases p Waits
-noted phases p Ended = remove phases p
-noted phases p (Unsupported number) = phases
+abbrev pub phases_after : Phases → ℕ → Served → Phases
+phases_after phases p Done = insert phases p Owes
+phases_after phases p (Child vpid) = insert phases p Owes
+phases_after phases p (LastChild vpid) = remove phases p
+phases_after phases p Blocked = insert phases p Waits
+phases_after phases p Progress = insert phases p Waits
+phases_after phases p Ended = remove phases p
+phases_after phases p (Unsupported number) = phases

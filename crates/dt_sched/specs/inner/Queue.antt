@@ -3,42 +3,42 @@ use Rattle.std.specs.Prelude.{ℕ, ◌≡◌, ◌+◌, ◌-◌, ◌≤◌, Bool,
 use Rattle.dt_sched.specs.declared.queue.TheConstants.{QUEUE_LIMIT}
 use Rattle.dt_sched.specs.declared.process.Process.{Process}
 use Rattle.dt_sched.specs.declared.settled.Settled.{Settled}
-use Rattle.dt_sched.specs.Core.{each_once, owing, is_owing, queue_after}
+use Rattle.dt_sched.specs.Core.{is_distinct, owing_vpids, is_owing, queue_after_turn_of}
 
 -- the indices of those that owe a segment, where the first of all has this index
-abbrev pub owing_from : ℕ → List Process → List ℕ
-owing_from index [] = []
-owing_from index (p ∷ ps) =
-    if is_owing p.phase then index ∷ owing_from (index + 1) ps else owing_from (index + 1) ps
+abbrev pub owing_indices : ℕ → List Process → List ℕ
+owing_indices index [] = []
+owing_indices index (p ∷ ps) =
+    if is_owing p.phase then index ∷ owing_indices (index + 1) ps else owing_indices (index + 1) ps
 
 -- processes, and those of them that owe a segment, with the index of each
 pub record IsQueue (processes : List Process) (owed indices : List ℕ) : Type 0 where
-  pub each_once : IsTrue (each_once processes)
+  pub each_once : IsTrue (is_distinct processes)
   pub few : length processes ≤ QUEUE_LIMIT
-  pub exact : owed ≡ owing processes
-  pub placed : indices ≡ owing_from 0 processes
+  pub exact : owed ≡ owing_vpids processes
+  pub placed : indices ≡ owing_indices 0 processes
 
 -- room for a whole queue
-pub record HasRoom (processes_room owed_room indices_room : ℕ) : Type 0 where
+pub record HasCapacity (processes_room owed_room indices_room : ℕ) : Type 0 where
   pub processes : QUEUE_LIMIT ≤ processes_room
   pub owed : QUEUE_LIMIT ≤ owed_room
   pub indices : QUEUE_LIMIT ≤ indices_room
 
 -- the process at the head
-abbrev pub head_of : List Process → Option Process
-head_of [] = None
-head_of (p ∷ ps) = Some p
+abbrev pub first_process : List Process → Option Process
+first_process [] = None
+first_process (p ∷ ps) = Some p
 
 -- there is a head, and what its turn costs is known
-abbrev pub head_is_ready : List Process → Bool
-head_is_ready [] = false
-head_is_ready (p ∷ ps) = not (is_owing p.phase)
+abbrev pub has_ready_head : List Process → Bool
+has_ready_head [] = false
+has_ready_head (p ∷ ps) = not (is_owing p.phase)
 
 -- the queue after a turn of its head
-abbrev pub queue_at : List Process → Settled → List Process
-queue_at [] turn = []
-queue_at (p ∷ rest) turn = queue_after p rest turn
+abbrev pub queue_after_turn : List Process → Settled → List Process
+queue_after_turn [] turn = []
+queue_after_turn (p ∷ rest) turn = queue_after_turn_of p rest turn
 
 -- the indices once the head is gone
-abbrev pub moved_up : List ℕ → List ℕ
-moved_up indices = map (λ index. index - 1) indices
+abbrev pub indices_without_head : List ℕ → List ℕ
+indices_without_head indices = map (λ index. index - 1) indices

@@ -13,17 +13,17 @@ kind_number File = 0
 kind_number Dir = 1
 kind_number Link = 2
 
-abbrev pub numbered_kind : ℕ → Kind
-numbered_kind n = cond (n == 0) File (cond (n == 1) Dir Link)
+abbrev pub kind_of_number : ℕ → Kind
+kind_of_number n = cond (n == 0) File (cond (n == 1) Dir Link)
 
 -- the kind of a kind's number
-pub numbered_kind-number : (kind : Kind) → numbered_kind (kind_number kind) ≡ kind
-numbered_kind-number File = refl
-numbered_kind-number Dir = refl
-numbered_kind-number Link = refl
+pub kind_of_number-kind_number : (kind : Kind) → kind_of_number (kind_number kind) ≡ kind
+kind_of_number-kind_number File = refl
+kind_of_number-kind_number Dir = refl
+kind_of_number-kind_number Link = refl
 
 abbrev pub kind_code : Coded Kind
-kind_code = code_by ℕ coded_ℕ kind_number numbered_kind numbered_kind-number
+kind_code = code_by ℕ coded_ℕ kind_number kind_of_number kind_of_number-kind_number
 
 -- what is kept of a node
 abbrev pub inode_code : Coded Inode

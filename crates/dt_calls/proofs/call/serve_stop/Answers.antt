@@ -1,11 +1,11 @@
 use Rattle.std.proofs.Common.{ap, ◌∙◌}
-use Rattle.dt_calls.specs.Call.{serve_stop}
+use Rattle.dt_calls.specs.Call.{effect_of_stop}
 use Rattle.dt_calls.specs.InCode.{shared_of}
 use Rattle.dt_calls.proofs.Held.{serves-time}
 use Rattle.dt_calls.proofs.call.serve_stop.Goals as goal
 
 pub returns-in-Counter : goal.returns-in-Counter
-unfolding serve_stop
+unfolding effect_of_stop
 returns-in-Counter g c =
     let shared = c.args.shared.now in
     let own = c.args.own.now in
@@ -13,5 +13,5 @@ returns-in-Counter g c =
     let world = g.H.Host.view c.args.host.now in
     let before = shared_of shared world in
     let read = c.read_counter.ensures in
-    serves-time (serve_stop before shared.pids.next own m c.args.stop) shared own world c.read_counter.new.machine c.read_counter.result (g.H.Host.count c.args.host.now) c.requires read.child
-    c.read_counter.new.shared read.rest read.files (ap (serve_stop before shared.pids.next own m) c.in-Counter.is ∙ read.served world own)
+    serves-time (effect_of_stop before shared.pids.next own m c.args.stop) shared own world c.read_counter.new.machine c.read_counter.result (g.H.Host.count c.args.host.now) c.requires read.child
+    c.read_counter.new.shared read.rest read.files (ap (effect_of_stop before shared.pids.next own m) c.in-Counter.is ∙ read.served world own)

@@ -1,10 +1,10 @@
 use Rattle.std.proofs.Common.{◌≡◌, ◌≤◌, ◌<◌, ◌-◌, map, true}
 use Rattle.dt_elf.specs.declared.layout.TheConstants.{SEGMENT_PAGES_END}
-use Rattle.dt_elf.specs.SegmentPages.{numbers_below, touched, loaded_page}
+use Rattle.dt_elf.specs.SegmentPages.{numbers_below, is_segment_page, loaded_page}
 use Rattle.dt_elf.proofs.pages.load.Given as goal
 
 abbrev pub invariant-loop-number : goal.invariant-loop-number
-invariant-loop-number l = (l.number ≤ SEGMENT_PAGES_END) × (l.number < SEGMENT_PAGES_END → touched l.segments l.number ≡ true) × (l.space ≡ map (loaded_page l.segments l.bytes) (numbers_below l.number (touched l.segments)))
+invariant-loop-number l = (l.number ≤ SEGMENT_PAGES_END) × (l.number < SEGMENT_PAGES_END → is_segment_page l.segments l.number ≡ true) × (l.space ≡ map (loaded_page l.segments l.bytes) (numbers_below l.number (is_segment_page l.segments)))
 
 abbrev pub decreases-loop-number : goal.decreases-loop-number
 decreases-loop-number l = SEGMENT_PAGES_END - l.number

@@ -1,6 +1,6 @@
 use Rattle.std.proofs.Common.{◌≡◌, ◌-◌, ap, ◌∙◌, length, ℕ, refl, arith}
 use Rattle.dt_elf.specs.Executable.{executable}
-use Rattle.dt_elf.specs.Stack.{Invocation, aligned, strings, strings_start, stack_words, stack_pointer}
+use Rattle.dt_elf.specs.Stack.{Invocation, aligned_address, strings, strings_start, stack_words, stack_pointer}
 use Rattle.dt_elf.specs.declared.layout.TheConstants.{STACK_TOP}
 use Rattle.dt_elf.proofs.Strings.{has-room, HasRoom, stack_words-are}
 use Rattle.dt_elf.proofs.stack.make_stack.Goals as goal
@@ -17,7 +17,7 @@ pointer_below-pointer-requires c =
     let given : Invocation = record { words = c.args.command.now; execfn = c.args.execfn.now; random = c.args.random.now } in
     let room : HasRoom (executable c.args.elf.now) c.args.headers given = has-room (executable c.args.elf.now) c.args.headers given c.requires.few c.requires.short (omega arith) in
     let text : c.len.result ≡ length (strings given) = let items = ap length c.in_ok-text.ensures in omega (arith, c.in_ok-text.text.ok.0, items) in
-    let start : c.aligned-start.result ≡ strings_start given = c.aligned-start.ensures ∙ ap (λ (n : ℕ). aligned (STACK_TOP - n)) text in
+    let start : c.aligned_address-start.result ≡ strings_start given = c.aligned_address-start.ensures ∙ ap (λ (n : ℕ). aligned_address (STACK_TOP - n)) text in
     let words : c.len-2.result ≡ length (stack_words (executable c.args.elf.now) c.args.headers given) = let items = ap length (c.in_ok-words.ensures ∙ stack_words-are (executable c.args.elf.now) c.args.headers given _ start) in omega (arith, c.in_ok-words.words.ok.0, items) in
     omega (arith, room.text, room.words, text, words)
 
@@ -26,7 +26,7 @@ lay_out-requires-clause-above c =
     let given : Invocation = record { words = c.args.command.now; execfn = c.args.execfn.now; random = c.args.random.now } in
     let room : HasRoom (executable c.args.elf.now) c.args.headers given = has-room (executable c.args.elf.now) c.args.headers given c.requires.few c.requires.short (omega arith) in
     let text : c.len.result ≡ length (strings given) = let items = ap length c.in_ok-text.ensures in omega (arith, c.in_ok-text.text.ok.0, items) in
-    let start : c.aligned-start.result ≡ strings_start given = c.aligned-start.ensures ∙ ap (λ (n : ℕ). aligned (STACK_TOP - n)) text in
+    let start : c.aligned_address-start.result ≡ strings_start given = c.aligned_address-start.ensures ∙ ap (λ (n : ℕ). aligned_address (STACK_TOP - n)) text in
     let words : c.len-2.result ≡ length (stack_words (executable c.args.elf.now) c.args.headers given) = let items = ap length (c.in_ok-words.ensures ∙ stack_words-are (executable c.args.elf.now) c.args.headers given _ start) in omega (arith, c.in_ok-words.words.ok.0, items) in
     omega (arith, room.text, room.words, text, words)
 
@@ -35,7 +35,7 @@ lay_out-requires-clause-apart c =
     let given : Invocation = record { words = c.args.command.now; execfn = c.args.execfn.now; random = c.args.random.now } in
     let room : HasRoom (executable c.args.elf.now) c.args.headers given = has-room (executable c.args.elf.now) c.args.headers given c.requires.few c.requires.short (omega arith) in
     let text : c.len.result ≡ length (strings given) = let items = ap length c.in_ok-text.ensures in omega (arith, c.in_ok-text.text.ok.0, items) in
-    let start : c.aligned-start.result ≡ strings_start given = c.aligned-start.ensures ∙ ap (λ (n : ℕ). aligned (STACK_TOP - n)) text in
+    let start : c.aligned_address-start.result ≡ strings_start given = c.aligned_address-start.ensures ∙ ap (λ (n : ℕ). aligned_address (STACK_TOP - n)) text in
     let words : c.len-2.result ≡ length (stack_words (executable c.args.elf.now) c.args.headers given) = let items = ap length (c.in_ok-words.ensures ∙ stack_words-are (executable c.args.elf.now) c.args.headers given _ start) in omega (arith, c.in_ok-words.words.ok.0, items) in
     let words_len = c.deref.ensures.len in
     omega (arith, room.text, room.words, text, words, words_len)
@@ -44,7 +44,7 @@ pub returns-clause-pointer : goal.returns-clause-pointer
 returns-clause-pointer c =
     let given : Invocation = record { words = c.args.command.now; execfn = c.args.execfn.now; random = c.args.random.now } in
     let text : c.len.result ≡ length (strings given) = let items = ap length c.in_ok-text.ensures in omega (arith, c.in_ok-text.text.ok.0, items) in
-    let start : c.aligned-start.result ≡ strings_start given = c.aligned-start.ensures ∙ ap (λ (n : ℕ). aligned (STACK_TOP - n)) text in
+    let start : c.aligned_address-start.result ≡ strings_start given = c.aligned_address-start.ensures ∙ ap (λ (n : ℕ). aligned_address (STACK_TOP - n)) text in
     let words : c.len-2.result ≡ length (stack_words (executable c.args.elf.now) c.args.headers given) = let items = ap length (c.in_ok-words.ensures ∙ stack_words-are (executable c.args.elf.now) c.args.headers given _ start) in omega (arith, c.in_ok-words.words.ok.0, items) in
     c.pointer_below-pointer.ensures ∙ rw (start, words) refl
 
@@ -53,7 +53,7 @@ returns-clause-contents c =
     let given : Invocation = record { words = c.args.command.now; execfn = c.args.execfn.now; random = c.args.random.now } in
     let room : HasRoom (executable c.args.elf.now) c.args.headers given = has-room (executable c.args.elf.now) c.args.headers given c.requires.few c.requires.short (omega arith) in
     let text : c.len.result ≡ length (strings given) = let items = ap length c.in_ok-text.ensures in omega (arith, c.in_ok-text.text.ok.0, items) in
-    let start : c.aligned-start.result ≡ strings_start given = c.aligned-start.ensures ∙ ap (λ (n : ℕ). aligned (STACK_TOP - n)) text in
+    let start : c.aligned_address-start.result ≡ strings_start given = c.aligned_address-start.ensures ∙ ap (λ (n : ℕ). aligned_address (STACK_TOP - n)) text in
     let words : c.len-2.result ≡ length (stack_words (executable c.args.elf.now) c.args.headers given) = let items = ap length (c.in_ok-words.ensures ∙ stack_words-are (executable c.args.elf.now) c.args.headers given _ start) in omega (arith, c.in_ok-words.words.ok.0, items) in
     let words_are : c.deref.result.now ≡ stack_words (executable c.args.elf.now) c.args.headers given = c.deref.ensures.value ∙ c.in_ok-words.ensures ∙ stack_words-are (executable c.args.elf.now) c.args.headers given _ start in
     let text_is : c.deref-2.result.now ≡ strings given = c.deref-2.ensures.value ∙ c.in_ok-text.ensures in

@@ -2,7 +2,7 @@ use Rattle.std.proofs.Common.{◌≡◌, refl, sym, ap, subst, ◌∙◌}
 use Rattle.std.specs.Prelude.{IsSome, IfSome}
 use Rattle.std.specs.Cmp.{nat_cmp_total}
 use Rattle.std.specs.FinMap.{get, insert, nat_cmp-IsAntisymmetric}
-use Rattle.dt_host.proofs.Maps.{get-insert_same, insert_same}
+use Rattle.dt_tables.proofs.Maps.{get-insert_same, insert_same}
 use Rattle.dt_fds.specs.Descriptions.{at_spot}
 use Rattle.dt_fds.proofs.descriptors.put_spot.Goals as goal
 

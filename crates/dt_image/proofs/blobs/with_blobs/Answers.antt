@@ -5,7 +5,7 @@ use Rattle.std.specs.List.{list_all, All}
 use Rattle.dt_base.specs.declared.refusal.Refusal.TheVariants.{TooBig, TooMany}
 use Rattle.dt_base.specs.declared.limits.TheConstants.{ENTRY_LIMIT}
 use Rattle.dt_image.specs.ImageOf.{with_blobs}
-use Rattle.dt_image.specs.inner.IndexView.{entry_in, is_sound, spot_of}
+use Rattle.dt_image.specs.inner.IndexView.{entry_in, is_sound, path_kind_of}
 use Rattle.dt_host.proofs.Asking.{passed_on}
 use Rattle.dt_image.proofs.Measures.{is_small, told_missing, told_big, told_many, told_with_blobs, sound_all}
 use Rattle.dt_image.proofs.Rising.{IsImage-made}
@@ -16,17 +16,17 @@ returns-in_err-blobs-clause-refused g c = λ r is.
     let lacks = c.in_err-blobs.ensures.refused r (ap Err (passed_on _ _ _ c.from_residual.ensures.1 is)) in
     told_missing _ _ _ r lacks.0 lacks.1
 
-pub returns-then-not-fit-clause-refused : goal.returns-then-not-fit-clause-refused
-returns-then-not-fit-clause-refused g c = λ r is.
+pub returns-then-not-are_within_limit-clause-refused : goal.returns-then-not-are_within_limit-clause-refused
+returns-then-not-are_within_limit-clause-refused g c = λ r is.
     let same : TooBig ≡ r = cc in
-    let big = sym (c.fit.ensures ∙ ap (list_all is_small) c.deref.ensures.value) ∙ c.if-not-fit.true in
+    let big = sym (c.are_within_limit.ensures ∙ ap (list_all is_small) c.deref.ensures.value) ∙ c.if-not-are_within_limit.true in
     subst (λ s. IfSome (g.S.Store.told c.args.store.now) (λ held. with_blobs held c.args.folder.now (map entry_in c.args.order.now) ≡ Err s)) same
     (told_big _ _ _ _ c.in_ok-blobs.ensures.entries c.in_ok-blobs.ensures.sizes big)
 
 pub returns-then-not-are_few-clause-refused : goal.returns-then-not-are_few-clause-refused
 returns-then-not-are_few-clause-refused g c = λ r is.
     let same : TooMany ≡ r = cc in
-    let small = sym (c.fit.ensures ∙ ap (list_all is_small) c.deref.ensures.value) ∙ c.if-not-fit.false in
+    let small = sym (c.are_within_limit.ensures ∙ ap (list_all is_small) c.deref.ensures.value) ∙ c.if-not-are_within_limit.false in
     let many = ap (λ blobs. nat_le (length blobs) ENTRY_LIMIT) (sym c.deref-2.ensures.value) ∙ sym c.are_few.ensures ∙ c.if-not-are_few.true in
     subst (λ s. IfSome (g.S.Store.told c.args.store.now) (λ held. with_blobs held c.args.folder.now (map entry_in c.args.order.now) ≡ Err s)) same
     (told_many _ _ _ _ c.in_ok-blobs.ensures.entries c.in_ok-blobs.ensures.sizes small many)
@@ -40,10 +40,10 @@ pub new-requires : goal.new-requires
 new-requires g c =
     let few = leb-true _ _ (ap (λ blobs. nat_le (length blobs) ENTRY_LIMIT) (sym c.deref-2.ensures.value) ∙ sym c.are_few.ensures ∙ c.if-not-are_few.false) in
     IsImage-made c.in_ok-read.field-0.items c.in_ok-blobs.blobs.items c.args.order.now c.in_ok-blobs.ensures.entries
-    (c.in_ok-read.ensures.spots ∙ ap (map (λ blob. spot_of (entry_in blob.entry))) c.deref-3.ensures.value) few c.in_ok-read.ensures.good c.requires.parents c.requires.rising
+    (c.in_ok-read.ensures.spots ∙ ap (map (λ blob. path_kind_of (entry_in blob.entry))) c.deref-3.ensures.value) few c.in_ok-read.ensures.good c.requires.parents c.requires.rising
 
 pub returns-clause-ok : goal.returns-clause-ok
 returns-clause-ok g c =
-    let small = sym (c.fit.ensures ∙ ap (list_all is_small) c.deref.ensures.value) ∙ c.if-not-fit.false in
+    let small = sym (c.are_within_limit.ensures ∙ ap (list_all is_small) c.deref.ensures.value) ∙ c.if-not-are_within_limit.false in
     let few = ap (λ blobs. nat_le (length blobs) ENTRY_LIMIT) (sym c.deref-2.ensures.value) ∙ sym c.are_few.ensures ∙ c.if-not-are_few.false in
     told_with_blobs _ _ _ _ _ _ _ _ c.in_ok-blobs.ensures.entries c.in_ok-blobs.ensures.sizes small few c.measure.ensures.asks.stays c.deref-3.ensures.value c.new.ensures c.in_ok-read.ensures.ok

@@ -2,7 +2,7 @@ use Rattle.std.proofs.Common.{◌++◌, ℕ, List, sym, ap, ◌∙◌}
 use Rattle.dt_host.specs.World.{World, content}
 use Rattle.dt_tree.specs.Table.{shape_of, tree_of}
 use Rattle.dt_image.specs.Report.{file_line}
-use Rattle.dt_image.specs.inner.PathView.{shown}
+use Rattle.dt_image.specs.inner.PathView.{path_pair}
 use Rattle.dt_image.proofs.Shown.{line_of_file}
 use Rattle.dt_image.proofs.lines.write_line.Goals as goal
 
@@ -11,7 +11,7 @@ returns-clause-ok g c =
     let v = (g.H.Host.view c.args.host.now).forest in
     let no_dir = sym (c.is_dir.ensures v c.requires.stands) ∙ c.if-is_dir.false in
     let no_link = sym (c.is_link.ensures v c.requires.stands) ∙ c.if-is_link.false in
-    let line = line_of_file (tree_of c.args.tree.now v) (shown c.args.at.now) c.in_ok-meta.meta c.in_ok-meta.ensures.ok no_dir no_link in
+    let line = line_of_file (tree_of c.args.tree.now v) (path_pair c.args.at.now) c.in_ok-meta.meta c.in_ok-meta.ensures.ok no_dir no_link in
     let bytes =
     c.deref.ensures.value ∙ c.in_ok-bytes.ensures.ok
     ∙ ap (λ (w : World). content (shape_of c.args.tree.now w.forest) c.args.at.now.inode) c.in_ok-meta.ensures.asks.stays in

@@ -1,6 +1,6 @@
 use Rattle.std.proofs.Common.{◌++◌, ◌-◌, ◌^◌, map, sym, ap, ◌∙◌, arith, append-nil}
 use Rattle.dt_tree.specs.Table.{shape_of, tree_of}
-use Rattle.dt_image.specs.inner.PathView.{shown, listed_below}
+use Rattle.dt_image.specs.inner.PathView.{path_pair, listed_path}
 use Rattle.dt_image.proofs.Children.{listed_after, below_listed, none_below}
 use Rattle.dt_image.proofs.paths.add_below.Goals as goal
 
@@ -13,7 +13,7 @@ pub returns-then-not-is_dir-clause-ok : goal.returns-then-not-is_dir-clause-ok
 returns-then-not-is_dir-clause-ok g c =
     let v = (g.H.Host.view c.args.host.now).forest in
     let none = none_below (shape_of c.args.tree.now v) c.args.at.now.path c.args.at.now.inode (sym (c.is_dir.ensures v c.requires.stands) ∙ c.if-not-is_dir.true) in
-    sym (ap (λ more. map shown c.args.next.now.items ++ more) none ∙ append-nil (map shown c.args.next.now.items))
+    sym (ap (λ more. map path_pair c.args.next.now.items ++ more) none ∙ append-nil (map path_pair c.args.next.now.items))
 
 pub returns-clause-ok : goal.returns-clause-ok
 returns-clause-ok g c =
@@ -21,7 +21,7 @@ returns-clause-ok g c =
     let t = tree_of c.args.tree.now v in
     let path = c.args.at.now.path in
     let list = c.deref.ensures.value ∙ c.in_ok-listed.ensures.ok ∙ listed_after t c.args.at.now.inode (2 ^ 64 - 1) c.requires.stands.tree (omega arith) in
-    let all = ap (map (listed_below path)) list ∙ below_listed t.shape path c.args.at.now.inode in
+    let all = ap (map (listed_path path)) list ∙ below_listed t.shape path c.args.at.now.inode in
     c.in_ok-add_listed.ensures
-    ∙ ap (λ at. map shown c.args.next.now.items ++ map (listed_below at) c.deref.result.now) c.as_slice.ensures
-    ∙ ap (λ more. map shown c.args.next.now.items ++ more) all
+    ∙ ap (λ at. map path_pair c.args.next.now.items ++ map (listed_path at) c.deref.result.now) c.as_slice.ensures
+    ∙ ap (λ more. map path_pair c.args.next.now.items ++ more) all

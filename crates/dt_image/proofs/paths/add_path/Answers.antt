@@ -1,9 +1,9 @@
 use Rattle.std.proofs.Common.{ℕ, List, ap, ◌∙◌}
 use Rattle.std.specs.FinMap.{insert}
 use Rattle.std.specs.Cmp.Lexicographic.{nat_list_cmp_total}
-use Rattle.dt_host.proofs.Maps.{names_tie}
-use Rattle.dt_host.proofs.MapOf.{map_of-insert_entry}
-use Rattle.dt_host.specs.Entries.{map_of}
+use Rattle.dt_tables.proofs.Maps.{names_tie}
+use Rattle.dt_tables.proofs.MapOf.{map_of-insert_entry}
+use Rattle.dt_tables.specs.Entries.{map_of}
 use Rattle.dt_image.specs.inner.PathView.{paths_in}
 use Rattle.dt_image.proofs.paths.add_path.Goals as goal
 

@@ -2,11 +2,11 @@ use Rattle.std.proofs.Common.{◌≡◌, [], ◌∷◌, map, fold, refl, sym, ap
 use Rattle.std.specs.List.{All, flat_map}
 use Rattle.std.specs.Cmp.Lexicographic.{nat_list_cmp_total}
 use Rattle.dt_host.specs.World.{World}
-use Rattle.dt_host.proofs.MapOf.{map_of-nil}
+use Rattle.dt_tables.proofs.MapOf.{map_of-nil}
 use Rattle.dt_tree.specs.Table.{shape_of}
 use Rattle.dt_image.specs.declared.paths.TreePath.{TreePath}
-use Rattle.dt_image.specs.Paths.{below, level, paths_to, with_path}
-use Rattle.dt_image.specs.inner.PathView.{shown, IsPlaced}
+use Rattle.dt_image.specs.Paths.{paths_below, level, paths_to, with_path}
+use Rattle.dt_image.specs.inner.PathView.{path_pair, IsPlaced}
 use Rattle.dt_image.proofs.Children.{unmap, placed_level, level_next, paths_next}
 use Rattle.dt_image.proofs.paths.all_paths.Goals as goal
 
@@ -23,9 +23,9 @@ pub next_level-requires-clause-placed : goal.next_level-requires-clause-placed
 next_level-requires-clause-placed g c =
     let v = (g.H.Host.view c.args.host.now).forest in
     let shape = shape_of c.args.tree.now v in
-    let placed = unmap (IsPlaced shape) shown c.loop-depth.level.items (subst (All (IsPlaced shape)) (sym c.loop-depth.invariant.here) (placed_level shape c.loop-depth._depth)) in
-    let there = subst (All (λ (at : TreePath). IsPlaced shape (shown at))) (sym c.deref.ensures.value) placed in
-    subst (λ (w : World). All (λ (at : TreePath). IsPlaced (shape_of c.args.tree.now w.forest) (shown at)) c.deref.result.now) (sym c.loop-depth.invariant.stays) there
+    let placed = unmap (IsPlaced shape) path_pair c.loop-depth.level.items (subst (All (IsPlaced shape)) (sym c.loop-depth.invariant.here) (placed_level shape c.loop-depth._depth)) in
+    let there = subst (All (λ (at : TreePath). IsPlaced shape (path_pair at))) (sym c.deref.ensures.value) placed in
+    subst (λ (w : World). All (λ (at : TreePath). IsPlaced (shape_of c.args.tree.now w.forest) (path_pair at)) c.deref.result.now) (sym c.loop-depth.invariant.stays) there
 
 pub loop-depth-preserved : goal.loop-depth-preserved
 loop-depth-preserved g c =
@@ -33,16 +33,16 @@ loop-depth-preserved g c =
     let shape = shape_of c.args.tree.now v in
     let next =
     c.in_ok-level-2.ensures.ok
-    ∙ ap (λ (w : World). flat_map (below (shape_of c.args.tree.now w.forest)) (map shown c.deref.result.now)) c.loop-depth.invariant.stays
-    ∙ ap (flat_map (below shape)) (ap (map shown) c.deref.ensures.value ∙ c.loop-depth.invariant.here)
+    ∙ ap (λ (w : World). flat_map (paths_below (shape_of c.args.tree.now w.forest)) (map path_pair c.deref.result.now)) c.loop-depth.invariant.stays
+    ∙ ap (flat_map (paths_below shape)) (ap (map path_pair) c.deref.ensures.value ∙ c.loop-depth.invariant.here)
     ∙ sym (level_next shape c.loop-depth._depth) in
     record {
       stays = c.in_ok-level-2.ensures.asks.stays ∙ c.loop-depth.invariant.stays;
       later = omega (arith, c.in_ok-level-2.ensures.asks.cause.later);
       here = next;
       found = c.in_ok-add_paths.ensures
-          ∙ ap (λ paths. fold with_path paths (map shown c.deref-in-loop-depth.result.now)) c.loop-depth.invariant.found
-          ∙ ap (fold with_path (paths_to shape c.loop-depth._depth)) (ap (map shown) c.deref-in-loop-depth.ensures.value ∙ next)
+          ∙ ap (λ paths. fold with_path paths (map path_pair c.deref-in-loop-depth.result.now)) c.loop-depth.invariant.found
+          ∙ ap (fold with_path (paths_to shape c.loop-depth._depth)) (ap (map path_pair) c.deref-in-loop-depth.ensures.value ∙ next)
           ∙ sym (paths_next shape c.loop-depth._depth);
     }
 

@@ -3,7 +3,7 @@ use Rattle.dt_tree.specs.Table.{shape_of}
 use Rattle.dt_iocalls.proofs.Described.{kind_in}
 use Rattle.dt_iocalls.proofs.reading.pread64.Goals as goal
 
-pub reads_kind_at-requires-clause-there : goal.reads_kind_at-requires-clause-there
-reads_kind_at-requires-clause-there g c =
+pub read_by_kind_at-requires-clause-there : goal.read_by_kind_at-requires-clause-there
+read_by_kind_at-requires-clause-there g c =
     kind_in (shape_of c.args.fs.now.tree (g.H.Host.view c.args.host.now).forest) c.args.fs.now.files.descriptors c.args.caller.now.vpid c.low_word.result
     c.in-Some.desc.now c.requires.all_in (sym c.in-Some.ensures.desc)

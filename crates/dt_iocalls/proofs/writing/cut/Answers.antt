@@ -1,9 +1,9 @@
 use Rattle.std.proofs.Common.{ap, sym, ◌∙◌, arith}
 use Rattle.dt_tree.specs.Calls.{cut_of}
 use Rattle.dt_tree.specs.Table.{tree_of}
-use Rattle.dt_scene.specs.Scene.{stamp}
-use Rattle.dt_scene.specs.Sound.{stage, scene}
-use Rattle.dt_scene.proofs.Kept.{reaches_done}
+use Rattle.dt_callbase.specs.Scene.{stamp}
+use Rattle.dt_callbase.specs.Sound.{stage, scene}
+use Rattle.dt_callbase.proofs.Kept.{reaches_done}
 use Rattle.dt_iocalls.proofs.writing.cut.Goals as goal
 
 pub returns-in-Ok : goal.returns-in-Ok

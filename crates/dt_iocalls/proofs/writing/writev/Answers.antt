@@ -4,7 +4,7 @@ use Rattle.dt_iocalls.specs.Ranges.{total_len}
 use Rattle.dt_iocalls.proofs.Vectors.{few_at}
 use Rattle.dt_iocalls.proofs.writing.writev.Goals as goal
 
-pub write_ranges-requires-clause-few : goal.write_ranges-requires-clause-few
-write_ranges-requires-clause-few g c =
+pub write_descriptor-requires-clause-few : goal.write_descriptor-requires-clause-few
+write_descriptor-requires-clause-few g c =
     let found = rw c.in-Ok.is at c.in_ok-ranges.ensures in
     subst (λ ranges. total_len ranges ≤ TRANSFER_LIMIT) (sym c.deref.ensures.value) (few_at c.args.space.now _ _ c.in-Ok.ranges.items found)

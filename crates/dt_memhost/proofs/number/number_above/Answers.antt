@@ -1,5 +1,5 @@
 use Rattle.std.proofs.Common.{◌≡◌, ℕ, ◌+◌, ◌<◌, true, sym, ◌∙◌, arith, below_more}
-use Rattle.dt_memhost.specs.inner.Live.{has}
+use Rattle.dt_memhost.specs.inner.Live.{has_number}
 use Rattle.dt_memhost.proofs.Numbered.{row_of_live}
 use Rattle.dt_memhost.proofs.number.number_above.Goals as goal
 
@@ -12,7 +12,7 @@ returns-then-not-contains_key g c = record {
 
 pub loop-number-preserved : goal.loop-number-preserved
 loop-number-preserved g c =
-    let live = has c.args.live.now in
+    let live = has_number c.args.live.now in
     let here = sym c.contains_key.ensures ∙ c.if-not-contains_key.false in
     λ q above below. below_more (λ (n : ℕ). c.from-limit.result < n → live n ≡ true) c.loop-number.number-counter (λ n b a. c.loop-number.invariant n a b) (λ _. here) q below above
 

@@ -1,8 +1,8 @@
 use Rattle.std.proofs.Common.{◌≡◌, ◌+◌, ◌-◌, ◌%◌, ◌<◌, ◌++◌, length, take, drop, remove, sym, ap, ◌∙◌, arith}
 use Rattle.std.proofs.Math.Nat.{mod-lt}
 use Rattle.std.proofs.lemmas.List.Edits.{length-remove}
-use Rattle.dt_memhost.specs.Order.{picked_order}
-use Rattle.dt_memhost.specs.Script.{picked, picked_all, coming_word, words_of}
+use Rattle.dt_memhost.specs.Order.{drawn_order}
+use Rattle.dt_memhost.specs.Script.{after_draw, after_draws, coming_word, words_of}
 use Rattle.dt_memhost.specs.inner.EntryTree.{entries}
 use Rattle.dt_memhost.proofs.Arranged.{picked_order-more, picked_order-end, picked_all-suc, picked_all-none, one_left}
 use Rattle.dt_memhost.proofs.order.arrange.Goals as goal
@@ -26,13 +26,13 @@ loop-done-preserved c =
       order =
           c.loop-done.invariant.order
           ∙ picked_order-more c.loop-done.arranged.items left rest c.pick-entry.result done n before (omega arith) c.loop-done.invariant.left chosen goes
-          ∙ ap (λ xs. xs ++ picked_order (words_of more (picked before)) rest) (sym c.in_ok-push.ensures.items)
-          ∙ ap (λ s. c.push.new.self.items ++ picked_order (words_of more s) rest) (sym c.pick-entry.ensures.after);
+          ∙ ap (λ xs. xs ++ drawn_order (words_of more (after_draw before)) rest) (sym c.in_ok-push.ensures.items)
+          ∙ ap (λ s. c.push.new.self.items ++ drawn_order (words_of more s) rest) (sym c.pick-entry.ensures.after);
       after =
           c.loop-done.invariant.after
-          ∙ ap (λ k. picked_all k before) (one_left done n (omega arith))
+          ∙ ap (λ k. after_draws k before) (one_left done n (omega arith))
           ∙ picked_all-suc more before
-          ∙ ap (picked_all more) (sym c.pick-entry.ensures.after);
+          ∙ ap (after_draws more) (sym c.pick-entry.ensures.after);
       counted = c.pick-entry.ensures.counted;
       left = omega (arith, length-remove left at (omega arith));
       moved = c.in_ok-push.ensures.len ∙ ap (λ k. k + 1) c.loop-done.invariant.moved;

@@ -2,10 +2,10 @@ use Rattle.std.proofs.Common.{rules, tests, ◌∙◌}
 use Rattle.std.proofs.lemmas.Iterator.{YieldsList-from_slice}
 use Rattle.std.proofs.lemmas.Iterator.Search.{find_from_yields_List}
 use Rattle.dt_procs.specs.Members.{has_pid}
-use Rattle.dt_procs.specs.declared.row.Row.{Row}
+use Rattle.dt_procs.specs.declared.row.MemberRow.{MemberRow}
 use Rattle.dt_procs.proofs.row.row_at.Goals as goal
 
 pub returns : goal.returns
 returns c =
-    c.copied.ensures ∙ find_from_yields_List (λ (row : Row). has_pid c.args.vpid row.member) _ _ c.find.result c.find.ensures.ran
+    c.copied.ensures ∙ find_from_yields_List (λ (row : MemberRow). has_pid c.args.vpid row.member) _ _ c.find.result c.find.ensures.ran
     (YieldsList-from_slice c.args.rows.now cc) (λ x b q k. search (rules, tests))

@@ -2,9 +2,9 @@ use Rattle.std.proofs.Common.{sym, subst, refl}
 use Rattle.std.specs.Prelude.{IsSome}
 use Rattle.std.specs.Cmp.{nat_cmp_total}
 use Rattle.std.specs.FinMap.{get, nat_cmp-IsAntisymmetric}
-use Rattle.dt_host.proofs.Maps.{get-insert_same}
+use Rattle.dt_tables.proofs.Maps.{get-insert_same}
 use Rattle.dt_procs.specs.declared.member.TheConstants.{FIRST_PID}
-use Rattle.dt_calls.specs.InCode.{ContainerView, home_of}
+use Rattle.dt_calls.specs.InCode.{ContainerView, machines_at_home}
 use Rattle.dt_run.proofs.Ending.{launched-home}
 use Rattle.dt_tests_parts.proofs.container.first_segment.Goals as goal
 
@@ -20,4 +20,4 @@ give_machine-requires g c =
 pub run_segment-requires : goal.run_segment-requires
 run_segment-requires g c =
     subst (λ home. IsSome (get home FIRST_PID)) (sym c.give_machine.ensures.home)
-    (subst IsSome (sym (get-insert_same nat_cmp_total nat_cmp-IsAntisymmetric (home_of c.take_machine-machine.new.self.places) FIRST_PID _)) refl)
+    (subst IsSome (sym (get-insert_same nat_cmp_total nat_cmp-IsAntisymmetric (machines_at_home c.take_machine-machine.new.self.places) FIRST_PID _)) refl)

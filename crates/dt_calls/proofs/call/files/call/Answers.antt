@@ -3,10 +3,10 @@ use Rattle.dt_calls.proofs.Held.{sound-scene, keeps-called, keeps-raised, keeps-
 use Rattle.dt_calls.specs.declared.shared.Process.{Process}
 use Rattle.dt_calls.specs.declared.shared.Shared.{Shared}
 use Rattle.dt_calls.specs.Effect.{effect_of_answer}
-use Rattle.dt_calls.specs.FileCalls.{effect_of_row, row_of, scene_of, shared_after, file_call}
+use Rattle.dt_calls.specs.FileCalls.{effect_of_row, row_of, scene_of, shared_after_answer, file_call}
 use Rattle.dt_calls.specs.InCode.{shared_of}
 use Rattle.dt_calls.specs.Sound.{hand, LeavesSound}
-use Rattle.dt_scene.specs.Sound.{Sound, KeepsOthers, stage, scene}
+use Rattle.dt_callbase.specs.Sound.{Sound, KeepsOthers, stage, scene}
 use Rattle.dt_calls.proofs.call.files.call.Goals as goal
 
 pub serve_row-requires : goal.serve_row-requires
@@ -46,9 +46,9 @@ returns g c =
     record {
       served = ap (λ args. effect_of_row (shared_of shared world) own m c.args.number (row_of c.args.number args (scene_of (shared_of shared world) own m))) (sym c.arguments-args.ensures)
           ∙ ap (effect_of_row (shared_of shared world) own m c.args.number) row.served
-          ∙ ap (λ count. effect_of_answer (shared_after (shared_of left_so v) own.caller.vpid c.in_ok-answer.answer) (record own { caller = record c.serve_row.new.caller { done = count } }) (record m { space = pages }) c.args.number c.in_ok-answer.answer) (sym c.done_after-own.ensures)
+          ∙ ap (λ count. effect_of_answer (shared_after_answer (shared_of left_so v) own.caller.vpid c.in_ok-answer.answer) (record own { caller = record c.serve_row.new.caller { done = count } }) (record m { space = pages }) c.args.number c.in_ok-answer.answer) (sym c.done_after-own.ensures)
           ∙ ap (λ (s : Shared). effect_of_answer (shared_of s v) now (record m { space = pages }) c.args.number c.in_ok-answer.answer) (sym c.raise_after.ensures.raised)
-          ∙ c.in_ok-answered.ensures.served (shared_of new v) now;
-      kept = subst (LeavesSound (hand shared own world) (hand new now v)) (sym c.in_ok-answered.ensures.child) kept;
+          ∙ c.in_ok-give_answer.ensures.served (shared_of new v) now;
+      kept = subst (LeavesSound (hand shared own world) (hand new now v)) (sym c.in_ok-give_answer.ensures.child) kept;
       cause = search rules;
     }

@@ -10,5 +10,5 @@ pub returns-clause-served : goal.returns-clause-served
 unfolding sigprocmask_call
 returns-clause-served c = λ w.
     let signals = c.change_mask-answer.new.signals in
-    called-served _ (shared_of c.args.shared.now w) c.args.own.now c.args.machine.now c.change_mask-answer.new.machine c.answered.new.machine _ signals c.change_mask-answer.result c.answered.result c.change_mask-answer.ensures
-    (c.answered.ensures.served (shared_of (record c.args.shared.now { signals = signals }) w) c.args.own.now)
+    called-served _ (shared_of c.args.shared.now w) c.args.own.now c.args.machine.now c.change_mask-answer.new.machine c.give_answer.new.machine _ signals c.change_mask-answer.result c.give_answer.result c.change_mask-answer.ensures
+    (c.give_answer.ensures.served (shared_of (record c.args.shared.now { signals = signals }) w) c.args.own.now)

@@ -5,10 +5,10 @@ use Rattle.dt_fds.specs.OpenFiles.{pipes_at}
 use Rattle.dt_procs.specs.declared.member.Member.{Member}
 use Rattle.dt_procs.specs.declared.member.Reaped.{Reaped}
 use Rattle.dt_procs.specs.declared.member.Reaped.TheVariants.{Got}
-use Rattle.dt_procs.specs.Members.{reaped, without_member}
+use Rattle.dt_procs.specs.Members.{members_after_reap, without_member}
 use Rattle.dt_procs.specs.Table.{members_of}
-use Rattle.dt_rv64.specs.Effects.{register, answered}
-use Rattle.dt_space.specs.Argument.{may_fill, with_filled}
+use Rattle.dt_rv64.specs.Effects.{register, machine_after_answer}
+use Rattle.dt_space.specs.Argument.{is_writable_or_null, with_bytes_unless_null}
 use Rattle.dt_tree.specs.Table.{tree_of}
 use Rattle.dt_calls.specs.declared.call.effect.Outcome.TheVariants.{Done}
 use Rattle.dt_calls.specs.declared.numbers.TheConstants.{RUSAGE_SIZE}
@@ -23,9 +23,9 @@ use Rattle.dt_calls.proofs.call.wait.reap.Goals as goal
 pub fill_unless_null-requires-2 : goal.fill_unless_null-requires-2
 fill_unless_null-requires-2 g c =
     let m = c.args.machine.now in
-    let both : (may_fill m.space (register m A1) 4 && may_fill m.space (register m A3) RUSAGE_SIZE) ≡ true = search rules in
-    let may = (and_parts (may_fill m.space (register m A1) 4) (may_fill m.space (register m A3) RUSAGE_SIZE) both).1 in
-    subst (λ u. may_fill c.fill_unless_null.new.space u RUSAGE_SIZE ≡ true) (sym c.reg-usage.ensures) (c.fill_unless_null.ensures.kept _ _ may)
+    let both : (is_writable_or_null m.space (register m A1) 4 && is_writable_or_null m.space (register m A3) RUSAGE_SIZE) ≡ true = search rules in
+    let may = (and_parts (is_writable_or_null m.space (register m A1) 4) (is_writable_or_null m.space (register m A3) RUSAGE_SIZE) both).1 in
+    subst (λ u. is_writable_or_null c.fill_unless_null.new.space u RUSAGE_SIZE ≡ true) (sym c.reg-usage.ensures) (c.fill_unless_null.ensures.kept _ _ may)
 
 pub returns : goal.returns
 returns g c =
@@ -34,21 +34,21 @@ returns g c =
     let m = c.args.machine.now in
     let world = g.H.Host.view c.args.host.now in
     let after = g.H.Host.view c.wait_for.new.host in
-    let both : (may_fill m.space (register m A1) 4 && may_fill m.space (register m A3) RUSAGE_SIZE) ≡ true = search rules in
+    let both : (is_writable_or_null m.space (register m A1) 4 && is_writable_or_null m.space (register m A3) RUSAGE_SIZE) ≡ true = search rules in
     let found : c.in_ok-wait_for.field-0 ≡ Got c.args.vpid c.args.end = c.in_ok-wait_for.ensures.found ∙ c.requires.found in
-    let members : members_of c.wait_for.new.self ≡ without_member (members_of shared.pids) c.args.vpid = c.in_ok-wait_for.ensures.members ∙ ap (λ (r : Reaped). reaped (members_of shared.pids) r) found in
+    let members : members_of c.wait_for.new.self ≡ without_member (members_of shared.pids) c.args.vpid = c.in_ok-wait_for.ensures.members ∙ ap (λ (r : Reaped). members_after_reap (members_of shared.pids) r) found in
     let left : Shared = record shared { pids = c.wait_for.new.self } in
     let only = c.wait_for.ensures.rest in
     let tree : shared_of left world ≡ shared_of left after = λ i. record (shared_of left world) { tree = tree_of shared.fs.tree (sym only.forest i); pipes = pipes_at shared.fs.files (sym only.pipes i) } in
     let all = ap (λ (ms : List Member). record (shared_of shared world) { members = ms }) (sym members) in
     let kept = keeps-reaped shared own world c.requires.sound c.wait_for.new.self after own.caller.vpid c.args.which c.args.vpid c.args.end c.next-next.ensures.sound.rising c.requires.found only c.in_ok-wait_for.ensures.stands members c.in_ok-wait_for.ensures.next in
-    let first : c.fill_unless_null.new.space ≡ with_filled m.space (register m A1) (status_bytes c.args.end) = search rules in
-    let both_written = with_filled (with_filled m.space (register m A1) (status_bytes c.args.end)) (register m A3) usage_bytes in
+    let first : c.fill_unless_null.new.space ≡ with_bytes_unless_null m.space (register m A1) (status_bytes c.args.end) = search rules in
+    let both_written = with_bytes_unless_null (with_bytes_unless_null m.space (register m A1) (status_bytes c.args.end)) (register m A3) usage_bytes in
     let second : c.fill_unless_null-2.new.space ≡ both_written = search rules in
-    let machine : answered (record m { space = both_written }) c.args.vpid ≡ c.done.new.machine = search rules in
+    let machine : machine_after_answer (record m { space = both_written }) c.args.vpid ≡ c.done.new.machine = search rules in
     record {
       served = reaps-done (shared_of shared world) own m (register m A1) (register m A3) c.args.vpid c.args.end both
-          ∙ effect-is _ (shared_of left after) own own (answered (record m { space = both_written }) c.args.vpid) c.done.new.machine None Done c.done.result (all ∙ tree) refl machine c.done.ensures.child c.done.ensures.events c.done.ensures.outcome;
+          ∙ effect-is _ (shared_of left after) own own (machine_after_answer (record m { space = both_written }) c.args.vpid) c.done.new.machine None Done c.done.result (all ∙ tree) refl machine c.done.ensures.child c.done.ensures.events c.done.ensures.outcome;
       kept = subst (LeavesSound (hand shared own world) (hand left own after)) (sym c.done.ensures.child) kept;
       cause = search rules;
     }

@@ -7,7 +7,7 @@ use Rattle.dt_host.proofs.Asking.{passed_on}
 use Rattle.dt_procs.specs.declared.member.TheConstants.{FIRST_PID}
 use Rattle.dt_rv64.specs.declared.machine.Machine.{Machine}
 use Rattle.dt_calls.specs.Container.{first_shared}
-use Rattle.dt_calls.specs.InCode.{home_of}
+use Rattle.dt_calls.specs.InCode.{machines_at_home}
 use Rattle.dt_calls.proofs.Homes.{home-first}
 use Rattle.dt_calls.proofs.Settled.{paired-insert, paired-empty, place-here}
 use Rattle.dt_calls.proofs.container.Container.install.Goals as goal
@@ -25,7 +25,7 @@ pub returns-clause-ok : goal.returns-clause-ok
 returns-clause-ok g c =
     let places = c.in_ok-put.ensures.ok ∙ (λ i. insert (c.new-places.ensures i) (c.from.ensures i) None) in
     let shared = c.in_ok-shared.ensures.ok ∙ ap (λ t. first_shared t c.args.seed) c.in_ok-install.ensures.tree in
-    let machines = ap home_of places ∙ home-first FIRST_PID in
+    let machines = ap machines_at_home places ∙ home-first FIRST_PID in
     (λ i. record { shared = shared i; machines = machines i; next = c.in_ok-shared.ensures.next i; events = c.new-3.ensures.items i })
 
 pub returns-clause-lives : goal.returns-clause-lives

@@ -1,8 +1,8 @@
 use Rattle.std.proofs.Common.{◌≡◌, Option, Some, refl, sym, ap, subst, ◌∙◌}
 use Rattle.std.specs.Prelude.{Result, Ok, Err, IfOk, IsSome, is_some}
 use Rattle.std.specs.FinMap.{get}
-use Rattle.dt_calls.specs.Settle.{Turned, turned, settle, serve}
-use Rattle.dt_calls.specs.InCode.{ContainerView, container_of, turned_as, shared_of, effect_as}
+use Rattle.dt_calls.specs.Settle.{ContainerTurn, with_process_turn, turn_of_effect, turn_of_container}
+use Rattle.dt_calls.specs.InCode.{ContainerView, container_of, container_turn_as, shared_of, effect_as}
 use Rattle.dt_calls.proofs.Homes.{home-place}
 use Rattle.dt_calls.proofs.Serving.{hand-sound, home-served, paired-served, place-served, apart-served, serve-done}
 use Rattle.dt_calls.proofs.container.Container.serve.Goals as goal
@@ -75,10 +75,10 @@ returns-clause-ok g c =
     let e = effect_as (shared_of c.serve_at.new.shared u) c.serve_at.new.own did.now c.in_ok-effect.effect in
     let d = record (container_of (record { shared = c.serve_at.new.shared; places = c.serve_at.new.places; events = s.events }) u) { next = c.next-next.result } in
     let home = place-served v s w c.args.vpid own c.requires.sound c.self.view_is here c.serve_at.new.places did.was did.now did.becomes c.serve_at.new.own.caller.vpid did.serves.kept.vpid in
-    by_result (λ r. turned_as (container_of c.settle.new.self (g.H.Host.view c.settle.new.host)) r) (serve (container_of v w) c.args.vpid c.args.stop) (turned d c.serve_at.new.own.caller.vpid (settle c.next-next.result c.serve_at.new.own.caller.vpid e))
+    by_result (λ r. container_turn_as (container_of c.settle.new.self (g.H.Host.view c.settle.new.host)) r) (turn_of_container (container_of v w) c.args.vpid c.args.stop) (with_process_turn d c.serve_at.new.own.caller.vpid (turn_of_effect c.next-next.result c.serve_at.new.own.caller.vpid e))
     (λ t done. serve-done v s w c.args.vpid own c.requires.sound c.self.view_is here c.serve_at.new.places did.was did.now did.becomes c.args.stop c.next-next.result c.serve_at.new.own.caller.vpid e d t c.next-next.ensures.value did.serves.kept.vpid did.serves.served refl refl done)
     c.settle.result (c.settle.ensures.ok did.now home)
   where
-    by_result : {A E : Type 0} (seen : A → Turned) (whole : Option Turned) (part : Turned) → ((t : Turned) → part ≡ t → whole ≡ Some t) → (result : Result A E) → IfOk result (λ r. part ≡ seen r) → IfOk result (λ r. whole ≡ Some (seen r))
+    by_result : {A E : Type 0} (seen : A → ContainerTurn) (whole : Option ContainerTurn) (part : ContainerTurn) → ((t : ContainerTurn) → part ≡ t → whole ≡ Some t) → (result : Result A E) → IfOk result (λ r. part ≡ seen r) → IfOk result (λ r. whole ≡ Some (seen r))
     by_result seen whole part step (Ok r) is = step (seen r) is
     by_result seen whole part step (Err e) is = is

@@ -3,11 +3,11 @@ use Rattle.std.specs.Prelude.{IsSome, IfSome}
 use Rattle.std.specs.FinMap.{empty, get, remove}
 use Rattle.dt_procs.specs.declared.member.TheConstants.{FIRST_PID}
 use Rattle.dt_calls.specs.Container.{with_process}
-use Rattle.dt_calls.specs.InCode.{ContainerView, with_child_place, shared_of, effect_as, container_of, turned_as}
+use Rattle.dt_calls.specs.InCode.{ContainerView, with_child_place, shared_of, effect_as, container_of, container_turn_as}
 use Rattle.dt_calls.specs.declared.container.Served.TheVariants.{Blocked, Progress, Unsupported}
-use Rattle.dt_calls.specs.Settle.{settled_by, all_ended, ends, ends_shown}
+use Rattle.dt_calls.specs.Settle.{turn_by_outcome, is_end_of_all, shared_after_end, end_events}
 use Rattle.dt_calls.specs.Sound.{IsPaired, with_part}
-use Rattle.dt_calls.proofs.Settled.{kept-view, goes_on-lives, settle-kept, paired-kept, sound-kept, settle-ended, parts-kept, part-here, child-kept}
+use Rattle.dt_calls.proofs.Settled.{kept-view, served_of_living-lives, settle-kept, paired-kept, sound-kept, settle-ended, parts-kept, part-here, child-kept}
 use Rattle.dt_calls.proofs.container.Container.settle.Goals as goal
 
 pub finish-requires-clause-paired : goal.finish-requires-clause-paired
@@ -34,10 +34,10 @@ pub returns-in_ok-enter-in-Done-clause-ok : goal.returns-in_ok-enter-in-Done-cla
 returns-in_ok-enter-in-Done-clause-ok g c = λ m home.
     let new = kept-view _ c.args.self.now c.args.next c.args.own c.args.effect c.put.new.self _ c.self.view_is c.put.ensures c.in_ok-enter-in-Done.ensures in
     let s = shared_of c.args.self.now.shared (g.H.Host.view c.args.host.now) in
-    settle-kept c.args.self.now (g.H.Host.view c.args.host.now) c.args.next c.args.own m c.args.effect c.requires.number c.enter.new.self c.goes_on-goes_on.result home new
-    (ap (settled_by c.args.next c.args.own.caller.vpid (effect_as s c.args.own m c.args.effect)) c.in-Done.is
-    ∙ (λ i. record { shared = with_process s c.args.own; own = Some m; child = c.args.effect.child; events = c.args.effect.events.items; served = sym c.goes_on-goes_on.ensures i }))
-    (ap (λ r. all_ended c.args.own.caller.vpid r) c.goes_on-goes_on.ensures ∙ goes_on-lives c.args.own.caller.vpid c.args.next c.args.effect.child)
+    settle-kept c.args.self.now (g.H.Host.view c.args.host.now) c.args.next c.args.own m c.args.effect c.requires.number c.enter.new.self c.served_of_living-served_of_living.result home new
+    (ap (turn_by_outcome c.args.next c.args.own.caller.vpid (effect_as s c.args.own m c.args.effect)) c.in-Done.is
+    ∙ (λ i. record { shared = with_process s c.args.own; own = Some m; child = c.args.effect.child; events = c.args.effect.events.items; served = sym c.served_of_living-served_of_living.ensures i }))
+    (ap (λ r. is_end_of_all c.args.own.caller.vpid r) c.served_of_living-served_of_living.ensures ∙ served_of_living-lives c.args.own.caller.vpid c.args.next c.args.effect.child)
 
 pub returns-in_ok-enter-in-Done-clause-sound : goal.returns-in_ok-enter-in-Done-clause-sound
 returns-in_ok-enter-in-Done-clause-sound g c =
@@ -54,7 +54,7 @@ returns-in_ok-enter-in-Blocked-clause-ok g c = λ m home.
     let new = kept-view _ c.args.self.now c.args.next c.args.own c.args.effect c.put.new.self _ c.self.view_is c.put.ensures c.in_ok-enter-in-Blocked.ensures in
     let s = shared_of c.args.self.now.shared (g.H.Host.view c.args.host.now) in
     settle-kept c.args.self.now (g.H.Host.view c.args.host.now) c.args.next c.args.own m c.args.effect c.requires.number c.enter-in-Blocked.new.self Blocked home new
-    (ap (settled_by c.args.next c.args.own.caller.vpid (effect_as s c.args.own m c.args.effect)) c.in-Blocked.is
+    (ap (turn_by_outcome c.args.next c.args.own.caller.vpid (effect_as s c.args.own m c.args.effect)) c.in-Blocked.is
     ∙ refl)
     refl
 
@@ -73,7 +73,7 @@ returns-in_ok-enter-in-Progress-clause-ok g c = λ m home.
     let new = kept-view _ c.args.self.now c.args.next c.args.own c.args.effect c.put.new.self _ c.self.view_is c.put.ensures c.in_ok-enter-in-Progress.ensures in
     let s = shared_of c.args.self.now.shared (g.H.Host.view c.args.host.now) in
     settle-kept c.args.self.now (g.H.Host.view c.args.host.now) c.args.next c.args.own m c.args.effect c.requires.number c.enter-in-Progress.new.self Progress home new
-    (ap (settled_by c.args.next c.args.own.caller.vpid (effect_as s c.args.own m c.args.effect)) c.in-Progress.is
+    (ap (turn_by_outcome c.args.next c.args.own.caller.vpid (effect_as s c.args.own m c.args.effect)) c.in-Progress.is
     ∙ refl)
     refl
 
@@ -92,7 +92,7 @@ returns-in_ok-enter-in-Unsupported-clause-ok g c = λ m home.
     let new = kept-view _ c.args.self.now c.args.next c.args.own c.args.effect c.put.new.self _ c.self.view_is c.put.ensures c.in_ok-enter-in-Unsupported.ensures in
     let s = shared_of c.args.self.now.shared (g.H.Host.view c.args.host.now) in
     settle-kept c.args.self.now (g.H.Host.view c.args.host.now) c.args.next c.args.own m c.args.effect c.requires.number c.enter-in-Unsupported.new.self (Unsupported c.in-Unsupported.number) home new
-    (ap (settled_by c.args.next c.args.own.caller.vpid (effect_as s c.args.own m c.args.effect)) c.in-Unsupported.is
+    (ap (turn_by_outcome c.args.next c.args.own.caller.vpid (effect_as s c.args.own m c.args.effect)) c.in-Unsupported.is
     ∙ refl)
     refl
 
@@ -108,8 +108,8 @@ returns-in_ok-finish-in-Ends-clause-ok g c = λ m home.
     let places = ap (λ (v : ContainerView). v.places) c.self.view_is in
     let p = c.args.own.caller.vpid in
     settle-ended c.args.self.now w c.args.next c.args.own m c.args.effect c.requires.number c.finish.new.self (g.H.Host.view c.finish.new.host) c.in-Ends.end c.in-Ends.is
-    (c.in_ok-finish-in-Ends.ensures.shared ∙ ap (λ s. ends p c.in-Ends.end (shared_of s w)) put)
-    (c.in_ok-finish-in-Ends.ensures.events ∙ ap (λ s. c.args.effect.events.items ++ ends_shown p c.in-Ends.end (shared_of s w)) put)
+    (c.in_ok-finish-in-Ends.ensures.shared ∙ ap (λ s. shared_after_end p c.in-Ends.end (shared_of s w)) put)
+    (c.in_ok-finish-in-Ends.ensures.events ∙ ap (λ s. c.args.effect.events.items ++ end_events p c.in-Ends.end (shared_of s w)) put)
     (c.in_ok-finish-in-Ends.ensures.places ∙ ap (λ x. cond (p == FIRST_PID) empty (with_child_place (remove x p) c.args.next c.args.effect.child)) places)
     (c.in_ok-finish-in-Ends.ensures.next ∙ ap (λ s. s.pids.next) put)
-    ∙ (λ i. turned_as (container_of c.finish.new.self (g.H.Host.view c.finish.new.host)) (sym c.is_gone-is_gone.ensures i))
+    ∙ (λ i. container_turn_as (container_of c.finish.new.self (g.H.Host.view c.finish.new.host)) (sym c.served_of_ended-served_of_ended.ensures i))

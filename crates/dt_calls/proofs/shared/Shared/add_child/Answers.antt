@@ -5,7 +5,7 @@ use Rattle.dt_host.proofs.Spots.{IsLive-IsDir}
 use Rattle.dt_host.specs.World.{IsLive}
 use Rattle.dt_procs.specs.Members.{with_child}
 use Rattle.dt_procs.specs.Table.{members_of}
-use Rattle.dt_signals.specs.Signals.{forked}
+use Rattle.dt_signals.specs.Signals.{after_fork}
 use Rattle.dt_tree.specs.Table.{shape_of}
 use Rattle.dt_calls.specs.declared.shared.Shared.{Shared}
 use Rattle.dt_calls.specs.Clone.{child_process}
@@ -34,7 +34,7 @@ returns-in-Ok-clause-sound g c =
     let pid = c.in_ok-vpid.vpid in
     let vpid : pid ≡ next = c.in_ok-vpid.ensures.vpid in
     let child = child_process own pid in
-    let state = forked (signals_in shared.signals own.caller.vpid) in
+    let state = after_fork (signals_in shared.signals own.caller.vpid) in
     let new : Shared = record {
       fs = record shared.fs { tree = c.hold.new.self; files = c.share_all.new.self };
       pids = c.child.new.self;

@@ -4,7 +4,7 @@ use Rattle.std.specs.FinMap.{remove}
 use Rattle.dt_procs.specs.Table as procs
 use Rattle.dt_base.specs.declared.abi.TheConstants.{SIGCHLD}
 use Rattle.dt_calls.specs.declared.shared.Shared.{Shared}
-use Rattle.dt_calls.specs.Container.{raised_at}
+use Rattle.dt_calls.specs.Container.{signals_after_raise}
 use Rattle.dt_calls.specs.Sound.{IsSound}
 use Rattle.dt_calls.proofs.Signalled.{still-raised, still-removed}
 use Rattle.dt_calls.proofs.shared.Shared.end_one.Goals as goal
@@ -25,7 +25,7 @@ returns-clause-sound g c =
       fs = record left.fs { tree = c.release.new.self };
       pids = c.ended.new.self;
       processes = c.take.new.self;
-      signals = raised_at _ SIGCHLD states;
+      signals = signals_after_raise _ SIGCHLD states;
     } in
     subst (λ (s : Shared). IsSound s (g.H.Host.view c.release.new.host)) (sym c.raise.ensures.raised)
     (sound-ended old left new (g.H.Host.view c.args.host.now) (g.H.Host.view c.drop_all.new.host) (g.H.Host.view c.release.new.host) c.args.vpid c.process-own.result c.args.end

@@ -1,6 +1,6 @@
 use Rattle.std.proofs.Common.{◌≡◌, Some, None, cond, sym, ap, subst, ◌∙◌, arith}
 use Rattle.std.specs.FinMap.{get}
-use Rattle.dt_fds.specs.Descriptions.{Descriptions, slot_at, with_slot, freed, gone}
+use Rattle.dt_fds.specs.Descriptions.{Descriptions, slot_at, with_slot, without_slot, unreferenced}
 use Rattle.dt_fds.proofs.Counting.{open-there, open-limit, counts-freed, count-freed, refers_own, test-is, freed-is, counts-alike}
 use Rattle.dt_fds.proofs.descriptors.Descriptors.clear.Goals as goal
 
@@ -37,14 +37,14 @@ returns-clause-files c =
     (subst (λ f. slot_at f c.args.pid c.args.fd ≡ Some c.args.slot) at c.requires.here) in
     (λ i. record { descs = c.lower.ensures.descs i; tables = c.put_slot.ensures i; next = c.self.inside.next })
     ∙ freed-is old c.args.pid c.args.fd c.args.slot.number _ test
-    ∙ ap (λ f. freed f c.args.pid c.args.fd c.args.slot.number) c.self.view_is
+    ∙ ap (λ f. without_slot f c.args.pid c.args.fd c.args.slot.number) c.self.view_is
 
 pub returns-clause-gone : goal.returns-clause-gone
-unfolding slot_at gone with_slot
+unfolding slot_at unreferenced with_slot
 returns-clause-gone c =
     let at = sym c.self.view_is in
     let old : Descriptions = record { descs = c.self.inside.descs; tables = c.self.inside.tables; next = c.self.inside.next } in
     let test = test-is _ c.self.inside.counts old c.self.inside.next c.args.pid c.args.fd c.args.slot c.self.invariant
     (subst (λ f. slot_at f c.args.pid c.args.fd ≡ Some c.args.slot) at c.requires.here) in
     c.lower.ensures.gone ∙ ap (λ b. cond b (get old.descs c.args.slot.number) None) test
-    ∙ ap (λ f. gone (with_slot f c.args.pid c.args.fd None) c.args.slot.number) c.self.view_is
+    ∙ ap (λ f. unreferenced (with_slot f c.args.pid c.args.fd None) c.args.slot.number) c.self.view_is

@@ -1,7 +1,7 @@
 use Rattle.std.proofs.Common.{◌≡◌, None, Some, refl, sym, ap, subst, ◌∙◌}
 use Rattle.std.specs.Prelude.{Option, IsSome, IfSome, option_map}
 use Rattle.std.specs.FinMap.{get, insert}
-use Rattle.dt_tree.specs.Changes.{put_back}
+use Rattle.dt_tree.specs.Changes.{with_some}
 use Rattle.dt_fds.specs.declared.desc.Desc.{Desc}
 use Rattle.dt_fds.specs.Descriptions.{Descriptions, IsDesc, with_flags, with_description}
 use Rattle.dt_fds.specs.inner.Counts.{Counts}
@@ -34,7 +34,7 @@ returns-clause-files c = by_found (get c.self.inside.descs c.args.number) refl (
         → ◌≡◌ {A = Descriptions} (record { descs = c.put_flags.new.descs; tables = c.self.inside.tables; next = c.self.inside.next }) (with_description old c.args.number (with_flags c.args.append c.args.nonblock))
     by_found None e is new = cc
     by_found (Some desc) e is new = (λ i. record { descs = new i; tables = c.self.inside.tables; next = c.self.inside.next })
-        ∙ sym (ap (λ found. record old { descs = put_back c.self.inside.descs c.args.number (option_map (with_flags c.args.append c.args.nonblock) found) }) e)
+        ∙ sym (ap (λ found. record old { descs = with_some c.self.inside.descs c.args.number (option_map (with_flags c.args.append c.args.nonblock) found) }) e)
 
 pub returns-clause-nodes : goal.returns-clause-nodes
 returns-clause-nodes c = λ p. subst (KeepsNodes p c.args.self.now) (sym (returns-clause-files c)) (KeepsNodes-described p c.args.self.now (with_flags c.args.append c.args.nonblock) c.args.number (λ desc. refl))

@@ -1,5 +1,5 @@
 use Rattle.std.proofs.Common.{◌≡◌, Some, refl, sym, ap, subst, ◌∙◌}
-use Rattle.dt_fds.specs.Descriptions.{slot_at, duplicated, with_slot}
+use Rattle.dt_fds.specs.Descriptions.{slot_at, with_duplicate, with_slot}
 use Rattle.dt_fds.specs.Backs.{KeepsNodes}
 use Rattle.dt_fds.proofs.Counting.{open-there, open-limit, counts-marked, counts-alike, tables-same}
 use Rattle.dt_fds.proofs.Backing.{KeepsNodes-with_slot}
@@ -22,7 +22,7 @@ invariant_of-self c =
 
 pub returns-clause-files : goal.returns-clause-files
 unfolding with_slot
-returns-clause-files c = tables-same _ _ _ _ c.put_slot.ensures ∙ ap (λ f. duplicated f c.args.pid c.args.fd c.args.slot c.args.cloexec) c.self.view_is
+returns-clause-files c = tables-same _ _ _ _ c.put_slot.ensures ∙ ap (λ f. with_duplicate f c.args.pid c.args.fd c.args.slot c.args.cloexec) c.self.view_is
 
 pub returns-clause-nodes : goal.returns-clause-nodes
 returns-clause-nodes c = subst (KeepsNodes c.args.pid c.args.self.now) (sym (returns-clause-files c)) (KeepsNodes-with_slot c.args.self.now c.args.pid c.args.fd _)

@@ -1,6 +1,6 @@
 use Rattle.std.proofs.Common.{arith, ◌≡◌, ap, ◌∙◌}
 use Rattle.dt_fds.specs.declared.desc.TheConstants.{DESCRIPTOR_LIMIT}
-use Rattle.dt_fds.specs.Holding.{closed_below}
+use Rattle.dt_fds.specs.Holding.{without_descriptors_below}
 use Rattle.dt_fds.specs.Backs.{at, holding_at}
 use Rattle.dt_fds.proofs.Slots.{closed-next}
 use Rattle.dt_fds.proofs.Backing.{KeepsOthers-then}
@@ -21,7 +21,7 @@ pub returns : goal.returns
 returns g c =
     let all : c.loop-fd.fd ≡ DESCRIPTOR_LIMIT = omega (arith, c.loop-fd.auto.fd-end, c.loop-fd-test.false) in
     record {
-      made = c.loop-fd.invariant.made ∙ ap (λ n. closed_below c.args.pid n (holding_at (at c.args.self.now c.args.tree.now (g.H.Host.view c.args.host.now)))) all;
+      made = c.loop-fd.invariant.made ∙ ap (λ n. without_descriptors_below c.args.pid n (holding_at (at c.args.self.now c.args.tree.now (g.H.Host.view c.args.host.now)))) all;
       backed = c.loop-fd.invariant.backed;
       others = c.loop-fd.invariant.others;
       rest = c.loop-fd.invariant.rest;

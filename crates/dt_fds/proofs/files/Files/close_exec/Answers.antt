@@ -1,6 +1,6 @@
 use Rattle.std.proofs.Common.{arith, ◌≡◌, ap, ◌∙◌}
 use Rattle.dt_fds.specs.declared.desc.TheConstants.{DESCRIPTOR_LIMIT}
-use Rattle.dt_fds.specs.Holding.{marked_closed_below, closed_on_exec}
+use Rattle.dt_fds.specs.Holding.{without_cloexec_below, without_cloexec}
 use Rattle.dt_fds.specs.Backs.{at, holding_at}
 use Rattle.dt_fds.proofs.Slots.{marked-next}
 use Rattle.dt_fds.proofs.Backing.{KeepsOthers-then}
@@ -18,11 +18,11 @@ loop-fd-preserved g c =
     }
 
 pub returns : goal.returns
-unfolding closed_on_exec
+unfolding without_cloexec
 returns g c =
     let all : c.loop-fd.fd ≡ DESCRIPTOR_LIMIT = omega (arith, c.loop-fd.auto.fd-end, c.loop-fd-test.false) in
     record {
-      made = c.loop-fd.invariant.made ∙ ap (λ n. marked_closed_below c.args.pid n (holding_at (at c.args.self.now c.args.tree.now (g.H.Host.view c.args.host.now)))) all;
+      made = c.loop-fd.invariant.made ∙ ap (λ n. without_cloexec_below c.args.pid n (holding_at (at c.args.self.now c.args.tree.now (g.H.Host.view c.args.host.now)))) all;
       backed = c.loop-fd.invariant.backed;
       others = c.loop-fd.invariant.others;
       rest = c.loop-fd.invariant.rest;

@@ -1,5 +1,5 @@
 use Rattle.std.proofs.Common.{◌≡◌}
-use Rattle.dt_fds.specs.Holding.{marked_closed_below}
+use Rattle.dt_fds.specs.Holding.{without_cloexec_below}
 use Rattle.dt_fds.specs.Backs.{OnlyFiles, IsBacked, KeepsOthers, at, holding_at}
 use Rattle.dt_fds.proofs.Backing.{Kept}
 use Rattle.dt_fds.proofs.files.Files.close_exec.Given as goal
@@ -9,4 +9,4 @@ abbrev pub invariant-loop-fd : goal.invariant-loop-fd
 invariant-loop-fd g l =
     let old = holding_at (at l.fn.self l.fn.tree (g.H.Host.view l.fn.host)) in
     let now = holding_at (at l.self l.tree (g.H.Host.view l.host)) in
-    Kept (now ≡ marked_closed_below l.pid l.fd old) (IsBacked (at l.self l.tree (g.H.Host.view l.host))) (KeepsOthers l.pid old now) (OnlyFiles (g.H.Host.view l.fn.host) (g.H.Host.view l.host)) (g.H.Host.count l.fn.host) (g.H.Host.count l.host)
+    Kept (now ≡ without_cloexec_below l.pid l.fd old) (IsBacked (at l.self l.tree (g.H.Host.view l.host))) (KeepsOthers l.pid old now) (OnlyFiles (g.H.Host.view l.fn.host) (g.H.Host.view l.host)) (g.H.Host.count l.fn.host) (g.H.Host.count l.host)

@@ -7,8 +7,8 @@ use Rattle.dt_pipes.specs.Table.{pipes_of}
 use Rattle.dt_pipes.proofs.Held.{has-pipes_of}
 use Rattle.dt_fds.specs.Descriptions.{description_at, writers}
 use Rattle.dt_fds.specs.OpenFiles.{pipes_at}
-use Rattle.dt_fds.specs.Pipes.{pipe_content, with_pipe_content, none_held}
-use Rattle.dt_fds.specs.Holding.{over, done, pipe_read_call, bytes_read}
+use Rattle.dt_fds.specs.Pipes.{pipe_content, with_pipe_content, empty_read_flow}
+use Rattle.dt_fds.specs.Holding.{holding_of, files_answer, pipe_read_call, bytes_read}
 use Rattle.dt_fds.specs.declared.flow.Flow.TheVariants.{Moved}
 use Rattle.dt_fds.specs.Backs.{at, holding_at}
 use Rattle.dt_fds.proofs.Ending.{of-described, read-there, read-by, held-by}
@@ -41,7 +41,7 @@ returns-then-held-eq0-clause-bytes g c = λ table.
     let held = held-by h found c.in-Some.q c.in-Some.nonblock (sym c.in-Some.ensures) in
     let count = c.held.ensures.count world.pipes c.requires.stands in
     let none : c.held.result ≡ 0 = grind (arith, nat_tests) in
-    if_ok c.none_held.result (nothing-came (length c.args.buf.now) _ c.args.buf.now (ap length held ∙ sym count ∙ none))
+    if_ok c.empty_read_flow.result (nothing-came (length c.args.buf.now) _ c.args.buf.now (ap length held ∙ sym count ∙ none))
 
 pub returns-clause-bytes : goal.returns-clause-bytes
 unfolding bytes_read
@@ -60,7 +60,7 @@ unfolding pipe_read_call
 returns-clause-call g c = λ t.
     let f = c.args.self.now in
     let world = g.H.Host.view c.args.host.now in
-    let h = over t (pipes_at f world.pipes) f.descriptors in
+    let h = holding_of t (pipes_at f world.pipes) f.descriptors in
     let found = description_at f.descriptors c.args.pid c.args.fd in
     let q = c.in-Some.q in
     let bytes = pipe_content h.pipes q in
@@ -71,8 +71,8 @@ returns-clause-call g c = λ t.
     let most = min (length c.args.buf.now) (length bytes) in
     let contents = takes.left ∙ ap (λ n. insert (pipes_of f.pipes world.pipes) q (drop n bytes)) takes.most in
     read-by h (length c.args.buf.now) found q c.in-Some.nonblock (sym c.in-Some.ensures)
-    ∙ ap (λ b. if b then record { answer = none_held (writers f.descriptors q) c.in-Some.nonblock; next = h } else done (record h { pipes = with_pipe_content h.pipes q (drop most bytes) }) (Moved most)) some
-    ∙ (λ i. record { answer = Ok (Moved (sym takes.most i)); next = over t (record { contents = sym contents i; next = sym took.next i }) f.descriptors })
+    ∙ ap (λ b. if b then record { answer = empty_read_flow (writers f.descriptors q) c.in-Some.nonblock; next = h } else files_answer (record h { pipes = with_pipe_content h.pipes q (drop most bytes) }) (Moved most)) some
+    ∙ (λ i. record { answer = Ok (Moved (sym takes.most i)); next = holding_of t (record { contents = sym contents i; next = sym took.next i }) f.descriptors })
 
 pub returns-clause-makes : goal.returns-clause-makes
 returns-clause-makes g c = λ table backed.

@@ -7,8 +7,8 @@ use Rattle.dt_pipes.specs.Table.{pipes_of}
 use Rattle.dt_pipes.proofs.Held.{has-pipes_of}
 use Rattle.dt_fds.specs.Descriptions.{description_at, readers}
 use Rattle.dt_fds.specs.OpenFiles.{pipes_at}
-use Rattle.dt_fds.specs.Pipes.{pipe_content, goes, write_flow}
-use Rattle.dt_fds.specs.Holding.{over, done, write_on, pipe_write_call}
+use Rattle.dt_fds.specs.Pipes.{pipe_content, transfer_count, write_flow}
+use Rattle.dt_fds.specs.Holding.{holding_of, files_answer, write_to_read_pipe, pipe_write_call}
 use Rattle.dt_fds.specs.declared.flow.Flow.TheVariants.{Broken}
 use Rattle.dt_fds.proofs.Ending.{of-described, write-there, write-by, none-if}
 use Rattle.dt_fds.proofs.Moving.{goes-left, goes-room, held-within, moves-read}
@@ -44,7 +44,7 @@ unfolding pipe_write_call
 returns-clause-call g c = λ t bytes sized part.
     let f = c.args.self.now in
     let world = g.H.Host.view c.args.host.now in
-    let h = over t (pipes_at f world.pipes) f.descriptors in
+    let h = holding_of t (pipes_at f world.pipes) f.descriptors in
     let found = description_at f.descriptors c.args.pid c.args.fd in
     let q = c.in-Some.q in
     let nonblock = c.in-Some.nonblock in
@@ -56,10 +56,10 @@ returns-clause-call g c = λ t bytes sized part.
     let read : (readers f.descriptors q == 0) ≡ false = none-if (readers f.descriptors q) _ (c.requires.piped.counted.reading q) ∙ ap not (sym c.is_read.ensures ∙ c.if-not-is_read.false) in
     let moved = c.requires.moves ∙ moves-read f world.pipes c.args.pid c.args.fd whole c.args.done q nonblock c.requires.piped (sym c.in-Some.ensures) (sym c.is_read.ensures ∙ c.if-not-is_read.false) in
     does-as answer c.write_flow.result _ _ c.write_flow.ensures (write-by h bytes c.args.done found q nonblock (sym c.in-Some.ensures)
-    ∙ ap (λ b. if b then done h (Broken c.args.done) else write_on h nonblock bytes c.args.done q) read
+    ∙ ap (λ b. if b then files_answer h (Broken c.args.done) else write_to_read_pipe h nonblock bytes c.args.done q) read
     ∙ ap (λ n. record {
-      answer = write_flow n c.args.done (goes (length old) n c.args.done) nonblock;
-      next = record h { pipes = record h.pipes { contents = insert (pipes_of f.pipes world.pipes) q (old ++ take (goes (length old) n c.args.done) (drop c.args.done bytes)) } };
+      answer = write_flow n c.args.done (transfer_count (length old) n c.args.done) nonblock;
+      next = record h { pipes = record h.pipes { contents = insert (pipes_of f.pipes world.pipes) q (old ++ take (transfer_count (length old) n c.args.done) (drop c.args.done bytes)) } };
     }) sized
     ∙ ap (λ n. record {
       answer = write_flow whole c.args.done n nonblock;
@@ -69,7 +69,7 @@ returns-clause-call g c = λ t bytes sized part.
       answer = answer;
       next = record h { pipes = record h.pipes { contents = insert (pipes_of f.pipes world.pipes) q (old ++ part i) } };
     })
-    ∙ (λ i. record { answer = answer; next = over t (record { contents = sym put.pipes i; next = sym put.next i }) f.descriptors }))
+    ∙ (λ i. record { answer = answer; next = holding_of t (record { contents = sym put.pipes i; next = sym put.next i }) f.descriptors }))
 
 pub returns-clause-makes : goal.returns-clause-makes
 returns-clause-makes g c = λ table bytes backed sized part.

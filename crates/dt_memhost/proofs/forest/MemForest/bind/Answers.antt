@@ -5,7 +5,7 @@ use Rattle.std.specs.FinMap.{get, insert}
 use Rattle.dt_host.proofs.Outcomes.{on_both}
 use Rattle.dt_host.specs.World.{dir, dir_names, IsDir, entry}
 use Rattle.dt_memhost.specs.inner.Node.{node_in, order_in}
-use Rattle.dt_memhost.specs.inner.Forest.{Ordered, HasSizes, bound}
+use Rattle.dt_memhost.specs.inner.Forest.{OrderedForest, HasSizes, with_binding}
 use Rattle.dt_memhost.proofs.Forests.{ordered_of, by_outcome, entry-forest_of, dir_at-forest_of, entry_put, nothing_changed}
 use Rattle.dt_memhost.proofs.Sizes.{HasSizes-bound}
 use Rattle.dt_memhost.proofs.forest.MemForest.bind.Goals as goal
@@ -23,16 +23,16 @@ on_err_both (Err e) f p q = f p q
 pub bind-requires : goal.bind-requires
 bind-requires c =
     let nodes = c.self.inside.nodes in
-    let none = subst (λ (o : Ordered). entry o.forest c.args.dir c.args.name.now ≡ None) (sym c.self.view_is) c.requires.unnamed in
+    let none = subst (λ (o : OrderedForest). entry o.forest c.args.dir c.args.name.now ≡ None) (sym c.self.view_is) c.requires.unnamed in
     let unnamed : option_and_then (λ names. get names c.in_ok-name.name.items) (option_and_then dir_names (node_in nodes c.args.dir)) ≡ None =
     rw c.in_ok-name.ensures.items (sym (entry-forest_of nodes c.self.inside.root c.args.dir c.args.name.now) ∙ none) in
     unnamed
 
 is_dir : (c : goal.After-bind) → IsDir (ordered_of c.self.inside.nodes c.self.inside.root).forest c.args.dir
-is_dir c = subst (λ (o : Ordered). IsDir o.forest c.args.dir) (sym c.self.view_is) c.requires.directory
+is_dir c = subst (λ (o : OrderedForest). IsDir o.forest c.args.dir) (sym c.self.view_is) c.requires.directory
 
 -- the entry was added
-added : (c : goal.After-bind) → OnOk c.bind.result (ordered_of c.bind.new.nodes c.self.inside.root ≡ bound (ordered_of c.self.inside.nodes c.self.inside.root) c.args.dir c.args.name.now c.args.number)
+added : (c : goal.After-bind) → OnOk c.bind.result (ordered_of c.bind.new.nodes c.self.inside.root ≡ with_binding (ordered_of c.self.inside.nodes c.self.inside.root) c.args.dir c.args.name.now c.args.number)
 added c =
     let old = c.self.inside.nodes in
     let root = c.self.inside.root in

@@ -1,6 +1,6 @@
 use Rattle.std.specs.Prelude.{string_bytes, vec_items}
 use Rattle.std.specs.Cmp.Lexicographic.{nat_list_cmp_total}
-use Rattle.dt_host.proofs.MapOf.{map_of-nil}
+use Rattle.dt_tables.proofs.MapOf.{map_of-nil}
 use Rattle.dt_memhost.proofs.store.MemStore.new.Goals as goal
 
 pub returns : goal.returns

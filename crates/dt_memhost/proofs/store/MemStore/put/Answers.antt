@@ -2,9 +2,9 @@ use Rattle.std.proofs.Common.{ap, ◌∙◌}
 use Rattle.std.specs.Prelude.{string_bytes, vec_items}
 use Rattle.std.specs.Cmp.Lexicographic.{nat_list_cmp_total}
 use Rattle.std.specs.FinMap.{insert}
-use Rattle.dt_host.proofs.Maps.{names_tie}
-use Rattle.dt_host.proofs.MapOf.{map_of-insert_entry}
-use Rattle.dt_host.specs.Entries.{map_of}
+use Rattle.dt_tables.proofs.Maps.{names_tie}
+use Rattle.dt_tables.proofs.MapOf.{map_of-insert_entry}
+use Rattle.dt_tables.specs.Entries.{map_of}
 use Rattle.dt_memhost.proofs.store.MemStore.put.Goals as goal
 
 pub returns-clause-ok : goal.returns-clause-ok

@@ -5,6 +5,6 @@ use Rattle.dt_procs.proofs.pids.Pids.add.Goals as goal
 
 pub returns-clause-stands : goal.returns-clause-stands
 returns-clause-stands g c =
-    stands-added c.args.self.now c.self.inside.rows.items _ (record { real = c.in_ok-real.real; member = c.new.result })
+    stands-added c.args.self.now c.self.inside.rows.items _ (record { host_pid = c.in_ok-host_pid.host_pid; member = c.new.result })
     c.self.inside.next _ _ _ c.self.view_is c.in_ok-push.ensures.items c.requires.stands
-    c.in_ok-real.ensures.legal.free (ap (λ (w : World). w.pids) c.in_ok-real.ensures.legal.made)
+    c.in_ok-host_pid.ensures.legal.free (ap (λ (w : World). w.pids) c.in_ok-host_pid.ensures.legal.made)

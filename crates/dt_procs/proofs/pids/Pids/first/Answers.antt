@@ -5,5 +5,5 @@ use Rattle.dt_procs.proofs.pids.Pids.first.Goals as goal
 
 pub returns-clause-stands : goal.returns-clause-stands
 returns-clause-stands g c =
-    stands-first _ _ (record { real = c.in_ok-real.real; member = c.new.result }) 2 _ _ c.new-rows.ensures.items
-    c.in_ok-push.ensures.items c.requires.no_pids (ap (λ (w : World). w.pids) c.in_ok-real.ensures.legal.made)
+    stands-first _ _ (record { host_pid = c.in_ok-host_pid.host_pid; member = c.new.result }) 2 _ _ c.new-rows.ensures.items
+    c.in_ok-push.ensures.items c.requires.no_pids (ap (λ (w : World). w.pids) c.in_ok-host_pid.ensures.legal.made)

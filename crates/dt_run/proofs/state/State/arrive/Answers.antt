@@ -1,10 +1,10 @@
 use Rattle.std.proofs.Common.{◌≡◌, sym, ap, subst, ◌∙◌}
 use Rattle.std.specs.List.{slice_index_or}
 use Rattle.std.specs.FinMap.{insert}
-use Rattle.dt_sched.specs.Core.{arrived}
+use Rattle.dt_sched.specs.Core.{core_after_arrival}
 use Rattle.dt_run.specs.declared.phase.Phase.TheVariants.{Ran}
 use Rattle.dt_run.specs.declared.state.State.{State as StateInCode}
-use Rattle.dt_run.specs.Ahead.{ran}
+use Rattle.dt_run.specs.Ahead.{with_segment_of}
 use Rattle.dt_run.specs.inner.InCode.{state_of}
 use Rattle.dt_run.proofs.Arriving.{run-counts, owed, owed-held, has_arrived, was_there, arrive-ran, arrive-good, arrive-sound, arrive-smaller}
 use Rattle.dt_run.proofs.state.State.arrive.Goals as goal
@@ -28,10 +28,10 @@ returns-clause-ran c = λ w.
     let at = ap (λ pids. slice_index_or pids c.args.index 0) c.owing.ensures.order in
     let h = owed s vpid c.requires.good (owed-held s c.args.index vpid c.requires.owing at) in
     let run = c.in_ok-seg.ensures.run in
-    subst (λ p. state_of new w ≡ ran p (state_of s w)) at
+    subst (λ p. state_of new w ≡ with_segment_of p (state_of s w)) at
     (arrive-ran s w vpid run.was run.now seg new (was_there s vpid seg _ run) h.owes run.run
     (has_arrived s vpid seg new run c.in_ok-seg.ensures.rest
-    (c.arrived.ensures ∙ ap (λ p. arrived p seg.count s.core) (sym at))
+    (c.arrived.ensures ∙ ap (λ p. core_after_arrival p seg.count s.core) (sym at))
     (c.in_ok-put.ensures.ok ∙ ap (λ n. insert s.phases n (Ran seg)) c.from.ensures)))
 
 pub returns-clause-good : goal.returns-clause-good
@@ -45,7 +45,7 @@ returns-clause-good c =
     let run = c.in_ok-seg.ensures.run in
     arrive-good s vpid run.now seg new c.requires.good h.given
     (has_arrived s vpid seg new run c.in_ok-seg.ensures.rest
-    (c.arrived.ensures ∙ ap (λ p. arrived p seg.count s.core) (sym at))
+    (c.arrived.ensures ∙ ap (λ p. core_after_arrival p seg.count s.core) (sym at))
     (c.in_ok-put.ensures.ok ∙ ap (λ n. insert s.phases n (Ran seg)) c.from.ensures))
 
 pub returns-clause-sound : goal.returns-clause-sound
@@ -59,7 +59,7 @@ returns-clause-sound c = λ w sound.
     let run = c.in_ok-seg.ensures.run in
     arrive-sound s w vpid run.now seg new h.home
     (has_arrived s vpid seg new run c.in_ok-seg.ensures.rest
-    (c.arrived.ensures ∙ ap (λ p. arrived p seg.count s.core) (sym at))
+    (c.arrived.ensures ∙ ap (λ p. core_after_arrival p seg.count s.core) (sym at))
     (c.in_ok-put.ensures.ok ∙ ap (λ n. insert s.phases n (Ran seg)) c.from.ensures)) sound
 
 pub returns-clause-smaller : goal.returns-clause-smaller
@@ -68,4 +68,4 @@ returns-clause-smaller c =
     let vpid = slice_index_or c.owing.result.now c.args.index 0 in
     let at = ap (λ pids. slice_index_or pids c.args.index 0) c.owing.ensures.order in
     arrive-smaller s.core c.arrived.new.self vpid c.in_ok-seg.seg.count (owed-held s c.args.index vpid c.requires.owing at)
-    (c.arrived.ensures ∙ ap (λ p. arrived p c.in_ok-seg.seg.count s.core) (sym at))
+    (c.arrived.ensures ∙ ap (λ p. core_after_arrival p c.in_ok-seg.seg.count s.core) (sym at))

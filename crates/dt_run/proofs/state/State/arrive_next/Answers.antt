@@ -1,5 +1,5 @@
 use Rattle.std.proofs.Common.{ap, ◌∙◌}
-use Rattle.dt_run.specs.Ahead.{ahead}
+use Rattle.dt_run.specs.Ahead.{with_all_segments}
 use Rattle.dt_run.specs.inner.InCode.{state_of}
 use Rattle.dt_run.proofs.Aheads.{ran-ahead}
 use Rattle.dt_run.proofs.state.State.arrive_next.Goals as goal
@@ -7,6 +7,6 @@ use Rattle.dt_run.proofs.state.State.arrive_next.Goals as goal
 pub returns-clause-alike : goal.returns-clause-alike
 returns-clause-alike g c =
     let now = g.H.Host.view c.next_stop.new.self in
-    ap ahead (c.in_ok-arrive.ensures.ran now)
+    ap with_all_segments (c.in_ok-arrive.ensures.ran now)
     ∙ ran-ahead _ (state_of c.args.self.now now)
-    ∙ ap (λ w. ahead (state_of c.args.self.now w)) c.next_stop.ensures.stays
+    ∙ ap (λ w. with_all_segments (state_of c.args.self.now w)) c.next_stop.ensures.stays

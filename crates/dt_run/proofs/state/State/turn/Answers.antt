@@ -16,7 +16,7 @@ settle-requires-clause-room g c =
     let now = g.H.Host.view c.serve_phase.new.host in
     let h = came c.args.self.now before c.args.vpid c.serve_phase.new.container now c.in_ok-served.served c.phase-phase.result
     c.requires.good c.requires.core c.requires.ready c.phase-phase.ensures c.in_ok-served.ensures.ok in
-    subst (λ t. IsTrue (has_room c.args.self.now.core.queue t)) (sym c.told.ensures)
+    subst (λ t. IsTrue (has_room c.args.self.now.core.queue t)) (sym c.settled_of.ensures)
     (room-came c.args.self.now before c.args.vpid c.serve_phase.new.container now c.in_ok-served.served h c.in_ok-served.ensures.sound)
 
 pub returns-clause-ok : goal.returns-clause-ok
@@ -28,8 +28,8 @@ returns-clause-ok g c =
     turn-has c.args.self.now before c.args.vpid c.serve_phase.new.container now c.in_ok-served.served h _
     (record {
       container = c.take_events.ensures.rest;
-      told_so = c.told.result;
-      told_is = c.told.ensures;
+      told_so = c.settled_of.result;
+      told_is = c.settled_of.ensures;
       core = c.settle.ensures.core;
       phases = c.note.ensures;
     })
@@ -44,13 +44,13 @@ returns-clause-good g c =
     good-has c.args.self.now before c.args.vpid c.serve_phase.new.container now c.in_ok-served.served h _
     (record {
       container = c.take_events.ensures.rest;
-      told_so = c.told.result;
-      told_is = c.told.ensures;
+      told_so = c.settled_of.result;
+      told_is = c.settled_of.ensures;
       core = c.settle.ensures.core;
       phases = c.note.ensures;
     })
 
 pub returns-clause-smaller : goal.returns-clause-smaller
 returns-clause-smaller g c =
-    steps-came c.args.self.now.core c.settle.new.self c.args.vpid c.told.result
+    steps-came c.args.self.now.core c.settle.new.self c.args.vpid c.settled_of.result
     c.requires.core c.requires.ready c.settle.ensures.core c.settle.ensures.falls

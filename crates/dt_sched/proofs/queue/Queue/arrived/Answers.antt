@@ -1,6 +1,6 @@
 use Rattle.std.proofs.Common.{map, ap, ◌∙◌, arith}
 use Rattle.std.specs.List.{slice_index_or}
-use Rattle.dt_sched.specs.Core.{owing, arrived_at}
+use Rattle.dt_sched.specs.Core.{owing_vpids, process_after_arrival}
 use Rattle.dt_sched.proofs.Tables.{index-there, place-there, arrived-there, table-arrived}
 use Rattle.dt_sched.proofs.queue.Queue.arrived.Goals as goal
 
@@ -32,4 +32,4 @@ pub returns : goal.returns
 returns c =
     arrived-there c.args.index c.remove-at.result c.args.cost _ _ _ _ c.index_mut.result.now c.self.invariant.table
     c.self.view_is c.requires c.remove-at.ensures.value c.index_mut.ensures.value
-    ∙ ap (λ queue. map (arrived_at (slice_index_or (owing queue) c.args.index 0) c.args.cost) queue) c.self.view_is
+    ∙ ap (λ queue. map (process_after_arrival (slice_index_or (owing_vpids queue) c.args.index 0) c.args.cost) queue) c.self.view_is

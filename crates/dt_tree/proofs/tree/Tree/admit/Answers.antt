@@ -1,8 +1,8 @@
 use Rattle.std.proofs.Common.{◌+◌, ℕ, ap, ◌∙◌}
 use Rattle.std.specs.Cmp.{nat_cmp_total}
 use Rattle.std.specs.FinMap.{nat_cmp-IsAntisymmetric}
-use Rattle.dt_host.specs.Entries.{map_of}
-use Rattle.dt_host.proofs.MapOf.{map_of-insert_entry}
+use Rattle.dt_tables.specs.Entries.{map_of}
+use Rattle.dt_tables.proofs.MapOf.{map_of-insert_entry}
 use Rattle.dt_tree.specs.declared.inode.Inode.{Inode}
 use Rattle.dt_tree.proofs.tree.Tree.admit.Goals as goal
 

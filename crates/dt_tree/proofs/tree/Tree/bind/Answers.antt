@@ -1,7 +1,7 @@
 use Rattle.std.proofs.Common.{arith, ◌≡◌, ◌+◌, Some, sym, ap, subst, ◌∙◌}
 use Rattle.dt_host.specs.World.{with_entry}
 use Rattle.dt_tree.specs.declared.inode.Inode.{Inode}
-use Rattle.dt_tree.specs.Table.{shape_of, tree_of, Mirrors}
+use Rattle.dt_tree.specs.Table.{shape_of, tree_of, IsMirror}
 use Rattle.dt_tree.specs.inner.Tables.{with_inode, with_names}
 use Rattle.dt_tree.specs.Changes.{with_shape}
 use Rattle.dt_tree.proofs.Namings.{names_of-le}
@@ -38,8 +38,8 @@ returns-clause-mirrors g c =
     let kept : Inode = record c.inode-inode.result { names = c.inode-inode.result.names + 1; up = Some c.args.dir } in
     let after : c.set_names.new.self ≡ with_names (with_inode c.args.self.now c.args.n kept) (c.args.self.now.names + 1) =
     c.set_names.ensures ∙ ap (λ t. with_names t (c.names-names.result + 1)) c.set.ensures ∙ ap (λ k. with_names (with_inode c.args.self.now c.args.n kept) (k + 1)) c.names-names.ensures in
-    subst (λ t. Mirrors t (g.H.Host.view c.bind.new.self).forest) (sym after)
-    (subst (λ w. Mirrors (with_names (with_inode c.args.self.now c.args.n kept) (c.args.self.now.names + 1)) w.forest) (sym c.in_ok-bind.ensures.legal)
+    subst (λ t. IsMirror t (g.H.Host.view c.bind.new.self).forest) (sym after)
+    (subst (λ w. IsMirror (with_names (with_inode c.args.self.now c.args.n kept) (c.args.self.now.names + 1)) w.forest) (sym c.in_ok-bind.ensures.legal)
     (mirrors-named _ _ _ _ _ _ _ c.requires.mirrors c.inode.ensures c.inode-inode.ensures c.requires.directory c.requires.free))
 
 pub returns-clause-tree : goal.returns-clause-tree

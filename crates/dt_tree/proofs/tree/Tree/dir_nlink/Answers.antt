@@ -14,4 +14,4 @@ returns-then-is_removed-clause-ok g c =
 pub returns-clause-ok : goal.returns-clause-ok
 returns-clause-ok g c =
     let v = (g.H.Host.view c.args.host.now).forest in
-    ap (λ n. 2 + n) c.in_ok-subdirectories.ensures.ok ∙ sym (nlink_of-there _ _ c.requires.directory (sym (c.is_removed.ensures v c.requires.stands) ∙ c.if-is_removed.false))
+    ap (λ n. 2 + n) c.in_ok-count_subdirectories.ensures.ok ∙ sym (nlink_of-there _ _ c.requires.directory (sym (c.is_removed.ensures v c.requires.stands) ∙ c.if-is_removed.false))

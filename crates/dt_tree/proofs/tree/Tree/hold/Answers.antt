@@ -1,7 +1,7 @@
 use Rattle.std.proofs.Common.{◌+◌, refl, sym, ap, subst, ◌∙◌}
 use Rattle.dt_tree.specs.FileTree.{IsTree}
-use Rattle.dt_tree.specs.Changes.{one_more}
-use Rattle.dt_tree.specs.Table.{tree_of, Mirrors}
+use Rattle.dt_tree.specs.Changes.{attributes_with_hold}
+use Rattle.dt_tree.specs.Table.{tree_of, IsMirror}
 use Rattle.dt_tree.proofs.Mirroring.{has_inode}
 use Rattle.dt_tree.proofs.Linked.{mirrors-changed, tree-changed}
 use Rattle.dt_tree.proofs.Calling.{IsTree-held}
@@ -14,13 +14,13 @@ pub returns-clause-tree : goal.returns-clause-tree
 returns-clause-tree g c =
     let v = (g.H.Host.view c.args.host.now).forest in
     ap (λ t. tree_of t v) c.set.ensures
-    ∙ tree-changed c.args.self.now v c.args.vino c.inode-inode.result (record c.inode-inode.result { holds = c.inode-inode.result.holds + 1 }) one_more c.requires.stands.mirrors c.inode-inode.ensures refl refl refl refl refl
+    ∙ tree-changed c.args.self.now v c.args.vino c.inode-inode.result (record c.inode-inode.result { holds = c.inode-inode.result.holds + 1 }) attributes_with_hold c.requires.stands.mirrors c.inode-inode.ensures refl refl refl refl refl
 
 pub returns-clause-stands : goal.returns-clause-stands
 returns-clause-stands g c =
     let v = (g.H.Host.view c.args.host.now).forest in
-    let after = ap (λ t. tree_of t v) c.set.ensures ∙ tree-changed c.args.self.now v c.args.vino c.inode-inode.result (record c.inode-inode.result { holds = c.inode-inode.result.holds + 1 }) one_more c.requires.stands.mirrors c.inode-inode.ensures refl refl refl refl refl in
+    let after = ap (λ t. tree_of t v) c.set.ensures ∙ tree-changed c.args.self.now v c.args.vino c.inode-inode.result (record c.inode-inode.result { holds = c.inode-inode.result.holds + 1 }) attributes_with_hold c.requires.stands.mirrors c.inode-inode.ensures refl refl refl refl refl in
     record {
-      mirrors = subst (λ t. Mirrors t v) (sym c.set.ensures) (mirrors-changed c.args.self.now v c.args.vino c.inode-inode.result (record c.inode-inode.result { holds = c.inode-inode.result.holds + 1 }) one_more c.requires.stands.mirrors c.inode-inode.ensures refl refl refl refl refl);
+      mirrors = subst (λ t. IsMirror t v) (sym c.set.ensures) (mirrors-changed c.args.self.now v c.args.vino c.inode-inode.result (record c.inode-inode.result { holds = c.inode-inode.result.holds + 1 }) attributes_with_hold c.requires.stands.mirrors c.inode-inode.ensures refl refl refl refl refl);
       tree = subst IsTree (sym after) (IsTree-held (tree_of c.args.self.now v) c.args.vino c.requires.stands.tree);
     }

@@ -8,9 +8,9 @@ use Rattle.dt_host.proofs.Pipes.{forest-then}
 use Rattle.dt_tree.specs.FileTree.{FileTree}
 use Rattle.dt_tree.specs.ImageTree.{image_tree, last_name}
 use Rattle.dt_tree.specs.Table.{tree_of}
-use Rattle.dt_tree.specs.Changes.{new_node, created}
+use Rattle.dt_tree.specs.Changes.{new_node, tree_with_new}
 use Rattle.dt_tree.specs.inner.Created.{MayCreate}
-use Rattle.dt_tree.specs.inner.Places.{LeadsTo}
+use Rattle.dt_tree.specs.inner.Places.{IsInodeOfPath}
 use Rattle.dt_tree.proofs.Starting.{image_tree-nil, one_node}
 use Rattle.dt_tree.proofs.Trees.{len-created}
 use Rattle.dt_tree.proofs.Installing.{may, more}
@@ -33,7 +33,7 @@ create-requires-clause-may g c =
     let entries = c.entries-entries.result.now in
     let is = subst IsImage (sym c.entries-entries.ensures.entries) c.entries-entries.ensures.good in
     let at = slice_get_read entries (length entries) c.loop-entry.entry-index c.entry-item.result refl (omega arith) c.entry-item.is in
-    let leads = subst (λ p. LeadsTo entries p c.inode_at-dir.result) (c.split_path.ensures.parent ∙ ap parent_of c.as_slice.ensures) c.inode_at-dir.ensures in
+    let leads = subst (λ p. IsInodeOfPath entries p c.inode_at-dir.result) (c.split_path.ensures.parent ∙ ap parent_of c.as_slice.ensures) c.inode_at-dir.ensures in
     let t = tree_of c.loop-entry.self (g.H.Host.view c.loop-entry.host).forest in
     subst (λ name. MayCreate t c.inode_at-dir.result name c.entry-item.result.what c.entry-item.result.mode) (sym (c.split_path.ensures.name ∙ ap last_name c.as_slice.ensures))
     (may entries is c.loop-entry.entry-index c.entry-item.result at c.inode_at-dir.result leads t c.loop-entry.invariant.tree c.loop-entry.invariant.stands.tree c.loop-entry.invariant.nodes)
@@ -45,18 +45,18 @@ loop-entry-preserved g c =
     let n = c.inode_at-dir.result in
     let is = subst IsImage (sym c.entries-entries.ensures.entries) c.entries-entries.ensures.good in
     let at = slice_get_read entries (length entries) c.loop-entry.entry-index e refl (omega arith) c.entry-item.is in
-    let leads = subst (λ p. LeadsTo entries p n) (c.split_path.ensures.parent ∙ ap parent_of c.as_slice.ensures) c.inode_at-dir.ensures in
+    let leads = subst (λ p. IsInodeOfPath entries p n) (c.split_path.ensures.parent ∙ ap parent_of c.as_slice.ensures) c.inode_at-dir.ensures in
     let t = tree_of c.loop-entry.self (g.H.Host.view c.loop-entry.host).forest in
     let s = c.loop-entry.invariant.stands.tree in
     let can = may entries is c.loop-entry.entry-index e at n leads t c.loop-entry.invariant.tree s c.loop-entry.invariant.nodes in
-    let after : tree_of c.create.new.self (g.H.Host.view c.create.new.host).forest ≡ created t n (last_name e.path) (new_node e.what) e.mode 0 =
-    c.in_ok-create.ensures.tree ∙ ap (λ name. created t n name (new_node e.what) e.mode 0) (c.split_path.ensures.name ∙ ap last_name c.as_slice.ensures) in
+    let after : tree_of c.create.new.self (g.H.Host.view c.create.new.host).forest ≡ tree_with_new t n (last_name e.path) (new_node e.what) e.mode 0 =
+    c.in_ok-create.ensures.tree ∙ ap (λ name. tree_with_new t n name (new_node e.what) e.mode 0) (c.split_path.ensures.name ∙ ap last_name c.as_slice.ensures) in
     let nodes = ap (λ (t : FileTree). len t.shape.nodes) after ∙ len-created t n (last_name e.path) e.what e.mode 0 s can in
     record {
       later = omega (arith, c.create.ensures.cause.later, c.loop-entry.invariant.later);
       rest = forest-then c.create.ensures.rest c.loop-entry.invariant.rest;
       stands = c.in_ok-create.ensures.stands;
-      tree = after ∙ ap (λ t. created t n (last_name e.path) (new_node e.what) e.mode 0) c.loop-entry.invariant.tree ∙ sym (more entries is c.loop-entry.entry-index e at n leads);
+      tree = after ∙ ap (λ t. tree_with_new t n (last_name e.path) (new_node e.what) e.mode 0) c.loop-entry.invariant.tree ∙ sym (more entries is c.loop-entry.entry-index e at n leads);
       nodes = omega (arith, nodes, c.loop-entry.invariant.nodes);
     }
 

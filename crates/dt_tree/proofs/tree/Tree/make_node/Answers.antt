@@ -3,8 +3,8 @@ use Rattle.std.proofs.lemmas.Bool.Decides.{nat_tests}
 use Rattle.std.specs.Prelude.{nat_le}
 use Rattle.std.specs.FinMap.{len}
 use Rattle.dt_base.specs.declared.errno.Errno.TheVariants.{NoEnt, NoSpc}
-use Rattle.dt_tree.specs.Calls.{refused, done}
-use Rattle.dt_tree.specs.Changes.{made}
+use Rattle.dt_tree.specs.Calls.{tree_refusal, tree_answer}
+use Rattle.dt_tree.specs.Changes.{tree_after_make}
 use Rattle.dt_tree.specs.FileTree.{FileTree}
 use Rattle.dt_tree.specs.Shape.{is_removed}
 use Rattle.dt_tree.specs.Table.{tree_of}
@@ -22,7 +22,7 @@ returns-then-nodes-ge-NODE_LIMIT-clause-done g c =
     let nodes = len-shape c.args.self.now v in
     let full : 4096 ≤ len t.shape.nodes = omega arith in
     let test : nat_le 4096 (len t.shape.nodes) ≡ true = grind (arith, nat_tests) in
-    second_case (is_removed t.shape c.args.dir) (nat_le 4096 (len t.shape.nodes)) (refused t NoEnt) (refused t NoSpc) (done (made t c.args.dir c.args.name.now c.args.what.now c.args.mode c.args.stamp) t.next)
+    second_case (is_removed t.shape c.args.dir) (nat_le 4096 (len t.shape.nodes)) (tree_refusal t NoEnt) (tree_refusal t NoSpc) (tree_answer (tree_after_make t c.args.dir c.args.name.now c.args.what.now c.args.mode c.args.stamp) t.next)
     (sym (c.is_removed.ensures v c.requires.stands) ∙ c.if-is_removed.false) test
 
 pub create_stamped-requires-clause-may : goal.create_stamped-requires-clause-may
@@ -49,6 +49,6 @@ returns-clause-done g c =
     let test : nat_le 4096 (len t.shape.nodes) ≡ false = grind (arith, nat_tests) in
     let tree = c.in_ok-create_stamped.ensures.tree in
     let number = c.in_ok-create_stamped.ensures.number in
-    last_case (is_removed t.shape c.args.dir) (nat_le 4096 (len t.shape.nodes)) (refused t NoEnt) (refused t NoSpc) (done (made t c.args.dir c.args.name.now c.args.what.now c.args.mode c.args.stamp) t.next)
+    last_case (is_removed t.shape c.args.dir) (nat_le 4096 (len t.shape.nodes)) (tree_refusal t NoEnt) (tree_refusal t NoSpc) (tree_answer (tree_after_make t c.args.dir c.args.name.now c.args.what.now c.args.mode c.args.stamp) t.next)
     (sym (c.is_removed.ensures v c.requires.stands) ∙ c.if-is_removed.false) test
-    ∙ (λ i. done (sym tree i) (sym number i))
+    ∙ (λ i. tree_answer (sym tree i) (sym number i))

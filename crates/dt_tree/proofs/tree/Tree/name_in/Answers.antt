@@ -2,7 +2,7 @@ use Rattle.std.proofs.Common.{◌≡◌, ℕ, List, [], map, Some, sym, ap, ◌�
 use Rattle.std.specs.Prelude.{unwrap_or}
 use Rattle.std.specs.FinMap.{get}
 use Rattle.dt_host.specs.World.{Forest, names_at, entry, IsDir}
-use Rattle.dt_host.specs.Legal.{named}
+use Rattle.dt_host.specs.Legal.{pair_of}
 use Rattle.dt_host.specs.declared.entry.HostEntry.{HostEntry}
 use Rattle.std.specs.List.Sorted.{IsPermutation}
 use Rattle.std.specs.FinMap.{entries}
@@ -45,5 +45,5 @@ pub returns-clause-ok : goal.returns-clause-ok
 returns-clause-ok g c =
     let v = (g.H.Host.view c.args.host.now).forest in
     c.in_ok-name_for.ensures
-    ∙ ap (λ (xs : List HostEntry). unwrap_or (name_for c.inode-2.result.real (map named xs)) []) c.deref.ensures.value
-    ∙ told c.args.self.now v c.requires.stands c.args.dir c.args.n c.inode.result c.inode-2.result (map named c.in_ok-entries.entries.items) c.inode.ensures c.inode-2.ensures c.requires.directory c.requires.parent c.in_ok-entries.ensures.ok
+    ∙ ap (λ (xs : List HostEntry). unwrap_or (name_for c.inode-2.result.real (map pair_of xs)) []) c.deref.ensures.value
+    ∙ told c.args.self.now v c.requires.stands c.args.dir c.args.n c.inode.result c.inode-2.result (map pair_of c.in_ok-entries.entries.items) c.inode.ensures c.inode-2.ensures c.requires.directory c.requires.parent c.in_ok-entries.ensures.ok

@@ -14,7 +14,7 @@ returns-clause-tree g c =
     let old = g.H.Host.view c.args.host.now in
     let inode : Inode = record { real = c.in_ok-real.real; mode = 493; stamp = 0; holds = 0; kind = Dir; names = 0; up = None } in
     let start : (g.H.Host.view c.root.new.self).forest ≡ empty_forest old.forest.root = ap (λ (w : World). w.forest) c.root.ensures.stays ∙ c.requires in
-    subst (λ t. tree_of t (g.H.Host.view c.root.new.self).forest ≡ image_tree []) (sym (c.in_ok-of_root.ensures ∙ ap root_table c.new.ensures))
+    subst (λ t. tree_of t (g.H.Host.view c.root.new.self).forest ≡ image_tree []) (sym (c.in_ok-with_root.ensures ∙ ap root_table c.new.ensures))
     (subst (λ v. tree_of (root_table inode) v ≡ image_tree []) (sym start) (tree_start old.forest.root inode c.in_ok-real.ensures.ok refl refl refl refl ∙ sym image_tree-nil))
 
 pub returns-clause-stands : goal.returns-clause-stands
@@ -22,7 +22,7 @@ returns-clause-stands g c =
     let old = g.H.Host.view c.args.host.now in
     let inode : Inode = record { real = c.in_ok-real.real; mode = 493; stamp = 0; holds = 0; kind = Dir; names = 0; up = None } in
     let start : (g.H.Host.view c.root.new.self).forest ≡ empty_forest old.forest.root = ap (λ (w : World). w.forest) c.root.ensures.stays ∙ c.requires in
-    subst (λ t. Stands t (g.H.Host.view c.root.new.self).forest) (sym (c.in_ok-of_root.ensures ∙ ap root_table c.new.ensures))
+    subst (λ t. Stands t (g.H.Host.view c.root.new.self).forest) (sym (c.in_ok-with_root.ensures ∙ ap root_table c.new.ensures))
     (subst (λ v. Stands (root_table inode) v) (sym start) (record {
       mirrors = mirrors_start old.forest.root inode c.in_ok-real.ensures.ok refl refl refl;
       tree = subst IsTree (sym (tree_start old.forest.root inode c.in_ok-real.ensures.ok refl refl refl refl)) IsTree-start;

@@ -1,5 +1,5 @@
 use Rattle.std.proofs.Common.{sym, ◌∙◌}
-use Rattle.dt_host.proofs.Found.{none_there}
+use Rattle.dt_tables.proofs.Found.{none_there}
 use Rattle.dt_tree.proofs.Mirroring.{has_inode-dir}
 use Rattle.dt_tree.proofs.Linked.{up-inode}
 use Rattle.dt_tree.proofs.tree.Tree.parent.Goals as goal

@@ -1,7 +1,7 @@
 use Rattle.std.proofs.Common.{sym, ap, subst, ◌∙◌}
 use Rattle.std.specs.Prelude.{IsSome}
 use Rattle.std.specs.FinMap.{get}
-use Rattle.dt_host.specs.Entries.{map_of}
+use Rattle.dt_tables.specs.Entries.{map_of}
 use Rattle.dt_tree.proofs.Kept.{get-kept, put-kept}
 use Rattle.dt_tree.proofs.tree.Tree.set.Goals as goal
 

@@ -2,7 +2,7 @@ use Rattle.std.proofs.Common.{refl, sym, ap, subst, ◌∙◌}
 use Rattle.dt_tree.specs.FileTree.{IsTree}
 use Rattle.dt_tree.specs.Calls.{KeepsHeld}
 use Rattle.dt_tree.specs.Changes.{with_mode}
-use Rattle.dt_tree.specs.Table.{tree_of, Mirrors}
+use Rattle.dt_tree.specs.Table.{tree_of, IsMirror}
 use Rattle.dt_tree.proofs.Mirroring.{has_inode}
 use Rattle.dt_tree.proofs.Linked.{mirrors-changed, tree-changed}
 use Rattle.dt_tree.proofs.Calling.{IsTree-chmodded, KeepsHeld-chmodded}
@@ -22,7 +22,7 @@ returns-clause-stands g c =
     let v = (g.H.Host.view c.args.host.now).forest in
     let after = ap (λ t. tree_of t v) c.set.ensures ∙ tree-changed c.args.self.now v c.args.vino c.inode-inode.result (record c.inode-inode.result { mode = c.args.mode }) (with_mode c.args.mode) c.requires.stands.mirrors c.inode-inode.ensures refl refl refl refl refl in
     record {
-      mirrors = subst (λ t. Mirrors t v) (sym c.set.ensures) (mirrors-changed c.args.self.now v c.args.vino c.inode-inode.result (record c.inode-inode.result { mode = c.args.mode }) (with_mode c.args.mode) c.requires.stands.mirrors c.inode-inode.ensures refl refl refl refl refl);
+      mirrors = subst (λ t. IsMirror t v) (sym c.set.ensures) (mirrors-changed c.args.self.now v c.args.vino c.inode-inode.result (record c.inode-inode.result { mode = c.args.mode }) (with_mode c.args.mode) c.requires.stands.mirrors c.inode-inode.ensures refl refl refl refl refl);
       tree = subst IsTree (sym after) (IsTree-chmodded (tree_of c.args.self.now v) c.args.vino c.args.mode c.requires.stands.tree c.requires.no_link c.requires.mode);
     }
 

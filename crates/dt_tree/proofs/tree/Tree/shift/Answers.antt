@@ -1,7 +1,7 @@
 use Rattle.std.proofs.Common.{◌≡◌, ℕ, ◌≤◌, List, None, sym, ap, subst, ◌∙◌}
 use Rattle.std.specs.Prelude.{IfSome}
 use Rattle.dt_host.specs.World.{World, entry, without_entry, IsDir, IsLive}
-use Rattle.dt_tree.specs.Shape.{names_of}
+use Rattle.dt_tree.specs.Shape.{name_count_of}
 use Rattle.dt_tree.specs.FileTree.{FileTree, IsTree}
 use Rattle.dt_tree.specs.Changes.{with_shape}
 use Rattle.dt_tree.specs.Calls.{KeepsHeld}
@@ -28,7 +28,7 @@ unbind_found-requires-clause-found g c =
 pub unbind_found-requires-clause-once : goal.unbind_found-requires-clause-once
 unbind_found-requires-clause-once g c =
     let e1 = as_before _ _ _ _ _ _ c.find.ensures.asks.stays c.in_ok-unbind.ensures.tree in
-    subst (λ s. IfSome c.in_ok-replaced.replaced (λ n. IsDir s n → names_of s n ≤ 1)) (sym (shape_first _ _ _ _ e1))
+    subst (λ s. IfSome c.in_ok-replaced.replaced (λ n. IsDir s n → name_count_of s n ≤ 1)) (sym (shape_first _ _ _ _ e1))
     (if_found _ c.in_ok-replaced.replaced (λ n _. once_first _ c.requires.stands.tree.shaped _ _ _ _ _ c.requires.may n))
 
 pub bind-requires-clause-directory : goal.bind-requires-clause-directory

@@ -3,7 +3,7 @@ use Rattle.dt_host.specs.World.{without_entry}
 use Rattle.dt_host.proofs.Spots.{IsDir-entry}
 use Rattle.dt_tree.specs.declared.inode.Inode.{Inode}
 use Rattle.dt_tree.specs.Changes.{with_shape}
-use Rattle.dt_tree.specs.Table.{shape_of, tree_of, Mirrors}
+use Rattle.dt_tree.specs.Table.{shape_of, tree_of, IsMirror}
 use Rattle.dt_tree.specs.inner.Tables.{with_inode, with_names}
 use Rattle.dt_tree.proofs.Namings.{named, names_of-le}
 use Rattle.dt_tree.proofs.Mirroring.{has_inode-dir, has_inode-named, real_dir, real_named}
@@ -39,8 +39,8 @@ returns-clause-mirrors g c =
     let kept : Inode = record c.inode-inode.result { names = c.inode-inode.result.names - 1; up = None } in
     let after : c.set_names.new.self ≡ with_names (with_inode c.args.self.now c.args.n kept) (c.args.self.now.names - 1) =
     c.set_names.ensures ∙ ap (λ t. with_names t (c.names-names.result - 1)) c.set.ensures ∙ ap (λ k. with_names (with_inode c.args.self.now c.args.n kept) (k - 1)) c.names-names.ensures in
-    subst (λ t. Mirrors t (g.H.Host.view c.unbind.new.self).forest) (sym after)
-    (subst (λ w. Mirrors (with_names (with_inode c.args.self.now c.args.n kept) (c.args.self.now.names - 1)) w.forest) (sym c.in_ok-unbind.ensures.legal)
+    subst (λ t. IsMirror t (g.H.Host.view c.unbind.new.self).forest) (sym after)
+    (subst (λ w. IsMirror (with_names (with_inode c.args.self.now c.args.n kept) (c.args.self.now.names - 1)) w.forest) (sym c.in_ok-unbind.ensures.legal)
     (mirrors-unnamed _ _ _ _ _ _ _ c.requires.mirrors c.inode.ensures c.inode-inode.ensures c.requires.here c.requires.once))
 
 pub returns-clause-tree : goal.returns-clause-tree

@@ -3,7 +3,7 @@ use Rattle.std.proofs.lemmas.Result.{MatchResult-from_err}
 use Rattle.dt_host.specs.World.{World, IsPipe}
 use Rattle.dt_host.specs.Legal.{PutsPart}
 use Rattle.dt_host.proofs.Pipes.{with_put-nil}
-use Rattle.dt_memhost.specs.inner.Forest.{Ordered, world_of}
+use Rattle.dt_memhost.specs.inner.Forest.{OrderedForest, world_of}
 use Rattle.dt_memhost.specs.Host.{HostState}
 use Rattle.dt_memhost.proofs.host.calls.MemHostHost.pipe_put.Goals as goal
 
@@ -20,6 +20,6 @@ returns-in_err-begin-clause-legal c =
 pub returns-in_err-put-clause-legal : goal.returns-in_err-put-clause-legal
 returns-in_err-put-clause-legal c =
     let before = ap (λ (s : HostState). s.view) c.self.view_is in
-    let same = ap (λ (o : Ordered). world_of o c.self.inside.pids) c.in_err-put.ensures.err in
+    let same = ap (λ (o : OrderedForest). world_of o c.self.inside.pids) c.in_err-put.ensures.err in
     MatchResult-from_err c.from_residual-in_err-put.result _ _ c.from_residual-in_err-put.ensures.0 (λ _.
     puts_none c.args.self.now.view _ c.args.ino c.args.bytes.now c.requires.pipe (same ∙ before))

@@ -1,0 +1,41 @@
+-- What two runs of the same words on the same files have in common.
+use Rattle.std.specs.Prelude.{◌≡◌, ◌==◌, ◌||◌, ℕ, Bool, List, Option, None, option_map, IsTrue}
+use Rattle.dt_host.specs.Cause.{HasCause}
+use Rattle.dt_host.specs.Sink.{added, AddsPart}
+use Rattle.dt_options.specs.Options.{Request, request_of}
+use Rattle.dt_run.specs.Statuses.{is_status, is_run_status, AddsLine}
+use Rattle.dt_run.specs.declared.status.TheConstants.{WORDS_REFUSED, IMAGE_REFUSED, STORE_FAULT, HOST_FAULT, OUTPUT_FAULT}
+
+-- a request without the number by which the host is disturbed
+abbrev pub without_host : Request → Request
+without_host request = record request { host = None }
+
+-- both ask for the same image, command, seed and budget, or both are refused
+abbrev pub AskTheSame : List (List ℕ) → List (List ℕ) → Type 0
+AskTheSame words other = option_map without_host (request_of words) ≡ option_map without_host (request_of other)
+
+-- the status of a completed run, or of words or an image that are refused; every other one is a fault's, or want of memory's
+abbrev pub is_decided : ℕ → Bool
+is_decided status = is_run_status status || (status == WORDS_REFUSED) || (status == IMAGE_REFUSED)
+
+-- to both, as far as they tell it, prefixes of the same bytes were added, and all of these where the status is decided
+pub record AddAlike (status other : ℕ) (old new other_old other_new : Option (List ℕ)) : Type 0 where
+  pub bytes : List ℕ
+  pub part : AddsPart old new bytes
+  pub other_part : AddsPart other_old other_new bytes
+  pub whole : IsTrue (is_decided status) → new ≡ added old bytes
+  pub other_whole : IsTrue (is_decided other) → other_new ≡ added other_old bytes
+
+-- both got the same line, each the whole of it or a prefix, after which it failed
+pub record AddLineAlike (old new : Option (List ℕ)) (before now : ℕ) (other_old other_new : Option (List ℕ)) (other_before other_now : ℕ) : Type 0 where
+  pub line : List ℕ
+  pub one : AddsLine line old new before now
+  pub other : AddsLine line other_old other_new other_before other_now
+
+-- a status, and why it comes where it is a fault's: a call of the store, the host or the output failed, by the counts s0 and s1
+-- of the store's faults before and after, h0 and h1 of the host's, o0 and o1 of the output's
+pub record IsCaused (status s0 s1 h0 h1 o0 o1 : ℕ) : Type 0 where
+  pub known : IsTrue (is_status status)
+  pub store : HasCause s0 s1 (status ≡ STORE_FAULT)
+  pub host : HasCause h0 h1 (status ≡ HOST_FAULT)
+  pub output : HasCause o0 o1 (status ≡ OUTPUT_FAULT)

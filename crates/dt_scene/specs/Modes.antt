@@ -1,6 +1,0 @@
--- The modes of new nodes (umask(2)).
-use Rattle.std.specs.Prelude.{ℕ, ◌-◌, bit_and}
-
--- a mode without the bits of a mask
-abbrev pub masked : ℕ → ℕ → ℕ
-masked mode umask = mode - bit_and mode umask

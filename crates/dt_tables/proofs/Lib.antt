@@ -1,0 +1,11 @@
+pub mod Conjuncts
+pub mod Sorted
+pub mod Maps
+pub mod InOrder
+pub mod Totals
+pub mod Valued
+pub mod MapOf
+pub mod Found
+pub mod Keyed
+pub mod Kept
+pub mod Lent

@@ -1,0 +1,5 @@
+pub mod Entries
+pub mod Values
+pub mod Total
+pub mod Lent
+pub mod inner

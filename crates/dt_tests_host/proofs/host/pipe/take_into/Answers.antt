@@ -1,0 +1,14 @@
+use Rattle.dt_tests_host.proofs.Piped.{IsPipe-takes, length-takes}
+use Rattle.dt_tests_host.proofs.host.pipe.take_into.Goals as goal
+
+pub returns-in_err-outcome-clause-pipe : goal.returns-in_err-outcome-clause-pipe
+returns-in_err-outcome-clause-pipe c = IsPipe-takes c.args.host.now.view c.pipe_take.new.self.view c.args.pipe _ _ c.pipe_take.result c.requires c.pipe_take.ensures.legal
+
+pub returns-in_err-outcome-clause-most : goal.returns-in_err-outcome-clause-most
+returns-in_err-outcome-clause-most c = length-takes c.args.host.now.view c.pipe_take.new.self.view c.args.pipe _ _ c.pipe_take.result c.pipe_take.ensures.legal
+
+pub returns-clause-pipe : goal.returns-clause-pipe
+returns-clause-pipe c = IsPipe-takes c.args.host.now.view c.pipe_take.new.self.view c.args.pipe _ _ c.pipe_take.result c.requires c.pipe_take.ensures.legal
+
+pub returns-clause-most : goal.returns-clause-most
+returns-clause-most c = length-takes c.args.host.now.view c.pipe_take.new.self.view c.args.pipe _ _ c.pipe_take.result c.pipe_take.ensures.legal

@@ -1,0 +1,10 @@
+use Rattle.std.proofs.Common.{sym, subst}
+use Rattle.dt_host.specs.declared.kind.NodeKind.{NodeKind}
+use Rattle.dt_tests_host.specs.Subject.{IsOf}
+use Rattle.dt_tests_host.proofs.host.scene.Scene.in_file.Goals as goal
+
+pub make-requires : goal.make-requires
+make-requires c = let old = c.args.self.now in subst (λ (kind : NodeKind). IsOf old.host.view kind old.number old.most) c.in-File.is c.requires
+
+pub returns-in-File : goal.returns-in-File
+returns-in-File c = let old = c.args.self.now in subst (λ (kind : NodeKind). IsOf c.make.new.host.view kind old.number old.most) (sym c.in-File.is) c.make.ensures

@@ -1,0 +1,7 @@
+//! Images, the texts of a report and the words of the command line.
+
+mod folder;
+mod images;
+mod limits;
+mod reports;
+mod words;
