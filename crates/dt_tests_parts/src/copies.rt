@@ -17,7 +17,7 @@ fn a_copy_of_an_image_has_its_entries(rt: HostRuntime) -> Result<(), Fail> {
     store.put("img/image.json", INDEX)?;
     store.put("img/hello", b"some bytes")?;
     let image = read_image(alloc, &mut store, "img")?.copy()?;
-    same(&rt, image.entries().len(), 1);
+    assert_eq!(rt; image.entries().len(), 1);
     let entry = image.entries()[0].copy()?;
     same(&rt, entry.path.as_slice(), b"/hello".as_slice());
     same(&rt, entry.mode, 0o755);
@@ -48,10 +48,10 @@ fn a_copy_of_a_command_has_its_words(rt: HostRuntime) -> Result<(), Fail> {
     same(&rt, options.host, None);
     let command = options.command.copy()?;
     let (args, env) = (command.args(), command.env());
-    same(&rt, args.len(), 2);
+    assert_eq!(rt; args.len(), 2);
     same(&rt, args[0].as_slice(), b"/hello".as_slice());
     same(&rt, args[1].copy()?.as_slice(), b"x".as_slice());
-    same(&rt, env.len(), 2);
+    assert_eq!(rt; env.len(), 2);
     same(&rt, env[0].as_slice(), b"A=1".as_slice());
     same(&rt, env[1].as_slice(), b"B=2".as_slice());
     Ok(())
