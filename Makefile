@@ -1,16 +1,51 @@
+# In a checkout, and in a release that was unpacked. Nothing here builds the program: ./dettrace build does.
+
+PREFIX = /usr/local
+DESTDIR =
+release = $(wildcard VERSION)
+program = $(if $(release),dettrace,crates/dettrace/out/dettrace)
+
+.PHONY: help install uninstall dist check bench has_program has_sources
+
+help:
+	@echo 'make install PREFIX=DIR   puts dettrace, its tools, pages and completion below DIR ($(PREFIX)); DESTDIR=ROOT'
+	@echo '                          stands before it, as for packages'
+	@echo 'make uninstall PREFIX=DIR takes them away'
+	@echo 'make dist                 makes out/dettrace-VERSION.tar.gz, a release of this commit'
+	@echo 'make check                proves all, and runs all tests (two hours)'
+	@echo 'make bench                times the program that is there'
+	@echo 'The last three are for a checkout. ./dettrace build makes the program.'
+
+has_program:
+	@test -x $(program) || { \
+	    echo 'There is no program $(program), and nothing is built here: ./dettrace build makes it.' >&2; exit 1; }
+
+has_sources:
+	@test -z "$(release)" || { echo 'This is a release, which has no sources: take a checkout.' >&2; exit 1; }
+
+install: has_program
+	@test -n "$(release)" || ! tools/sources changed || \
+	    echo 'Warning: the program is older than its sources; ./dettrace build makes it anew.' >&2
+	@tools/install "$(program)" "$(DESTDIR)$(PREFIX)"
+	@echo 'dettrace is installed below $(DESTDIR)$(PREFIX).'
+
+uninstall:
+	@tools/install --remove "$(DESTDIR)$(PREFIX)"
+
+dist: has_sources has_program
+	@tools/dist
+
+check: has_sources
+	.ci/run
+
 # The machine's speed beside that of a plain loop in Rust, how the times of names and of memory grow, calls, children,
 # megabytes through a pipe and signals a second beside qemu-riscv64, and the time of a turn among many processes. All of
 # it is timed from outside, by guests. Nothing that is timed here is a test.
-
-.PHONY: bench
-
-# The first run of ./dettrace proves and builds the program.
-bench:
-	./dettrace run examples/hello -- /hello >/dev/null
-	python3 bench/machine/run.py crates/dettrace/out/dettrace
-	python3 bench/tree/run.py crates/dettrace/out/dettrace
-	python3 bench/memory/run.py crates/dettrace/out/dettrace
-	python3 bench/calls/run.py crates/dettrace/out/dettrace
-	python3 bench/processes/run.py crates/dettrace/out/dettrace
-	python3 bench/pipes/run.py crates/dettrace/out/dettrace
-	python3 bench/signals/run.py crates/dettrace/out/dettrace
+bench: has_sources has_program
+	python3 bench/machine/run.py $(program)
+	python3 bench/tree/run.py $(program)
+	python3 bench/memory/run.py $(program)
+	python3 bench/calls/run.py $(program)
+	python3 bench/processes/run.py $(program)
+	python3 bench/pipes/run.py $(program)
+	python3 bench/signals/run.py $(program)

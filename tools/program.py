@@ -12,7 +12,7 @@ EXAMPLES = TOP / "examples"
 PROGRAM = TOP / "crates/dettrace/out/dettrace"
 
 needs_program = unittest.skipUnless(os.access(PROGRAM, os.X_OK),
-                                    "the program is not built; ./dettrace builds it, and so does rt ci")
+                                    "the program is not built; ./dettrace build makes it, and so does rt ci")
 
 
 def run(*words: object) -> subprocess.CompletedProcess:

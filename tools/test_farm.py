@@ -1,13 +1,16 @@
 """The scripts that docs/FARM.md shows do what it says of them."""
 from __future__ import annotations
 
+import hashlib
 import os
+import re
 import shutil
 import subprocess
 import unittest
 from pathlib import Path
 
 from program import EXAMPLES, PROGRAM, TOP, fresh_checkout, needs_program
+from release_case import ReleaseCase, needs_tools, run
 
 
 def script(name: str) -> str:
@@ -56,6 +59,16 @@ class FarmTest(unittest.TestCase):
         self.assertEqual((self.folder / "r").read_bytes(), subprocess.run(
             [PROGRAM, "run", EXAMPLES / "hello", "--", "/nothere"], stdout=subprocess.PIPE, check=False).stdout)
 
+    def test_a_strict_job_ends_as_the_run_and_keeps_the_report(self) -> None:
+        for example, words, status in (("hello", ["/hello"], 0), ("shell", ["/describe"], 1), ("hello", ["/no"], 10)):
+            with self.subTest(words):
+                done = self.run_words("./job", "--strict", "r", f"examples/{example}", "--", *words)
+                self.assertEqual(done, (status, ""))
+                self.assertEqual((self.folder / "r.status").read_text(), f"{status}\n")
+                self.assertTrue((self.folder / "r").read_bytes().startswith(b"dettrace 1\n"))
+        self.assertEqual(self.run_words("./job", "--strict", "s", "nowhere", "--", "/hello"), (3, ""))
+        self.assertFalse((self.folder / "s").exists())
+
     def test_a_job_keeps_nothing_of_a_run_that_was_refused_or_cut(self) -> None:
         self.assertEqual(self.run_words("./job", "r", "nowhere", "--", "/hello"), (3, ""))
         self.assertEqual(self.left(), self.before)
@@ -84,6 +97,72 @@ class FarmTest(unittest.TestCase):
         self.assertEqual((status, out.split("\n")[0]), (
             1, "the number of paths is 1 in A and 2 in B; tree line 2 differs: /notes is only in B"))
         self.assertEqual(self.run_words("./nightly", "2025-03-03"), (2, ""))
+
+
+def template(name: str) -> str:
+    """The file for a service, which stands behind the line that names it."""
+    text = (TOP / "docs/FARM.md").read_text().split(f"`{name}`:\n\n")[1]
+    lines = text.split("\n")
+    after = next(at for at, line in enumerate(lines) if line and not line.startswith("    "))
+    return "\n".join(line[4:] for line in lines[:after])
+
+
+def commands_of(file: str) -> list[str]:
+    """The scripts that a service runs: each `run` of the one kind, or the lines of `script` of the other."""
+    blocks = re.findall(r"(?m)^ *- run: \|\n((?: {10}.*\n)+)", file)
+    if blocks:
+        return [re.sub(r"(?m)^ {10}", "", block) for block in blocks]
+    (block,) = re.findall(r"(?m)^  script:\n((?:    - .*\n)+)", file)
+    return [re.sub(r"(?m)^    - ", "", block)]
+
+
+@needs_tools
+@needs_program
+@unittest.skipUnless(shutil.which("curl"), "there is no curl")
+class ServiceTest(ReleaseCase):
+    """The commands for two services, with a release that is fetched from a file."""
+
+    def play(self, name: str, guest: str) -> list[int]:
+        """The statuses of a service's scripts, in a project whose test is this example."""
+        top = self.checkout("top")
+        release = top / self.made(top, "dist").split(":")[0]
+        project = self.folder / "project"
+        (project / "tree").mkdir(parents=True)
+        shutil.copy(EXAMPLES / guest, project / "tree" / "flaky")
+        (project / "job").write_text(script("job"))
+        (project / "job").chmod(0o755)
+        more = {"DETTRACE_RELEASE": f"file://{release}", "HOME": str(self.folder),
+                "DETTRACE_SHA256": hashlib.sha256(release.read_bytes()).hexdigest()}
+        texts = [text.replace("/usr/local", f"{self.folder}/local") for text in commands_of(template(name))]
+        path = f"{self.folder}/local/bin:/usr/bin:/bin"
+        return [run(["bash", "-e", "-c", text], project, PATH=path, **more).returncode for text in texts]
+
+    def test_a_run_that_ends_well_passes(self) -> None:
+        for name, statuses in ((".github/workflows/runs.yml", [0, 0]), (".gitlab-ci.yml", [0])):
+            with self.subTest(name):
+                self.assertEqual(self.play(name, "hello/hello"), statuses)
+                report = (self.folder / "project/first.report").read_bytes()
+                self.assertTrue(report.startswith(b"dettrace 1\nout 1 6\nhello\n"))
+            shutil.rmtree(self.folder / "project")
+            shutil.rmtree(self.folder / "top")
+
+    def test_a_run_that_fails_fails_the_step_and_keeps_the_report(self) -> None:
+        for name, statuses in ((".github/workflows/runs.yml", [0, 1]), (".gitlab-ci.yml", [1])):
+            with self.subTest(name):
+                self.assertEqual(self.play(name, "shell/count"), statuses)
+                self.assertEqual((self.folder / "project/first.report.status").read_text(), "1\n")
+            shutil.rmtree(self.folder / "project")
+            shutil.rmtree(self.folder / "top")
+
+
+class TemplateTest(unittest.TestCase):
+    def test_both_services_run_the_same(self) -> None:
+        ours = [commands_of(template(name)) for name in (".github/workflows/runs.yml", ".gitlab-ci.yml")]
+        first, second = ([line for text in texts for line in text.splitlines() if not line.startswith("PATH=")]
+                         for texts in ours)
+        self.assertEqual([re.sub("PREFIX=.*", "", line) for line in first],
+                         [re.sub("PREFIX=.*", "", line) for line in second])
+        self.assertEqual(len(second), 6)
 
 
 if __name__ == "__main__":

@@ -176,8 +176,8 @@ class ThereAndBack(ImageCase):
         with mock.patch.object(unpack.os, "fchmod", lambda file, mode: real(file, mode & 0o1777)):
             done = self.image("unpack", self.at("img"), self.at("out"))
         lines = [
-            "/bin/again has the mode 0711 and not 4711, as far as the system lets it",
-            "/d/e has the mode 1770 and not 3770, as far as the system lets it",
+            "'/bin/again' has the mode 0711 and not 4711, as far as the system lets it",
+            "'/d/e' has the mode 1770 and not 3770, as far as the system lets it",
         ]
         self.assertEqual(done, Done(0, lines, []))
 
@@ -252,11 +252,11 @@ class CannotHold(ImageCase):
 
     def test_a_fifo(self) -> None:
         os.mkfifo(self.at("tree", "d", "pipe"))
-        self.refused("/d/pipe: a FIFO, which an image cannot hold")
+        self.refused("'/d/pipe': a FIFO, which an image cannot hold")
 
     def test_a_socket(self) -> None:
         self.make_socket()
-        self.refused("/d/sock: a socket, which an image cannot hold")
+        self.refused("'/d/sock': a socket, which an image cannot hold")
 
     def make_socket(self) -> None:
         # A socket's path may have about a hundred bytes, so it is made from within.
@@ -274,21 +274,21 @@ class CannotHold(ImageCase):
             os.mknod(self.at("tree", "null"), 0o20666, os.makedev(1, 3))
         except PermissionError:
             self.skipTest("a device is made by root alone")
-        self.refused("/null: a device, which an image cannot hold")
+        self.refused("'/null': a device, which an image cannot hold")
 
     def test_a_name_that_is_no_utf_8(self) -> None:
         os.mkdir(self.bytes_at(b"caf\xe9"))
         write(os.fsdecode(self.bytes_at(b"caf\xe9", b"f")), b"")
-        self.refused("/caf\\xe9: its name is no UTF-8")
+        self.refused("'/caf\\xe9': its name is no UTF-8")
 
     def test_a_target_that_is_no_utf_8(self) -> None:
         os.symlink(b"caf\xe9", self.bytes_at(b"l"))
-        self.refused("/l: its target is no UTF-8")
+        self.refused("'/l': its target is no UTF-8")
 
     def test_a_file_past_the_limit(self) -> None:
         write(self.at("tree", "big"), b"")
         os.truncate(self.at("tree", "big"), BIG + 1)
-        self.refused("/big: it has 16777217 bytes, more than 16777216")
+        self.refused("'/big': it has 16777217 bytes, more than 16777216")
 
     def test_too_many_entries(self) -> None:
         for number in range(4094):
@@ -305,7 +305,7 @@ class CannotHold(ImageCase):
         finally:
             os.fchdir(before)
             os.close(before)
-        self.refused(f"{f'/{NAME_255}' * 16}: its path has 4096 bytes, more than 4095")
+        self.refused(f"'{f'/{NAME_255}' * 16}': its path has 4096 bytes, more than 4095")
 
     def test_an_index_past_the_limit(self) -> None:
         names = [f"{number:0>250}" for number in range(15)]
@@ -326,12 +326,12 @@ class CannotHold(ImageCase):
     def test_a_file_that_grows_past_the_limit_while_it_is_read(self) -> None:
         self.changes(
             lambda: os.truncate(self.at("tree", "d", "good"), BIG + 1),
-            "/d/good: it has grown to more than 16777216 bytes while it was read",
+            "'/d/good': it has grown to more than 16777216 bytes while it was read",
         )
 
     def test_a_file_that_is_gone_when_it_is_read(self) -> None:
         self.changes(
-            lambda: os.remove(self.at("tree", "d", "good")), "/d/good: it cannot be read: No such file or directory"
+            lambda: os.remove(self.at("tree", "d", "good")), "'/d/good': it cannot be read: No such file or directory"
         )
 
     def test_a_file_whose_place_a_link_or_a_fifo_takes(self) -> None:
@@ -342,13 +342,13 @@ class CannotHold(ImageCase):
 
         self.changes(
             swap(lambda: os.symlink("../secret", self.at("tree", "d", "good"))),
-            "/d/good: it cannot be read: Too many levels of symbolic links",
+            "'/d/good': it cannot be read: Too many levels of symbolic links",
         )
         os.remove(self.at("tree", "d", "good"))
         write(self.at("tree", "d", "good"), b"good")
         self.changes(
             swap(lambda: os.mkfifo(self.at("tree", "d", "good"))),
-            "/d/good: something else has taken its place while it was packed",
+            "'/d/good': something else has taken its place while it was packed",
         )
 
     def changes(self, change: Callable[[], object], *lines: str) -> None:
@@ -361,16 +361,16 @@ class CannotHold(ImageCase):
         write(self.at("tree", "a"), b"a")
         self.changes(
             lambda: (os.truncate(self.at("tree", "a"), BIG + 1), os.remove(self.at("tree", "d", "good"))),
-            "/a: it has grown to more than 16777216 bytes while it was read",
-            "/d/good: it cannot be read: No such file or directory",
+            "'/a': it has grown to more than 16777216 bytes while it was read",
+            "'/d/good': it cannot be read: No such file or directory",
         )
 
     def test_files_that_cannot_be_read_are_named_with_the_rest(self) -> None:
         os.mkfifo(self.at("tree", "d", "pipe"))
         with mock.patch.object(pack, "index_faults", lambda items: os.remove(self.at("tree", "d", "good")) or []):
             self.refused(
-                "/d/good: it cannot be read: No such file or directory",
-                "/d/pipe: a FIFO, which an image cannot hold",
+                "'/d/good': it cannot be read: No such file or directory",
+                "'/d/pipe': a FIFO, which an image cannot hold",
             )
 
     @unittest.skipIf(os.geteuid() == 0, "root may read everything")
@@ -380,9 +380,9 @@ class CannotHold(ImageCase):
         write(self.at("tree", "other"), b"", 0)
         os.chmod(self.at("tree", "closed"), 0)
         self.refused(
-            "/closed: it cannot be read: Permission denied",
-            "/other: it cannot be read: Permission denied",
-            "/secret: it cannot be read: Permission denied",
+            "'/closed': it cannot be read: Permission denied",
+            "'/other': it cannot be read: Permission denied",
+            "'/secret': it cannot be read: Permission denied",
         )
 
     def test_all_of_it_is_named_in_byte_order(self) -> None:
@@ -393,11 +393,11 @@ class CannotHold(ImageCase):
         write(self.at("tree", "big"), b"")
         os.truncate(self.at("tree", "big"), BIG + 5)
         self.refused(
-            "/big: it has 16777221 bytes, more than 16777216",
-            "/d/pipe: a FIFO, which an image cannot hold",
-            "/d/sock: a socket, which an image cannot hold",
-            "/l\\n: its target is no UTF-8",
-            "/\\xff: its name is no UTF-8; a FIFO, which an image cannot hold",
+            "'/big': it has 16777221 bytes, more than 16777216",
+            "'/d/pipe': a FIFO, which an image cannot hold",
+            "'/d/sock': a socket, which an image cannot hold",
+            "'/l\\n': its target is no UTF-8",
+            "'/\\xff': its name is no UTF-8; a FIFO, which an image cannot hold",
         )
 
 
@@ -419,13 +419,24 @@ class Packing(ImageCase):
         os.link(self.at("tree", "x"), self.at("outside"))
         done = self.image("pack", self.at("tree"), self.at("img"))
         lines = [
-            "/a, /b and /d/c are one file there and three here",
-            "/x and /y\\n are one file there and two here",
+            "'/a', '/b' and '/d/c' are one file there and three here",
+            "'/x' and '/y\\n' are one file there and two here",
             "img: 1 directory, 5 files, 0 links, 2 blobs, 6 bytes",
         ]
         self.assertEqual(done, Done(0, lines, []))
         self.image("unpack", self.at("img"), self.at("out"))
         self.assertEqual(os.stat(self.at("out", "a")).st_nlink, 1)
+
+    def test_an_image_is_packed_as_a_folder_and_said_to_be_one(self) -> None:
+        make_tree(self.at("tree"))
+        self.image("pack", self.at("tree"), self.at("img"))
+        done = self.image("pack", self.at("img"), self.at("again"))
+        said = "'img' is an image already, and was packed as a folder, with its image.json as a file"
+        self.assertEqual((done.status, done.out[:-1], done.err), (0, [said], []))
+        self.image("unpack", self.at("again"), self.at("out"))
+        self.assertEqual(image_of(self.at("out")), image_of(self.at("img")))
+        write(self.at("tree", "image.json"), b"{}")
+        self.assertEqual(len(self.image("pack", self.at("tree"), self.at("other")).out), 1)
 
     def test_links_in_the_folder_are_not_followed(self) -> None:
         write(self.at("secret", "f"), b"secret")
@@ -523,15 +534,15 @@ class Inside(ImageCase):
     def test_what_would_stand_below_a_link_is_refused(self) -> None:
         for entries, line in (
             ([self.link("/d", self.at("outside")), self.folder("/d"), self.file("/d/f")],
-             "refused: 4 Twice: entry 2, /d: entry 1 has this path too"),
+             "refused: 4 Twice: entry 2, '/d': entry 1 has this path too"),
             ([self.folder("/d"), self.link("/d", "../outside"), self.file("/d/f")],
-             "refused: 4 Twice: entry 2, /d: entry 1 has this path too"),
+             "refused: 4 Twice: entry 2, '/d': entry 1 has this path too"),
             ([self.link("/d", self.at("outside")), self.file("/d/f")],
-             "refused: 5 NoParent: entry 2, /d/f: /d is a symbolic link, and no directory"),
+             "refused: 5 NoParent: entry 2, '/d/f': '/d' is a symbolic link, and no directory"),
             ([self.folder("/d"), self.link("/d/e", "../../outside"), self.file("/d/e/f")],
-             "refused: 5 NoParent: entry 3, /d/e/f: /d/e is a symbolic link, and no directory"),
+             "refused: 5 NoParent: entry 3, '/d/e/f': '/d/e' is a symbolic link, and no directory"),
             ([self.file("/../outside/f")],
-             "refused: 3 BadPath: entry 1, /../outside/f: the path has the name `..`"),
+             "refused: 3 BadPath: entry 1, '/../outside/f': the path has the name `..`"),
         ):
             with self.subTest(line):
                 self.says(self.unpacked(*entries), 1, line)
@@ -548,7 +559,7 @@ class Inside(ImageCase):
 
         with mock.patch.object(unpack, "make_files", swap):
             done = self.image("unpack", self.at("img"), self.at("out"))
-        self.says(done, 2, "out cannot be made: Not a directory")
+        self.says(done, 2, "'out' cannot be made: Not a directory")
         self.assertEqual(tree_of(self.at("outside")), self.before)
         self.assertEqual(self.left(), ["img", "outside"])
 
@@ -575,15 +586,15 @@ class Places(ImageCase):
         before = self.left()
         taken = "exists already, and is no image: what is packed is named first, and then the IMAGE to make"
         for place, line in (
-            ("img", "img exists already: name another place, or remove that image first"),
-            ("empty/", f"empty {taken}"),
-            ("file", f"file {taken}"),
-            ("dangling", f"dangling {taken}"),
-            ("tree", f"tree {taken}"),
-            ("none/img", "none/img cannot be made: there is no folder none"),
-            ("file/img", "file/img cannot be made: file is no folder"),
-            ("tree/img", "tree/img would lie inside tree, which is packed: name a place outside"),
-            ("link/img", "link/img would lie inside tree, which is packed: name a place outside"),
+            ("img", "'img' exists already: name another place, or remove that image first"),
+            ("empty/", f"'empty' {taken}"),
+            ("file", f"'file' {taken}"),
+            ("dangling", f"'dangling' {taken}"),
+            ("tree", f"'tree' {taken}"),
+            ("none/img", "'none/img' cannot be made: there is no folder 'none'"),
+            ("file/img", "'file/img' cannot be made: 'file' is no folder"),
+            ("tree/img", "'tree/img' would lie inside 'tree', which is packed: name a place outside"),
+            ("link/img", "'link/img' would lie inside 'tree', which is packed: name a place outside"),
         ):
             with self.subTest(place):
                 self.says(self.image("pack", self.at("tree"), self.at(place)), 2, line)
@@ -594,10 +605,10 @@ class Places(ImageCase):
     def test_sources_that_are_none(self) -> None:
         os.mkfifo(self.at("pipe"))
         for word, line in (
-            ("none", "none cannot be read: No such file or directory"),
-            ("tree/f/g", "tree/f/g cannot be read: Not a directory"),
-            ("tree/f", "tree/f is neither a folder nor a tar archive that Python can read"),
-            ("pipe", "pipe is neither a folder nor a file with an archive"),
+            ("none", "'none' cannot be read: No such file or directory"),
+            ("tree/f/g", "'tree/f/g' cannot be read: Not a directory"),
+            ("tree/f", "'tree/f' is neither a folder nor a tar archive that Python can read"),
+            ("pipe", "'pipe' is neither a folder nor a file with an archive"),
         ):
             with self.subTest(word):
                 self.says(self.image("pack", self.at(word), self.at("new")), 2, line)
@@ -607,11 +618,11 @@ class Places(ImageCase):
         os.symlink("empty", self.at("link"))
         os.mkdir(self.at("img", "inner"))
         for place, line in (
-            ("tree", "tree is not empty: name a folder that is, or that isn't there"),
-            ("tree/f", "tree/f exists already: name a folder that doesn't"),
-            ("none/out", "none/out cannot be made: there is no folder none"),
-            ("img/out", "img/out lies inside img, which is only read: name another folder"),
-            ("img/inner", "img/inner lies inside img, which is only read: name another folder"),
+            ("tree", "'tree' is not empty: name a folder that is, or that isn't there"),
+            ("tree/f", "'tree/f' exists already: name a folder that doesn't"),
+            ("none/out", "'none/out' cannot be made: there is no folder 'none'"),
+            ("img/out", "'img/out' lies inside 'img', which is only read: name another folder"),
+            ("img/inner", "'img/inner' lies inside 'img', which is only read: name another folder"),
         ):
             with self.subTest(place):
                 self.says(self.image("unpack", self.at("img"), self.at(place)), 2, line)
@@ -629,12 +640,12 @@ class Places(ImageCase):
         finally:
             os.fchdir(before)
             os.close(before)
-        self.says(done, 2, ". is the folder that you stand in, which would be replaced: name another")
+        self.says(done, 2, "'.' is the folder that you stand in, which would be replaced: name another")
 
     @unittest.skipIf(os.geteuid() == 0, "root may write everywhere")
     def test_a_parent_without_permission(self) -> None:
         os.mkdir(self.at("closed"), 0o500)
-        line = "closed/new cannot be made: Permission denied"
+        line = "'closed/new' cannot be made: Permission denied"
         self.says(self.image("pack", self.at("tree"), self.at("closed", "new")), 2, line)
         self.says(self.image("unpack", self.at("img"), self.at("closed", "new")), 2, line)
 
@@ -681,8 +692,8 @@ class Whole(ImageCase):
 
     def test_a_full_disk_leaves_nothing(self) -> None:
         for words, line in (
-            (("pack", "tree", "new"), "image: new cannot be made: File too large"),
-            (("unpack", "img", "new"), "image: /d/0 cannot be made: File too large"),
+            (("pack", "tree", "new"), "image: 'new' cannot be made: File too large"),
+            (("unpack", "img", "new"), "image: '/d/0' cannot be made: File too large"),
         ):
             with self.subTest(words[0]):
                 done = subprocess.run(
@@ -700,7 +711,7 @@ class Whole(ImageCase):
         once = [lambda: write(self.at("new", "f"), b"kept")]
         with mock.patch.object(pack, "stop_if_asked", lambda: once.pop()() if once else None):
             done = self.image("pack", self.at("tree"), self.at("new"))
-        self.says(done, 2, "new cannot be made: Directory not empty")
+        self.says(done, 2, "'new' cannot be made: Directory not empty")
         self.assertEqual(tree_of(self.at("new")), {"/f": ("file", 0o644, b"kept")})
         self.assertEqual(self.left(), ["img", "new", "tree"])
 
@@ -709,7 +720,7 @@ class Whole(ImageCase):
         once = [lambda: os.truncate(self.at("img", blob), 3)]
         with mock.patch.object(unpack, "stop_if_asked", lambda: once.pop()() if once else None):
             done = self.image("unpack", self.at("img"), self.at("new"))
-        self.says(done, 1, f"store fault: img/{blob}: the file ends before the size that was told of it")
+        self.says(done, 1, f"store fault: 'img/{blob}': the file ends before the size that was told of it")
         self.assertEqual(self.left(), ["img", "tree"])
 
     def test_folders_of_any_mode_and_depth_are_removed(self) -> None:

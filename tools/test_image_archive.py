@@ -9,6 +9,7 @@ import subprocess
 import tarfile
 import unittest
 from typing import List, Optional, Tuple
+from unittest import mock
 
 from imagelib import folders
 from imagelib.testing import Done, ImageCase, read, write
@@ -145,9 +146,9 @@ class Members(ArchiveCase):
             ("l", LINK, b"a"), ("m", HARD, b"l"),
         )
         lines = [
-            "/a and /e are one file there and two here",
-            "/c and /d/b are one file there and two here",
-            "/l and /m are one file there and two here",
+            "'/a' and '/e' are one file there and two here",
+            "'/c' and '/d/b' are one file there and two here",
+            "'/l' and '/m' are one file there and two here",
             "img: 1 directory, 4 files, 2 links, 2 blobs, 6 bytes",
         ]
         self.assertEqual(done, Done(0, lines, []))
@@ -208,35 +209,35 @@ class Refused(ArchiveCase):
 
     def test_each_is_named(self) -> None:
         for members, *lines in (
-            ([("null", tarfile.CHRTYPE, b"")], "/null: a device, which an image cannot hold"),
-            ([("d/sda", tarfile.BLKTYPE, b"")], "/d/sda: a device, which an image cannot hold"),
-            ([("p", FIFO, b""), ("q", HARD, b"p")], "/p: a FIFO, which an image cannot hold",
-             "/q: a FIFO, which an image cannot hold"),
-            ([("m", b"M", b"")], "/m: a member of the unknown type `M`, which an image cannot hold"),
-            ([("../x", FILE, b"")], "../x: the name has `..`"),
-            ([("/a/../x", FILE, b"")], "/a/../x: the name has `..`"),
-            ([("./", LINK, b"x")], "./: the root is a directory, and this member is none"),
-            ([("caf\udce9", FILE, b"")], "/caf\\xe9: its name is no UTF-8"),
-            ([("l", LINK, b"\xff")], "/l: its target is no UTF-8"),
-            ([("l", LINK, b"")], "/l: the target is empty"),
-            ([("l", LINK, b"t" * 4096)], "/l: the target has 4096 bytes, more than 4095"),
-            ([("n" * 256, FILE, b"")], f"/{'n' * 256}: its name has 256 bytes, more than 255"),
-            ([("n" * 256 + "/f", FILE, b"")], f"/{'n' * 256}: its name has 256 bytes, more than 255"),
+            ([("null", tarfile.CHRTYPE, b"")], "'/null': a device, which an image cannot hold"),
+            ([("d/sda", tarfile.BLKTYPE, b"")], "'/d/sda': a device, which an image cannot hold"),
+            ([("p", FIFO, b""), ("q", HARD, b"p")], "'/p': a FIFO, which an image cannot hold",
+             "'/q': a FIFO, which an image cannot hold"),
+            ([("m", b"M", b"")], "'/m': a member of the unknown type `M`, which an image cannot hold"),
+            ([("../x", FILE, b"")], "'../x': the name has `..`"),
+            ([("/a/../x", FILE, b"")], "'/a/../x': the name has `..`"),
+            ([("./", LINK, b"x")], "'./': the root is a directory, and this member is none"),
+            ([("caf\udce9", FILE, b"")], "'/caf\\xe9': its name is no UTF-8"),
+            ([("l", LINK, b"\xff")], "'/l': its target is no UTF-8"),
+            ([("l", LINK, b"")], "'/l': the target is empty"),
+            ([("l", LINK, b"t" * 4096)], "'/l': the target has 4096 bytes, more than 4095"),
+            ([("n" * 256, FILE, b"")], f"'/{'n' * 256}': its name has 256 bytes, more than 255"),
+            ([("n" * 256 + "/f", FILE, b"")], f"'/{'n' * 256}': its name has 256 bytes, more than 255"),
             ([("/".join(["n" * 255] * 16), FILE, b"")],
-             f"{('/' + 'n' * 255) * 16}: its path has 4096 bytes, more than 4095"),
-            ([("h", HARD, b"none")], "/h: a hard link to /none, which is not there"),
-            ([("h", HARD, b"f"), ("f", FILE, b"")], "/h: a hard link to /f, which is not there"),
-            ([("h", HARD, b"../f")], "/h: a hard link to ../f, which is not there"),
-            ([("d", DIR, b""), ("h", HARD, b"d")], "/h: a hard link to /d, which is a directory"),
-            ([("a", DIR, b""), ("a", LINK, b"t")], "/a: a directory in one member, and something else in another"),
-            ([("a", FILE, b""), ("a", DIR, b"")], "/a: a directory in one member, and something else in another"),
-            ([("a", LINK, b"/"), ("a/b", FILE, b"")], "/a: a symbolic link, and /a/b stands below it"),
-            ([("a/b/c", FILE, b""), ("a", FILE, b"")], "/a: a file, and /a/b/c stands below it"),
-            ([("b", FILE, b"x" * (BIG + 1))], "/b: it has 16777217 bytes, more than 16777216"),
+             f"'{('/' + 'n' * 255) * 16}': its path has 4096 bytes, more than 4095"),
+            ([("h", HARD, b"none")], "'/h': a hard link to '/none', which is not there"),
+            ([("h", HARD, b"f"), ("f", FILE, b"")], "'/h': a hard link to '/f', which is not there"),
+            ([("h", HARD, b"../f")], "'/h': a hard link to '../f', which is not there"),
+            ([("d", DIR, b""), ("h", HARD, b"d")], "'/h': a hard link to '/d', which is a directory"),
+            ([("a", DIR, b""), ("a", LINK, b"t")], "'/a': a directory in one member, and something else in another"),
+            ([("a", FILE, b""), ("a", DIR, b"")], "'/a': a directory in one member, and something else in another"),
+            ([("a", LINK, b"/"), ("a/b", FILE, b"")], "'/a': a symbolic link, and '/a/b' stands below it"),
+            ([("a/b/c", FILE, b""), ("a", FILE, b"")], "'/a': a file, and '/a/b/c' stands below it"),
+            ([("b", FILE, b"x" * (BIG + 1))], "'/b': it has 16777217 bytes, more than 16777216"),
             ([(str(number), DIR, b"") for number in range(4096)], "there are 4096 entries, more than 4095"),
             ([("z", FIFO, b""), ("../a", FILE, b""), ("b", HARD, b"c"), ("ok", FILE, b"x")],
-             "../a: the name has `..`", "/b: a hard link to /c, which is not there",
-             "/z: a FIFO, which an image cannot hold"),
+             "'../a': the name has `..`", "'/b': a hard link to '/c', which is not there",
+             "'/z': a FIFO, which an image cannot hold"),
         ):
             with self.subTest(lines):
                 self.says(self.pack(*members), 1, *lines)
@@ -249,7 +250,7 @@ class Refused(ArchiveCase):
             member.pax_headers = {"path": "a\0b"}
             archive.addfile(member)
         write(self.at("a.tar"), data.getvalue())
-        self.says(self.image("pack", self.at("a.tar"), self.at("img")), 1, "/a\\x00b: a NUL stands in its name")
+        self.says(self.image("pack", self.at("a.tar"), self.at("img")), 1, "'/a\\x00b': a NUL stands in its name")
 
 
 class Broken(ArchiveCase):
@@ -264,7 +265,7 @@ class Broken(ArchiveCase):
             with self.subTest(data[:10]):
                 write(self.at("a.tar"), data)
                 done = self.image("pack", self.at("a.tar"), self.at("img"))
-                self.says(done, 2, "a.tar is neither a folder nor a tar archive that Python can read")
+                self.says(done, 2, "'a.tar' is neither a folder nor a tar archive that Python can read")
 
     def test_an_archive_that_is_cut_anywhere(self) -> None:
         first, second = (random.Random(size).randbytes(size) for size in (700, 2000))
@@ -283,7 +284,7 @@ class Broken(ArchiveCase):
         write(self.at("a.tar"), data)
         done = self.image("pack", self.at("a.tar"), self.at("img"))
         self.assertEqual((done.status, done.out, len(done.err)), (2, [], 1), done)
-        self.assertRegex(done.err[0], "^image: a.tar is (a broken or truncated archive|neither a folder nor a tar)")
+        self.assertRegex(done.err[0], "^image: 'a.tar' is (a broken or truncated archive|neither a folder nor a tar)")
         self.assertEqual(self.left(), ["a.tar"])
 
     def test_a_compressed_archive_that_is_cut_or_changed(self) -> None:
@@ -302,7 +303,47 @@ class Broken(ArchiveCase):
         at = 1024 + 100
         write(self.at("a.tar"), data[:at] + b"7" + data[at + 1 :])
         done = self.image("pack", self.at("a.tar"), self.at("img"))
-        self.says(done, 2, "a.tar is a broken or truncated archive")
+        self.says(done, 2, "'a.tar' is a broken or truncated archive")
+
+
+class Zstd(ArchiveCase):
+    """Archives that are compressed by zstd, which Python reads from 3.14 on."""
+
+    MEMBERS = [("a", FILE, b"x" * 5000), ("b", FILE, b"y")]
+    # Frames that only these bytes show to be of zstd, which nothing decompresses.
+    FRAMES = (b"\x28\xb5\x2f\xfd", b"\x50\x2a\x4d\x18\0\0\0\0")
+
+    def pack_bytes(self, data: bytes) -> Done:
+        write(self.at("a.tar.zst"), data)
+        return self.image("pack", self.at("a.tar.zst"), self.at("img"))
+
+    def test_it_is_told_by_name_where_nothing_reads_it(self) -> None:
+        line = "'a.tar.zst' is compressed by zstd: to read it takes Python 3.14, or the program zstd in the PATH"
+        methods = {name: method for name, method in tarfile.TarFile.OPEN_METH.items() if name != "zst"}
+        with mock.patch.dict(os.environ, PATH=self.at()), mock.patch.object(tarfile.TarFile, "OPEN_METH", methods):
+            for frame in self.FRAMES:
+                with self.subTest(frame):
+                    self.says(self.pack_bytes(frame + bytes(100)), 2, line)
+        self.assertEqual(self.left(), ["a.tar.zst"])
+
+    @unittest.skipUnless(shutil.which("zstd"), "there is no zstd")
+    def test_the_program_zstd_reads_it(self) -> None:
+        tar = archive_of(self.MEMBERS)
+        data = subprocess.run(["zstd", "-c"], input=tar, capture_output=True, check=True).stdout
+        write(self.at("plain.tar"), tar)
+        self.assertEqual(self.image("pack", self.at("plain.tar"), self.at("plain")).status, 0)
+        skipped = b"\x51\x2a\x4d\x18\x03\0\0\0abc"
+        for whole in (data, skipped + data):
+            counts = "0 directories, 2 files, 0 links, 2 blobs, 5001 bytes"
+            self.assertEqual(self.pack_bytes(whole), Done(0, [f"img: {counts}"], []))
+            self.assertEqual(sorted(os.listdir(self.at("img"))), sorted(os.listdir(self.at("plain"))))
+            folders.remove(self.at("img"))
+        for cut in (len(data) - 1, len(data) // 2, 8):
+            with self.subTest(cut):
+                done = self.pack_bytes(data[:cut])
+                self.assertEqual((done.status, done.out, len(done.err)), (2, [], 1))
+                self.assertRegex(done.err[0], "^image: 'a.tar.zst' is a broken or truncated archive: ")
+                self.assertEqual(self.left(), ["a.tar.zst", "plain", "plain.tar"])
 
 
 def compressed(data: bytes, kind: str) -> bytes:

@@ -1,6 +1,7 @@
 """Which images tools/image refuses, and what it says of each: a table, held to the program where that is built."""
 from __future__ import annotations
 
+import hashlib
 import os
 import re
 import subprocess
@@ -18,7 +19,7 @@ Beside = Dict[str, Union[bytes, int, str]]
 ONE: Beside = {"b": b"x"}
 
 
-INDEX_MISSING = "refused: 1 NoIndex: there is no file img/image.json: is it a folder that was not packed?"
+INDEX_MISSING = "refused: 1 NoIndex: there is no file 'img/image.json': is it a folder that was not packed?"
 
 
 class Row(NamedTuple):
@@ -175,37 +176,37 @@ NO_INDEX = [
     bad_entry("an entry without members", "{}", ": the member `path` is missing; the member `type` is missing"),
     bad_entry("no path", '{"type":"dir","mode":0}', ": the member `path` is missing"),
     bad_entry("a number as path", '{"path":5,"type":"dir","mode":0}', ": `path` is the number 5, and not a text"),
-    bad_entry("no type", '{"path":"/a","mode":0}', ", /a: the member `type` is missing"),
+    bad_entry("no type", '{"path":"/a","mode":0}', ", '/a': the member `type` is missing"),
     bad_entry("another type", '{"path":"/a","type":"pipe","mode":0}',
-              ", /a: `type` is the text `pipe`, and not `file`, `dir` or `link`"),
+              ", '/a': `type` is the text `pipe`, and not `file`, `dir` or `link`"),
     bad_entry("a type in capitals", '{"path":"/a","type":"Dir","mode":0}',
-              ", /a: `type` is the text `Dir`, and not `file`, `dir` or `link`"),
+              ", '/a': `type` is the text `Dir`, and not `file`, `dir` or `link`"),
     bad_entry("an array as type", '{"path":"/a","type":["dir"],"mode":0}',
-              ", /a: `type` is an array, and not `file`, `dir` or `link`"),
-    bad_entry("no mode", '{"path":"/a","type":"dir"}', ", /a: the member `mode` is missing"),
-    bad_entry("a mode past 4095", folder("/a", "4096"), f", /a: `mode` is the number 4096, {MODES}"),
-    bad_entry("a negative mode", folder("/a", "-1"), f", /a: `mode` is the number -1, {MODES}"),
-    bad_entry("mode -0", folder("/a", "-0"), f", /a: `mode` is the number -0.0, {MODES}"),
-    bad_entry("mode 1.0", folder("/a", "1.0"), f", /a: `mode` is the number 1.0, {MODES}"),
-    bad_entry("mode 1e2", folder("/a", "1e2"), f", /a: `mode` is the number 100.0, {MODES}"),
+              ", '/a': `type` is an array, and not `file`, `dir` or `link`"),
+    bad_entry("no mode", '{"path":"/a","type":"dir"}', ", '/a': the member `mode` is missing"),
+    bad_entry("a mode past 4095", folder("/a", "4096"), f", '/a': `mode` is the number 4096, {MODES}"),
+    bad_entry("a negative mode", folder("/a", "-1"), f", '/a': `mode` is the number -1, {MODES}"),
+    bad_entry("mode -0", folder("/a", "-0"), f", '/a': `mode` is the number -0.0, {MODES}"),
+    bad_entry("mode 1.0", folder("/a", "1.0"), f", '/a': `mode` is the number 1.0, {MODES}"),
+    bad_entry("mode 1e2", folder("/a", "1e2"), f", '/a': `mode` is the number 100.0, {MODES}"),
     bad_entry("mode 2^64", folder("/a", "18446744073709551616"),
-              f", /a: `mode` is the number 1.8446744073709552e+19, {MODES}"),
+              f", '/a': `mode` is the number 1.8446744073709552e+19, {MODES}"),
     bad_entry("mode 2^64 and more, of which the low bits are good", file("/a", mode="18446744073709552036"),
-              f", /a: `mode` is the number 1.8446744073709552e+19, {MODES}"),
-    bad_entry("a text as mode", folder("/a", '"493"'), f", /a: `mode` is the text `493`, {MODES}"),
-    bad_entry("true as mode", folder("/a", "true"), f", /a: `mode` is true, {MODES}"),
+              f", '/a': `mode` is the number 1.8446744073709552e+19, {MODES}"),
+    bad_entry("a text as mode", folder("/a", '"493"'), f", '/a': `mode` is the text `493`, {MODES}"),
+    bad_entry("true as mode", folder("/a", "true"), f", '/a': `mode` is true, {MODES}"),
     bad_entry("the last mode counts", '{"path":"/a","type":"dir","mode":493,"mode":null}',
-              f", /a: `mode` is null, {MODES}"),
-    bad_entry("no blob", '{"path":"/a","type":"file","mode":0}', ", /a: the member `blob` is missing"),
+              f", '/a': `mode` is null, {MODES}"),
+    bad_entry("no blob", '{"path":"/a","type":"file","mode":0}', ", '/a': the member `blob` is missing"),
     bad_entry("null as blob", '{"path":"/a","type":"file","mode":0,"blob":null}',
-              ", /a: `blob` is null, and not a text"),
-    bad_entry("no target", '{"path":"/a","type":"link","blob":"b","mode":0}', ", /a: the member `target` is missing"),
+              ", '/a': `blob` is null, and not a text"),
+    bad_entry("no target", '{"path":"/a","type":"link","blob":"b","mode":0}', ", '/a': the member `target` is missing"),
     bad_entry("a number as target", '{"path":"/a","type":"link","target":1}',
-              ", /a: `target` is the number 1, and not a text"),
+              ", '/a': `target` is the number 1, and not a text"),
     bad_entry("mode and blob", '{"path":"/a","type":"file","mode":[],"blob":{}}',
-              f", /a: `mode` is an array, {MODES}; `blob` is an object, and not a text"),
+              f", '/a': `mode` is an array, {MODES}; `blob` is an object, and not a text"),
     bad_index("all that are wrong, and no path", index(folder("a"), folder("/b", "-1"), folder("/c"), "7"),
-              f"entry 2, /b: `mode` is the number -1, {MODES}", "entry 4: it is the number 7, and no object"),
+              f"entry 2, '/b': `mode` is the number -1, {MODES}", "entry 4: it is the number 7, and no object"),
     bad_index("twenty, and how many more", index(*["null"] * 25),
               *(f"entry {number}: it is null, and no object" for number in range(1, 21)), "and 5 more"),
     Row("an index past the limit", with_value("1").ljust(4_194_305).encode(),
@@ -218,70 +219,70 @@ E_ACUTE = "\u00e9"
 BAD_PATH = rows_of(
     3,
     "BadPath",
-    ("no `/` at the beginning", [folder("a")], "entry 1, a: the path doesn't begin with `/`"),
-    ("empty", [folder("")], "entry 1, : the path doesn't begin with `/`"),
+    ("no `/` at the beginning", [folder("a")], "entry 1, 'a': the path doesn't begin with `/`"),
+    ("empty", [folder("")], "entry 1, '': the path doesn't begin with `/`"),
     ("the root", [folder("/")],
-     "entry 1, /: the path has an empty name: a `/` stands at its end, or behind another"),
+     "entry 1, '/': the path has an empty name: a `/` stands at its end, or behind another"),
     ("a `/` at the end", [folder("/a/")],
-     "entry 1, /a/: the path has an empty name: a `/` stands at its end, or behind another"),
+     "entry 1, '/a/': the path has an empty name: a `/` stands at its end, or behind another"),
     ("two `/`", [folder("//a")],
-     "entry 1, //a: the path has an empty name: a `/` stands at its end, or behind another"),
-    (".", [folder("/.")], "entry 1, /.: the path has the name `.`"),
-    ("..", [folder("/a"), folder("/a/../b")], "entry 2, /a/../b: the path has the name `..`"),
-    ("a NUL", [folder("/a\\u0000b")], "entry 1, /a\\x00b: a NUL stands in the path"),
+     "entry 1, '//a': the path has an empty name: a `/` stands at its end, or behind another"),
+    (".", [folder("/.")], "entry 1, '/.': the path has the name `.`"),
+    ("..", [folder("/a"), folder("/a/../b")], "entry 2, '/a/../b': the path has the name `..`"),
+    ("a NUL", [folder("/a\\u0000b")], "entry 1, '/a\\x00b': a NUL stands in the path"),
     ("a name of 256 bytes", [folder(f"/{LONG}n")],
-     f"entry 1, /{LONG}n: the path has a name of 256 bytes, more than 255"),
+     f"entry 1, '/{LONG}n': the path has a name of 256 bytes, more than 255"),
     ("a name of 256 bytes and fewer letters", [folder("/" + E_ACUTE * 128)],
-     f"entry 1, /{E_ACUTE * 128}: the path has a name of 256 bytes, more than 255"),
+     f"entry 1, '/{E_ACUTE * 128}': the path has a name of 256 bytes, more than 255"),
     ("a path of 4096 bytes", [folder("/d" * 2048)],
-     f"entry 1, {'/d' * 2048}: the path has 4096 bytes, more than 4095"),
+     f"entry 1, '{'/d' * 2048}': the path has 4096 bytes, more than 4095"),
     ("a path of 4097 bytes and fewer letters", [folder(f"/{E_ACUTE * 100}" * 20 + f"/{E_ACUTE * 38}")],
-     f"entry 1, {f'/{E_ACUTE * 100}' * 20}/{E_ACUTE * 38}: the path has 4097 bytes, more than 4095"),
-    ("an empty target", [link("/l", "")], "entry 1, /l: the target is empty"),
-    ("a target of 4096 bytes", [link("/l", "t" * 4096)], "entry 1, /l: the target has 4096 bytes, more than 4095"),
+     f"entry 1, '{f'/{E_ACUTE * 100}' * 20}/{E_ACUTE * 38}': the path has 4097 bytes, more than 4095"),
+    ("an empty target", [link("/l", "")], "entry 1, '/l': the target is empty"),
+    ("a target of 4096 bytes", [link("/l", "t" * 4096)], "entry 1, '/l': the target has 4096 bytes, more than 4095"),
     ("a target of 4096 bytes and fewer letters", [link("/l", E_ACUTE * 2048)],
-     "entry 1, /l: the target has 4096 bytes, more than 4095"),
-    ("a NUL in a target", [link("/l", "a\\u0000")], "entry 1, /l: a NUL stands in the target"),
-    ("an empty blob's name", [file("/f", "")], "entry 1, /f: the blob's name is empty"),
-    ("a blob that begins with a `.`", [file("/f", ".b")], "entry 1, /f: the blob's name `.b` begins with a `.`"),
+     "entry 1, '/l': the target has 4096 bytes, more than 4095"),
+    ("a NUL in a target", [link("/l", "a\\u0000")], "entry 1, '/l': a NUL stands in the target"),
+    ("an empty blob's name", [file("/f", "")], "entry 1, '/f': the blob's name is empty"),
+    ("a blob that begins with a `.`", [file("/f", ".b")], "entry 1, '/f': the blob's name `.b` begins with a `.`"),
     ("a blob in a folder", [file("/f", "d/b")],
-     "entry 1, /f: the blob's name `d/b` has more than letters and digits of ASCII, `.`, `_` and `-`"),
+     "entry 1, '/f': the blob's name `d/b` has more than letters and digits of ASCII, `.`, `_` and `-`"),
     ("a blob that is no ASCII", [file("/f", E_ACUTE)],
-     f"entry 1, /f: the blob's name `{E_ACUTE}` has more than letters and digits of ASCII, `.`, `_` and `-`"),
+     f"entry 1, '/f': the blob's name `{E_ACUTE}` has more than letters and digits of ASCII, `.`, `_` and `-`"),
     ("a blob with a line's end", [file("/f", "b\\n")],
-     "entry 1, /f: the blob's name `b\\n` has more than letters and digits of ASCII, `.`, `_` and `-`"),
+     "entry 1, '/f': the blob's name `b\\n` has more than letters and digits of ASCII, `.`, `_` and `-`"),
     ("a blob's name of 256", [file("/f", LONG + "n")],
-     "entry 1, /f: the blob's name has 256 characters, more than 255"),
+     "entry 1, '/f': the blob's name has 256 characters, more than 255"),
     ("a path and its blob", [file("f", "..")],
-     "entry 1, f: the path doesn't begin with `/`; the blob's name `..` begins with a `.`"),
+     "entry 1, 'f': the path doesn't begin with `/`; the blob's name `..` begins with a `.`"),
     ("before Twice, and all of them", [folder("/a"), folder("/a"), link("/l", ""), folder("/b/.")],
-     "entry 3, /l: the target is empty", "entry 4, /b/.: the path has the name `.`"),
+     "entry 3, '/l': the target is empty", "entry 4, '/b/.': the path has the name `.`"),
     ("a control, which is escaped", [folder("a\\u001b[31m")],
-     "entry 1, a\\x1b[31m: the path doesn't begin with `/`"),
+     "entry 1, 'a\\x1b[31m': the path doesn't begin with `/`"),
 )
 
 TWICE = rows_of(
     4,
     "Twice",
-    ("two directories", [folder("/a"), folder("/a")], "entry 2, /a: entry 1 has this path too"),
+    ("two directories", [folder("/a"), folder("/a")], "entry 2, '/a': entry 1 has this path too"),
     ("a link and a directory", [link("/a", "/etc"), folder("/a"), file("/a/b")],
-     "entry 2, /a: entry 1 has this path too"),
-    ("one path with an escape", [folder("/a"), link("/\\u0061")], "entry 2, /a: entry 1 has this path too"),
+     "entry 2, '/a': entry 1 has this path too"),
+    ("one path with an escape", [folder("/a"), link("/\\u0061")], "entry 2, '/a': entry 1 has this path too"),
     ("three, and before NoParent", [folder("/x/y"), folder("/a"), link("/a"), file("/a")],
-     "entry 3, /a: entry 2 has this path too", "entry 4, /a: entry 2 has this path too"),
+     "entry 3, '/a': entry 2 has this path too", "entry 4, '/a': entry 2 has this path too"),
 )
 
 NO_PARENT = rows_of(
     5,
     "NoParent",
-    ("nothing there", [file("/x"), folder("/c"), file("/a/b")], "entry 3, /a/b: nothing stands at /a"),
-    ("only the one around that", [folder("/a"), folder("/a/b/c")], "entry 2, /a/b/c: nothing stands at /a/b"),
-    ("a longer name", [folder("/ab"), file("/a/b")], "entry 2, /a/b: nothing stands at /a"),
-    ("a file", [file("/a"), file("/a/b")], "entry 2, /a/b: /a is a file, and no directory"),
+    ("nothing there", [file("/x"), folder("/c"), file("/a/b")], "entry 3, '/a/b': nothing stands at '/a'"),
+    ("only the one around that", [folder("/a"), folder("/a/b/c")], "entry 2, '/a/b/c': nothing stands at '/a/b'"),
+    ("a longer name", [folder("/ab"), file("/a/b")], "entry 2, '/a/b': nothing stands at '/a'"),
+    ("a file", [file("/a"), file("/a/b")], "entry 2, '/a/b': '/a' is a file, and no directory"),
     ("a link to a directory", [folder("/d"), link("/a", "/d"), file("/a/b")],
-     "entry 3, /a/b: /a is a symbolic link, and no directory"),
+     "entry 3, '/a/b': '/a' is a symbolic link, and no directory"),
     ("before NoBlob, and all of them", [file("/f", "none"), file("/a/b"), folder("/c/d")],
-     "entry 2, /a/b: nothing stands at /a", "entry 3, /c/d: nothing stands at /c"),
+     "entry 2, '/a/b': nothing stands at '/a'", "entry 3, '/c/d': nothing stands at '/c'"),
 )
 
 
@@ -293,34 +294,34 @@ STORED = [
     Row("no folder or no index", None, (INDEX_MISSING,)),
     Row("an index that is a link to nothing", None, (INDEX_MISSING,),
         {"image.json": BROKEN_LINK}),
-    Row("an index that is a folder", None, ("store fault: img/image.json: a folder, and no file",),
+    Row("an index that is a folder", None, ("store fault: 'img/image.json': a folder, and no file",),
         {"image.json": FOLDER}),
-    Row("an index that is a FIFO", None, ("store fault: img/image.json: no file that can be read from its start",),
+    Row("an index that is a FIFO", None, ("store fault: 'img/image.json': no file that can be read from its start",),
         {"image.json": FIFO}),
     Row("no blob", index(file("/f", "b"), file("/e", "c"), file("/d", "c")),
-        ("refused: 6 NoBlob: entry 2, /e: there is no file img/c",
-         "refused: 6 NoBlob: entry 3, /d: there is no file img/c")),
+        ("refused: 6 NoBlob: entry 2, '/e': there is no file 'img/c'",
+         "refused: 6 NoBlob: entry 3, '/d': there is no file 'img/c'")),
     Row("a blob that is a link to nothing", index(file("/f", "c")),
-        ("refused: 6 NoBlob: entry 1, /f: there is no file img/c",), {"c": BROKEN_LINK}),
-    Row("a blob that is a folder", index(file("/f", "c")), ("store fault: img/c: a folder, and no file",),
+        ("refused: 6 NoBlob: entry 1, '/f': there is no file 'img/c'",), {"c": BROKEN_LINK}),
+    Row("a blob that is a folder", index(file("/f", "c")), ("store fault: 'img/c': a folder, and no file",),
         {"c": FOLDER}),
     Row("a blob that is a FIFO", index(file("/f", "c")),
-        ("store fault: img/c: no file that can be read from its start",), {"c": FIFO}),
+        ("store fault: 'img/c': no file that can be read from its start",), {"c": FIFO}),
     Row("a blob that is a folder before one that is missing", index(file("/b", "none"), file("/a", "c")),
-        ("store fault: img/c: a folder, and no file",), {"c": FOLDER}),
+        ("store fault: 'img/c': a folder, and no file",), {"c": FOLDER}),
     Row("a blob that is missing before one that is a folder", index(file("/b", "c"), file("/a", "none")),
-        ("refused: 6 NoBlob: entry 2, /a: there is no file img/none",), {"c": FOLDER}),
+        ("refused: 6 NoBlob: entry 2, '/a': there is no file 'img/none'",), {"c": FOLDER}),
     Row("a blob that is a folder before one too big", index(file("/a", "c"), file("/b", "d")),
-        ("store fault: img/d: a folder, and no file",), {"c": BIG + 1, "d": FOLDER}),
+        ("store fault: 'img/d': a folder, and no file",), {"c": BIG + 1, "d": FOLDER}),
     Row("no blob before one too big", index(file("/a", "c"), file("/b", "none")),
-        ("refused: 6 NoBlob: entry 2, /b: there is no file img/none",), {"c": BIG + 1}),
+        ("refused: 6 NoBlob: entry 2, '/b': there is no file 'img/none'",), {"c": BIG + 1}),
     Row("too big", index(file("/a", "c"), file("/b"), file("/A", "c")),
-        ("refused: 7 TooBig: entry 1, /a: the blob c has 16777217 bytes, more than 16777216",
-         "refused: 7 TooBig: entry 3, /A: the blob c has 16777217 bytes, more than 16777216"),
+        ("refused: 7 TooBig: entry 1, '/a': the blob c has 16777217 bytes, more than 16777216",
+         "refused: 7 TooBig: entry 3, '/A': the blob c has 16777217 bytes, more than 16777216"),
         {"b": b"", "c": BIG + 1}),
     Row("too many", many(4096), ("refused: 8 TooMany: there are 4096 entries, more than 4095",)),
     Row("too big before too many", many(4095)[:-2] + f',{file("/big", "c")}]}}'.encode(),
-        ("refused: 7 TooBig: entry 4096, /big: the blob c has 16777217 bytes, more than 16777216",),
+        ("refused: 7 TooBig: entry 4096, '/big': the blob c has 16777217 bytes, more than 16777216",),
         {"b": b"", "c": BIG + 1}),
 ]
 
@@ -399,8 +400,9 @@ class Check(ImageCase):
     def test_places_that_are_no_folder(self) -> None:
         write(self.at("file"), b"")
         for word, line in (
-            ("nowhere", "refused: 1 NoIndex: there is no folder nowhere"),
-            ("file", "store fault: file/image.json: Not a directory"),
+            ("nowhere", "refused: 1 NoIndex: there is no folder 'nowhere'"),
+            ("a b's\n", "refused: 1 NoIndex: there is no folder 'a b\\'s\\n'"),
+            ("file", "store fault: 'file/image.json': Not a directory"),
         ):
             with self.subTest(word):
                 self.says(self.image("check", self.at(word)), 1, line)
@@ -415,13 +417,38 @@ class Check(ImageCase):
         done = self.image("check", self.at("again"))
         self.assertEqual(done, Done(0, ["again is good: 0 directories, 1 file, 0 links, 1 blob, 4 bytes"], []))
 
+    def test_a_blob_with_other_bytes_than_its_name_says_is_damaged(self) -> None:
+        good, other = hashlib.sha256(b"good").hexdigest(), hashlib.sha256(b"bad").hexdigest()
+        line = f"the blob {good} has bytes of another SHA-256, {other}"
+        blobs = {"/z": good, "/a": good, "/b": good.upper(), "/c": good[1:], "/d": other}
+        write(self.at("img", "image.json"), index(*(file(path, blob) for path, blob in blobs.items())))
+        for name in (good, good.upper(), good[1:], other):
+            write(self.at("img", name), b"bad")
+        self.says(self.image("check", self.at("img")), 1, f"damaged: entry 1, '/z': {line}")
+        write(self.at("img", good), b"good")
+        self.assertEqual(self.image("check", self.at("img")).status, 0)
+        write(self.at("img", other), b"")
+        self.assertEqual(self.image("check", self.at("img")).err[0][:34], "image: damaged: entry 5, '/d': the")
+        for command in ("list", "unpack"):
+            with self.subTest(command):
+                words = [self.at("img")] + ([self.at("out")] if command == "unpack" else [])
+                self.assertEqual(self.image(command, *words).status, 0)
+
+    def test_at_most_twenty_damaged_blobs_are_named(self) -> None:
+        names = [f"{number:064x}" for number in range(25)]
+        write(self.at("img", "image.json"), index(*(file(f"/{name}", name) for name in names)))
+        for name in names:
+            write(self.at("img", name), b"")
+        done = self.image("check", self.at("img"))
+        self.assertEqual((done.status, len(done.err), done.err[-1]), (1, 21, "image: damaged: and 5 more"))
+
     @unittest.skipIf(os.geteuid() == 0, "root may read every file")
     def test_files_without_permission_are_store_faults_but_for_empty_ones(self) -> None:
-        fault = "store fault: img/b: Permission denied"
+        fault = "store fault: 'img/b': Permission denied"
         for name, size, lines in (
             ("b", 1, [fault]),
             ("b", 0, []),
-            ("image.json", 1, ["store fault: img/image.json: Permission denied"]),
+            ("image.json", 1, ["store fault: 'img/image.json': Permission denied"]),
             ("image.json", 0, [f"refused: 2 BadIndex: image.json, line 1, column 1: {ENDS}"]),
         ):
             with self.subTest(name, size=size):

@@ -44,7 +44,7 @@ class Words(ImageCase):
     def test_the_script_ends_with_the_status(self) -> None:
         write(self.at("tree", "f"), b"x")
         os.mkfifo(self.at("tree", "pipe"))
-        self.says(self.script("pack", "tree", "img"), 1, "/pipe: a FIFO, which an image cannot hold")
+        self.says(self.script("pack", "tree", "img"), 1, "'/pipe': a FIFO, which an image cannot hold")
         self.says(self.script("check"), 2, "the following arguments are required: IMAGE (see image check --help)")
         done = self.script("pack", "tree", "img", "--exclude", "pipe")
         self.assertEqual(done, Done(0, ["img: 0 directories, 1 file, 0 links, 1 blob, 1 byte"], []))

@@ -107,9 +107,20 @@ class WordsTest(Case):
     def test_equal_reports_are_equal(self) -> None:
         for text in [SMALL, *examples()]:
             name = self.write("one", text)
-            self.assertEqual(run("diff", name, "-", given=text), (0, b"equal\n", ""))
-            self.assertEqual(run("diff", "-", name, given=text), (0, b"equal\n", ""))
-            self.assertEqual(run("diff", name, name), (0, b"equal\n", ""))
+            code = re.findall(rb"(?m)^exit 1 code (\d+)$", text)[-1].decode()
+            told = ("equal\n" if code == "0" else f"equal, and both ended with code {code}\n").encode()
+            self.assertEqual(run("diff", name, "-", given=text), (0, told, ""))
+            self.assertEqual(run("diff", "-", name, given=text), (0, told, ""))
+            self.assertEqual(run("diff", name, name), (0, told, ""))
+
+    def test_equal_reports_of_runs_that_failed_say_how_both_ended(self) -> None:
+        large = out(1, LONG)
+        for end, told in ((b"code 1", "with code 1"), (b"code 255", "with code 255"), (b"signal 9", "by signal 9")):
+            for before in (b"", large, b"exit 2 code 0\n", b"exit 11 code 7\n"):
+                with self.subTest(end, before=before[:20]):
+                    text = report(before, b"exit 1 " + end + b"\n", b"exit 3 signal 9\n", tree=[])
+                    line = f"equal, and both ended {told}\n"
+                    self.assertEqual(run("diff", self.write("one", text), "-", given=text), (0, line.encode(), ""))
 
     def test_equal_reports_of_runs_that_did_not_end_say_so(self) -> None:
         for verdict, told in (("nostart 2", "nostart (errno 2)"), ("budget", "budget"), ("deadlock", "deadlock"),

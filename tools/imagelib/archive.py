@@ -10,8 +10,9 @@ from typing import Dict, Iterator, List, Optional
 from .errors import Outside, reason_of
 from .index import CALLED, DIR, FILE, LINK
 from .store import PIECE
-from .texts import shown
+from .texts import quoted, shown
 from .tree import MODE_BITS, Excluded, Item, Problems, ends_of
+from .zstd import plain
 
 # The mode of a directory that the archive doesn't name.
 PARENT_MODE = 0o755
@@ -27,8 +28,9 @@ class ArchiveTree:
         try:
             self.file = open(word, "rb")
         except OSError as error:
-            raise Outside(f"{shown(word)} cannot be read: {reason_of(error)}") from error
+            raise Outside(f"{quoted(word)} cannot be read: {reason_of(error)}") from error
         try:
+            self.file = plain(self.file, word)
             self.archive = self.opened()
             standing = Standing(excluded, problems)
             for member in self.members():
@@ -45,15 +47,15 @@ class ArchiveTree:
     def broken(self, error: Optional[Exception]) -> Outside:
         """The library's readers have errors of many kinds for what is no archive, so all of them come here."""
         if isinstance(error, OSError) and error.errno:
-            return Outside(f"{shown(self.word)} cannot be read: {reason_of(error)}")
+            return Outside(f"{quoted(self.word)} cannot be read: {reason_of(error)}")
         said = " ".join(str(error).split()) if error else ""
-        return Outside(f"{shown(self.word)} is a broken or truncated archive" + (f": {shown(said)}" if said else ""))
+        return Outside(f"{quoted(self.word)} is a broken or truncated archive" + (f": {shown(said)}" if said else ""))
 
     def opened(self) -> TarFile:
         try:
             return tarfile.open(fileobj=self.file, mode="r:*", encoding="utf-8", errors="surrogateescape")
         except tarfile.TarError as error:
-            raise Outside(f"{shown(self.word)} is neither a folder nor a tar archive that Python can read") from error
+            raise Outside(f"{quoted(self.word)} is neither a folder nor a tar archive that Python can read") from error
         except Exception as error:
             raise self.broken(error) from error
 
@@ -143,9 +145,9 @@ class Standing:
         target_path = path_of(member.linkname)
         found = self.items.get(target_path) if target_path else None
         if found is None:
-            self.problem(path, f"a hard link to {shown(target_path or member.linkname)}, which is not there")
+            self.problem(path, f"a hard link to {quoted(target_path or member.linkname)}, which is not there")
         elif found.kind == DIR:
-            self.problem(path, f"a hard link to {shown(found.path)}, which is a directory")
+            self.problem(path, f"a hard link to {quoted(found.path)}, which is a directory")
         else:
             return found._replace(path=path)
         return None
@@ -162,7 +164,7 @@ class Standing:
             item = self.items.setdefault(around, Item(around, DIR, PARENT_MODE))
             if item.kind != DIR:
                 called = CALLED.get(item.kind, item.kind)
-                self.problem(around, f"{called}, and {shown(path)} stands below it")
+                self.problem(around, f"{called}, and {quoted(path)} stands below it")
 
 
 def raw(name: str) -> bytes:

@@ -7,12 +7,13 @@ import signal
 import sys
 from typing import List, NoReturn, Optional, Sequence, TextIO
 
+from .check import checked
 from .errors import ImageError, Outside, reason_of
 from .folders import STOPS
 from .index import read_image
 from .listing import listed
 from .pack import pack
-from .texts import shown
+from .texts import quoted, shown
 from .unpack import unpack
 
 TOOL = "image"
@@ -21,19 +22,20 @@ DESCRIPTION = "Images for dettrace: packs a folder or an archive as one, lists, 
 
 STATUS = """exit status:
   0  done
-  1  the image is refused, or dettrace could not read it (list, check, unpack), or what was to be packed cannot be
-     held by an image (pack)
+  1  the image is refused, or dettrace could not read it (list, check, unpack), or it is damaged (check), or what
+     was to be packed cannot be held by an image (pack)
   2  used wrongly, or something outside failed: nothing is there to be packed, a place is taken, a disk is full
 
 For each error there is one line on standard error, which begins with `image:`. Names that begin with - stand behind
 a word --."""
 
 PACK = """Makes the folder IMAGE of the directories, files and symbolic links of FOLDER, or of a tar archive, plain
-or compressed by gzip, bzip2 or xz. Modes are kept (the low 12 bits); owners, times, extended attributes and
-FOLDER's own mode are not, since the root of every image has mode 0755. The same tree gives the same bytes
-wherever and whenever it is packed.
+or compressed by gzip, bzip2, xz or zstd (the last takes Python 3.14 or the program zstd). Modes are kept (the
+low 12 bits); owners, times, extended attributes and FOLDER's own mode are not, since the root of every image
+has mode 0755. The same tree gives the same bytes wherever and whenever it is packed.
 
-A file with several names becomes several files, and a line on standard output says so. What an image cannot
+A file with several names becomes several files, and a line on standard output says so. So does one where
+FOLDER is an image already, which is packed as any other folder. What an image cannot
 hold is named, all of it, and then nothing is written: devices, sockets and FIFOs; names and targets that are no
 UTF-8; files of more than 16,777,216 bytes; names of more than 255 bytes, paths and targets of more than 4,095;
 more than 4,095 entries; an index of more than 4,194,304 bytes; what cannot be read.
@@ -52,7 +54,8 @@ terminal are escaped."""
 CHECK = """Says in one line what IMAGE holds, or why dettrace refuses it: the refusal's number and name, the
 entry that is wrong (`entry 3` is the third in image.json) and what is wrong with it. It names all entries that
 are wrong in this way, at most twenty, and no other way, since dettrace refuses for the first. `store fault`
-stands where dettrace could not read the folder."""
+stands where dettrace could not read the folder. `damaged` stands where dettrace takes the image, but a blob
+whose name is a SHA-256, as pack names them, has other bytes."""
 
 UNPACK = """Makes FOLDER, which must be empty or not exist, with the tree of IMAGE and its modes; FOLDER's own
 mode is 0755. An empty FOLDER is replaced by a new one, so it cannot be where a disk is mounted. Nothing is
@@ -111,7 +114,7 @@ def run(words: argparse.Namespace) -> List[str]:
     if words.command == "list":
         return listed(read_image(words.image))
     if words.command == "check":
-        return [f"{shown(words.image)} is good: {read_image(words.image).summary()}"]
+        return [checked(words.image)]
     return unpack(words.image, words.folder)
 
 
@@ -170,7 +173,7 @@ def main(arguments: Optional[Sequence[str]] = None) -> int:
         return 2
     except OSError as error:
         name = error.filename
-        complain([f"{shown(name)}: {reason_of(error)}" if isinstance(name, (str, bytes)) else reason_of(error)])
+        complain([f"{quoted(name)}: {reason_of(error)}" if isinstance(name, (str, bytes)) else reason_of(error)])
         return 2
     except MemoryError:
         complain(["out of memory"])

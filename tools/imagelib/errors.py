@@ -30,6 +30,15 @@ class CannotHold(ImageError):
     status = 1
 
 
+class Damaged(ImageError):
+    """Blobs have other bytes than their names say. The program does not look, and would run."""
+
+    status = 1
+
+    def __init__(self, reasons: List[str]) -> None:
+        super().__init__(*(f"damaged: {reason}" for reason in said_of(reasons)))
+
+
 class StoreFault(ImageError):
     """The image's folder could not be read: the program ends with status 4."""
 
@@ -62,11 +71,14 @@ class Refused(ImageError):
     status = 1
 
     def __init__(self, kind: Kind, reasons: List[str]) -> None:
-        said = reasons[:REASONS_SAID]
-        if len(reasons) > len(said):
-            said.append(f"and {len(reasons) - len(said)} more")
-        super().__init__(*(f"refused: {kind.number} {kind.name}: {reason}" for reason in said))
+        super().__init__(*(f"refused: {kind.number} {kind.name}: {reason}" for reason in said_of(reasons)))
         self.kind = kind
+
+
+def said_of(reasons: List[str]) -> List[str]:
+    """The reasons that are said, and how many more there are."""
+    said = reasons[:REASONS_SAID]
+    return said + [f"and {len(reasons) - len(said)} more"] if len(reasons) > len(said) else said
 
 
 def reason_of(error: OSError) -> str:

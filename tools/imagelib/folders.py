@@ -9,7 +9,7 @@ import stat
 from typing import Iterator, List
 
 from .errors import Outside, reason_of
-from .texts import shown
+from .texts import quoted
 
 FOLDER = os.O_RDONLY | os.O_DIRECTORY | os.O_NOFOLLOW
 
@@ -42,16 +42,16 @@ def free_place(word: str, name: str) -> str:
     if not place:
         raise Outside(f"{name} is empty: it is to name the folder that is made")
     if os.path.lexists(place):
-        raise Outside(f"{shown(place)} exists already: name a folder that doesn't")
+        raise Outside(f"{quoted(place)} exists already: name a folder that doesn't")
     parent = parent_of(place)
     try:
         mode = os.stat(parent).st_mode
     except FileNotFoundError as error:
-        raise Outside(f"{shown(place)} cannot be made: there is no folder {shown(parent)}") from error
+        raise Outside(f"{quoted(place)} cannot be made: there is no folder {quoted(parent)}") from error
     except OSError as error:
-        raise Outside(f"{shown(place)} cannot be made: {shown(parent)}: {reason_of(error)}") from error
+        raise Outside(f"{quoted(place)} cannot be made: {quoted(parent)}: {reason_of(error)}") from error
     if not stat.S_ISDIR(mode):
-        raise Outside(f"{shown(place)} cannot be made: {shown(parent)} is no folder")
+        raise Outside(f"{quoted(place)} cannot be made: {quoted(parent)} is no folder")
     return place
 
 
@@ -80,7 +80,7 @@ def made_whole(place: str, mode: int = 0o777) -> Iterator[str]:
             os.rename(folder, place)
         except OSError as error:
             remove(folder)
-            raise Outside(f"{shown(place)} cannot be made: {reason_of(error)}") from error
+            raise Outside(f"{quoted(place)} cannot be made: {reason_of(error)}") from error
         except BaseException:
             remove(folder)
             raise
@@ -96,7 +96,7 @@ def new_beside(place: str, mode: int) -> str:
         except FileExistsError:
             continue
         except OSError as error:
-            raise Outside(f"{shown(place)} cannot be made: {reason_of(error)}") from error
+            raise Outside(f"{quoted(place)} cannot be made: {reason_of(error)}") from error
 
 
 @contextlib.contextmanager
@@ -134,7 +134,7 @@ def remove(folder: str) -> None:
             os.close(top)
         os.rmdir(folder)
     except OSError as error:
-        raise Outside(f"{shown(folder)} is left over, since it cannot be removed: {reason_of(error)}") from error
+        raise Outside(f"{quoted(folder)} is left over, since it cannot be removed: {reason_of(error)}") from error
 
 
 def emptied(folder: int, top: int) -> List[str]:

@@ -12,7 +12,7 @@ from . import strict_json
 from .errors import BAD_INDEX, BAD_PATH, NO_BLOB, NO_INDEX, NO_PARENT, TOO_BIG, TOO_MANY, TWICE
 from .errors import Kind, Refused, StoreFault
 from .store import Store
-from .texts import counted, shown
+from .texts import counted, quoted, shown
 
 INDEX = "image.json"
 
@@ -47,7 +47,7 @@ class Entry(NamedTuple):
         return self.path.encode()
 
     def said(self, reason: str) -> str:
-        return f"entry {self.number}, {shown(self.path)}: {reason}"
+        return f"entry {self.number}, {quoted(self.path)}: {reason}"
 
 
 class Image(NamedTuple):
@@ -127,8 +127,8 @@ def refuse_if(kind: Kind, reasons: List[str]) -> None:
 def missing_index(store: Store) -> str:
     """Why there is no index."""
     if not store.is_there():
-        return f"there is no folder {shown(store.folder)}"
-    return f"there is no file {shown(store.path(INDEX))}: is it a folder that was not packed?"
+        return f"there is no folder {quoted(store.folder)}"
+    return f"there is no file {quoted(store.path(INDEX))}: is it a folder that was not packed?"
 
 
 def index_value(store: Store) -> Any:
@@ -164,7 +164,7 @@ def entries_of(value: Any) -> List[Entry]:
         faults = form_faults(item)
         if faults:
             path = item.get("path") if isinstance(item, dict) else None
-            place = f"entry {number}, {shown(path)}" if isinstance(path, str) else f"entry {number}"
+            place = f"entry {number}, {quoted(path)}" if isinstance(path, str) else f"entry {number}"
             reasons.append(f"{place}: {'; '.join(faults)}")
         elif not reasons:
             entries.append(entry_of(number, item))
@@ -301,9 +301,9 @@ def without_parent(entries: List[Entry]) -> List[str]:
         parent = parent_of(entry.path)
         found = types.get(parent)
         if parent and found is None:
-            reasons.append(entry.said(f"nothing stands at {shown(parent)}"))
+            reasons.append(entry.said(f"nothing stands at {quoted(parent)}"))
         elif parent and found != DIR:
-            reasons.append(entry.said(f"{shown(parent)} is {CALLED[found]}, and no directory"))
+            reasons.append(entry.said(f"{quoted(parent)} is {CALLED[found]}, and no directory"))
     return reasons
 
 
@@ -325,7 +325,7 @@ def sizes_of(store: Store, order: List[Entry]) -> Dict[str, int]:
         else:
             sizes[entry.blob] = size
     missing.sort(key=lambda entry: entry.number)
-    refuse_if(NO_BLOB, [entry.said(f"there is no file {shown(store.path(entry.blob))}") for entry in missing])
+    refuse_if(NO_BLOB, [entry.said(f"there is no file {quoted(store.path(entry.blob))}") for entry in missing])
     return sizes
 
 

@@ -9,11 +9,11 @@ from collections import Counter, defaultdict
 from typing import Dict, Hashable, Iterable, List, NamedTuple, Sequence, Union
 
 from .archive import ArchiveTree
-from .errors import CannotHold, Outside, reason_of
+from .errors import CannotHold, ImageError, Outside, reason_of
 from .folders import free_place, is_inside, made_whole, stop_if_asked
 from .index import CALLED, DIR, FILE, FILE_LIMIT, INDEX, INDEX_LIMIT, LINK, NAME_LIMIT, PATH_LIMIT
-from .index import Entry, index_text, summary, target_fault, too_many
-from .texts import shown
+from .index import Entry, index_text, read_image, summary, target_fault, too_many
+from .texts import quoted, shown
 from .tree import Excluded, FolderTree, Item, Problems, Unreadable, text_of
 
 Tree = Union[FolderTree, ArchiveTree]
@@ -53,15 +53,16 @@ def pack(source: str, image: str, patterns: Sequence[str]) -> List[str]:
             with open(os.path.join(folder, INDEX), "wb") as index:
                 index.write(text_with(items, blobs).encode())
     sizes = {blob.name: blob.size for blob in blobs.values()}
-    notes = hard_links(items) + [f"--exclude '{shown(pattern)}' left nothing out" for pattern in excluded.unused()]
+    notes = told_image(source) + hard_links(items)
+    notes += [f"--exclude {quoted(pattern)} left nothing out" for pattern in excluded.unused()]
     return notes + [f"{shown(place)}: {summary(Counter(item.kind for item in items), sizes)}"]
 
 
 def taken(place: str) -> str:
     """What is said of a place that is taken. Whoever names the two in the wrong order is not to remove the tree."""
     if os.path.lexists(os.path.join(place, INDEX)):
-        return f"{shown(place)} exists already: name another place, or remove that image first"
-    return f"{shown(place)} exists already, and is no image: what is packed is named first, and then the IMAGE to make"
+        return f"{quoted(place)} exists already: name another place, or remove that image first"
+    return f"{quoted(place)} exists already, and is no image: what is packed is named first, and then the IMAGE to make"
 
 
 def tree_of(source: str, place: str, excluded: Excluded, problems: Problems) -> Tree:
@@ -69,14 +70,14 @@ def tree_of(source: str, place: str, excluded: Excluded, problems: Problems) -> 
     try:
         mode = os.stat(source).st_mode
     except OSError as error:
-        raise Outside(f"{shown(source)} cannot be read: {reason_of(error)}") from error
+        raise Outside(f"{quoted(source)} cannot be read: {reason_of(error)}") from error
     if stat.S_ISDIR(mode):
         if is_inside(place, source):
-            raise Outside(f"{shown(place)} would lie inside {shown(source)}, which is packed: name a place outside")
+            raise Outside(f"{quoted(place)} would lie inside {quoted(source)}, which is packed: name a place outside")
         return FolderTree(source, excluded, problems)
     if stat.S_ISREG(mode):
         return ArchiveTree(source, excluded, problems)
-    raise Outside(f"{shown(source)} is neither a folder nor a file with an archive")
+    raise Outside(f"{quoted(source)} is neither a folder nor a file with an archive")
 
 
 # ---- what an image cannot hold
@@ -195,12 +196,21 @@ def copy_file(tree: Tree, item: Item, folder: str) -> Blob:
 # ---- what is said
 
 
+def told_image(source: str) -> List[str]:
+    """A line where what was packed is an image already, which mostly was not meant."""
+    try:
+        read_image(source)
+    except ImageError:
+        return []
+    return [f"{quoted(source)} is an image already, and was packed as a folder, with its {INDEX} as a file"]
+
+
 def hard_links(items: List[Item]) -> List[str]:
     """A line for each file that had several names."""
     names: Dict[Hashable, List[str]] = defaultdict(list)
     for item in items:
         if item.kind != DIR:
-            names[item.shared].append(shown(item.path))
+            names[item.shared].append(quoted(item.path))
     return [
         f"{', '.join(found[:-1])} and {found[-1]} are one file there and {number_word(len(found))} here"
         for found in names.values()

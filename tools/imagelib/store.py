@@ -8,7 +8,7 @@ import stat
 from typing import Iterator, Optional
 
 from .errors import StoreFault, reason_of
-from .texts import shown
+from .texts import quoted
 
 PIECE = 65536
 
@@ -28,7 +28,7 @@ class Store:
         return f"{self.folder}/{name}"
 
     def fault(self, name: str, reason: str) -> StoreFault:
-        return StoreFault(f"{shown(self.path(name))}: {reason}")
+        return StoreFault(f"{quoted(self.path(name))}: {reason}")
 
     def size(self, name: str) -> Optional[int]:
         """The bytes of a file; None where there is none."""

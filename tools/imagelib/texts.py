@@ -21,6 +21,11 @@ def shown(name: Union[str, bytes]) -> str:
     return UNSHOWN.sub(escape, text)
 
 
+def quoted(name: Union[str, bytes]) -> str:
+    """A name as messages have it. A shell takes it as it is, unless something in it is escaped."""
+    return "'" + shown(name).replace("'", "\\'") + "'"
+
+
 def escape(match: re.Match) -> str:
     character = match.group()
     code = ord(character)

@@ -12,7 +12,7 @@ from .errors import Outside, reason_of
 from .folders import opened
 from .index import DIR, FILE, LINK
 from .store import PIECE
-from .texts import shown
+from .texts import quoted
 
 MODE_BITS = 0o7777
 
@@ -48,7 +48,7 @@ class Problems:
         self.reasons.setdefault(path, []).append(reason)
 
     def lines(self) -> List[str]:
-        return [f"{shown(path)}: {'; '.join(self.reasons[path])}" for path in sorted(self.reasons)]
+        return [f"{quoted(path)}: {'; '.join(self.reasons[path])}" for path in sorted(self.reasons)]
 
 
 class Excluded:
@@ -100,7 +100,7 @@ class FolderTree:
         try:
             self.top = os.open(word, os.O_RDONLY | os.O_DIRECTORY)
         except OSError as error:
-            raise Outside(f"{shown(word)} cannot be read: {reason_of(error)}") from error
+            raise Outside(f"{quoted(word)} cannot be read: {reason_of(error)}") from error
         self.items: List[Item] = []
         waiting = [b""]
         while waiting:

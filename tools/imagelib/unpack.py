@@ -9,7 +9,7 @@ from typing import Iterator, List, Tuple
 from .errors import Outside, reason_of
 from .folders import FOLDER, is_inside, free_place, made_whole, opened, stop_if_asked
 from .index import DIR, FILE, LINK, Entry, Image, parent_of, read_image
-from .texts import shown
+from .texts import quoted
 
 ROOT_MODE = 0o755
 
@@ -23,7 +23,8 @@ def unpack(image_word: str, folder_word: str) -> List[str]:
     image = read_image(image_word)
     place = place_of(folder_word)
     if is_inside(place, image_word):
-        raise Outside(f"{shown(folder_word)} lies inside {shown(image_word)}, which is only read: name another folder")
+        raise Outside(f"{quoted(folder_word)} lies inside {quoted(image_word)}, which is only read: "
+                      "name another folder")
     with made_whole(place, 0o700) as folder:
         top = os.open(folder, FOLDER)
         try:
@@ -45,11 +46,11 @@ def place_of(word: str) -> str:
     try:
         held = os.listdir(place)
     except OSError as error:
-        raise Outside(f"{shown(word)} cannot be read: {reason_of(error)}") from error
+        raise Outside(f"{quoted(word)} cannot be read: {reason_of(error)}") from error
     if held:
-        raise Outside(f"{shown(word)} is not empty: name a folder that is, or that isn't there")
+        raise Outside(f"{quoted(word)} is not empty: name a folder that is, or that isn't there")
     if os.path.samefile(place, "."):
-        raise Outside(f"{shown(word)} is the folder that you stand in, which would be replaced: name another")
+        raise Outside(f"{quoted(word)} is the folder that you stand in, which would be replaced: name another")
     return place
 
 
@@ -66,7 +67,7 @@ def name_of(entry: Entry) -> bytes:
 
 
 def failed(entry: Entry, error: OSError) -> Outside:
-    return Outside(f"{shown(entry.path)} cannot be made: {reason_of(error)}")
+    return Outside(f"{quoted(entry.path)} cannot be made: {reason_of(error)}")
 
 
 def make_dirs(top: int, image: Image) -> None:
@@ -136,4 +137,4 @@ def set_mode(file: int, entry: Entry) -> List[str]:
     mode = stat.S_IMODE(os.fstat(file).st_mode)
     if mode == entry.mode:
         return []
-    return [f"{shown(entry.path)} has the mode {mode:04o} and not {entry.mode:04o}, as far as the system lets it"]
+    return [f"{quoted(entry.path)} has the mode {mode:04o} and not {entry.mode:04o}, as far as the system lets it"]

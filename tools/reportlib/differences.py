@@ -15,6 +15,7 @@ from .streams import BLOCK, Sink, Source, safe
 SHOWN_LINES = 200
 SHOWN_PREFIX = 256
 CONTEXT = 3
+CODE_0 = ("code", 0)
 STREAM_NAMES = {1: "standard output", 2: "standard error"}
 
 
@@ -33,6 +34,7 @@ class Side:
         self.is_ended = not rest
         self.cut: Optional[Cut] = None
         self.text, self.is_whole = bytearray(), True
+        self.reader = reader
         self.items = self._read(reader, rest)
 
     def _read(self, reader: Reader, rest: bytes) -> Iterator[Item]:
@@ -265,10 +267,27 @@ def told_equal(reader: Reader, cut: Optional[Cut]) -> str:
     """What two equal reports have in common that whoever compares them has to know."""
     if cut:
         return f"equal, and both are cut: they end {told_place(cut)}"
-    verdict = reader.verdict
-    if verdict is None or verdict.kind == "ended":
-        return "equal"
-    return f"equal, and neither run came to its end: the verdict is {told_verdict(verdict)}"
+    verdict, end = reader.verdict, reader.own_end
+    if verdict is not None and verdict.kind != "ended":
+        return f"equal, and neither run came to its end: the verdict is {told_verdict(verdict)}"
+    return "equal" if end is None or end[1:] == CODE_0 else f"equal, and both ended {told_end(end)}"
+
+
+def told_run(reader: Reader) -> Optional[str]:
+    """How a run of a whole report ended: by itself, or by its verdict."""
+    verdict, end = reader.verdict, reader.own_end
+    if verdict is not None and verdict.kind != "ended":
+        return f"with the verdict {told_verdict(verdict)}"
+    return told_end(end) if end else None
+
+
+def told_ends(a: Side, b: Side) -> List[str]:
+    """A line that says how two runs ended, unless both ended with code 0. Of one that is cut more is told."""
+    told = [told_run(side.reader) for side in (a, b)]
+    if a.cut or b.cut or None in told or told == ["with code 0"] * 2:
+        return []
+    return [f"A ended {told[0]}, and B {told[1]}"]
+
 
 
 def diff(first: Source, second: Source, sink: Sink) -> int:
@@ -287,6 +306,7 @@ def diff(first: Source, second: Source, sink: Sink) -> int:
         if side.cut:
             is_prefix = f", and is a prefix of {other.letter}" if side.is_ended else ""
             lines.append(f"{side.letter} is cut: it ends {told_place(side.cut)}{is_prefix}")
+    lines += told_ends(a, b)
     for text in itertools.chain((f"{line}\n" for line in lines), unified(fork, a, b)):
         sink.write(text.encode())
     sink.flush()

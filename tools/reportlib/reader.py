@@ -294,6 +294,10 @@ def fast_entry(text: bytes, after: bytes) -> Optional[Entry]:
     return Entry(kind, int(inode), mode.decode(), int(stamp), *rest, path, None) if path > after else None
 
 
+# The id of the first process.
+FIRST = b"1"
+
+
 class Phase(enum.Enum):
     HEADER = enum.auto()
     EVENTS = enum.auto()
@@ -310,6 +314,8 @@ class Reader:
         self.phase = Phase.HEADER
         self.events = self.entries = self.count = 0
         self.verdict: Optional[Verdict] = None
+        # How the run's own process ended, which is the first one.
+        self.own_end: Optional[Exit] = None
         self.stream = self.size = self.done = 0
         self.path = b""
         self.pending, self.checked = bytearray(), 0
@@ -356,6 +362,8 @@ class Reader:
                 at = end + 1
             elif how == b"code" or 1 <= int(number) <= 64:
                 items.append(new_exit((int(pid), how.decode(), int(number))))
+                if pid == FIRST:
+                    self.own_end = items[-1]
                 at = start
             else:
                 break
@@ -442,7 +450,10 @@ class Reader:
         number = cursor.number(0, 255) if how == "code" else cursor.number(1, 64)
         cursor.word(b"\n")
         self.events += 1
-        return Exit(pid, how, number)
+        end = Exit(pid, how, number)
+        if pid == int(FIRST):
+            self.own_end = end
+        return end
 
     def _refusal(self, block: bytes, at: int, expected: str, found: bytes) -> NotReport:
         line = self.line_ends + block.count(b"\n", 0, max(at, 0)) + 1

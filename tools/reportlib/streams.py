@@ -27,14 +27,16 @@ def safe(data: bytes) -> str:
 
 
 class Streams(NamedTuple):
-    """How the tool reads standard input, and writes standard output and standard error."""
+    """How the tool reads standard input, writes standard output, a terminal or not, and writes standard error."""
 
     read: Callable[[int], bytes]
     write: Callable[[bytes], int]
     complain: Callable[[bytes], int]
+    is_terminal: Callable[[], bool] = lambda: False
 
 
-STANDARD = Streams(functools.partial(os.read, 0), functools.partial(os.write, 1), functools.partial(os.write, 2))
+STANDARD = Streams(functools.partial(os.read, 0), functools.partial(os.write, 1), functools.partial(os.write, 2),
+                   functools.partial(os.isatty, 1))
 
 
 class Source:

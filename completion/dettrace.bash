@@ -1,0 +1,115 @@
+# Completion of dettrace, dettrace-run, dettrace-image and dettrace-report for bash.
+
+# Candidates of a list of words, or of the names of files and folders.
+_dettrace_words() {
+    local IFS=$' \t\n'
+    COMPREPLY=($(compgen -W "$1" -- "$2"))
+}
+
+_dettrace_names() {
+    local IFS=$'\n'
+    compopt -o filenames 2>/dev/null
+    COMPREPLY=($(compgen "$1" -- "$2"))
+}
+
+# Whether `--` stands before the word that is completed: all behind it is for the program.
+_dettrace_is_behind() {
+    local at
+    for ((at = 1; at < COMP_CWORD; at++)); do
+        [[ ${COMP_WORDS[at]} == -- ]] && return 0
+    done
+    return 1
+}
+
+# How many words before the one that is completed are no options, nor values of the options in $1, behind word $2.
+_dettrace_count() {
+    local at count=0
+    for ((at = $2 + 1; at < COMP_CWORD; at++)); do
+        if [[ " $1 " == *" ${COMP_WORDS[at]} "* ]]; then
+            ((at++))
+        elif [[ ${COMP_WORDS[at]} != -* && ${COMP_WORDS[at]} != = ]]; then
+            ((count++))
+        fi
+    done
+    echo "$count"
+}
+
+_dettrace() {
+    local word=${COMP_WORDS[COMP_CWORD]} before=${COMP_WORDS[COMP_CWORD - 1]}
+    local valued="--seed --budget --host"
+    COMPREPLY=()
+    if ((COMP_CWORD == 1)); then
+        _dettrace_words "run" "$word"
+    elif _dettrace_is_behind || [[ " $valued " == *" $before "* ]]; then
+        return
+    elif [[ $word == -* ]]; then
+        _dettrace_words "$valued --" "$word"
+    elif (($(_dettrace_count "$valued" 1) == 0)); then
+        _dettrace_names -d "$word"
+    else
+        _dettrace_words "$valued --" "$word"
+    fi
+}
+
+_dettrace_run() {
+    local word=${COMP_WORDS[COMP_CWORD]} before=${COMP_WORDS[COMP_CWORD - 1]}
+    local valued="--seed --budget --host --workers --report --check"
+    local others="--twice --strict --quiet --help --version"
+    COMPREPLY=()
+    if _dettrace_is_behind; then
+        return
+    elif [[ $before == --report ]]; then
+        _dettrace_names -f "$word"
+    elif [[ " $valued " == *" $before "* ]]; then
+        return
+    elif [[ $word == -* ]]; then
+        _dettrace_words "$valued $others --" "$word"
+    elif (($(_dettrace_count "$valued" 0) == 0)); then
+        _dettrace_names -f "$word"
+    else
+        _dettrace_words "$valued $others --" "$word"
+    fi
+}
+
+_dettrace_image() {
+    local word=${COMP_WORDS[COMP_CWORD]} before=${COMP_WORDS[COMP_CWORD - 1]}
+    local command=${COMP_WORDS[1]} options="--help"
+    COMPREPLY=()
+    [[ $command == pack ]] && options="--exclude --help"
+    if ((COMP_CWORD == 1)); then
+        _dettrace_words "pack list check unpack --help" "$word"
+    elif [[ $before == --exclude ]]; then
+        return
+    elif [[ $word == -* ]]; then
+        _dettrace_words "$options" "$word"
+    elif [[ $command == pack ]]; then
+        _dettrace_names -f "$word"
+    else
+        _dettrace_names -d "$word"
+    fi
+}
+
+_dettrace_report() {
+    local word=${COMP_WORDS[COMP_CWORD]} before=${COMP_WORDS[COMP_CWORD - 1]}
+    local command=${COMP_WORDS[1]} options="--help"
+    COMPREPLY=()
+    [[ $command == diff ]] && options="--color= --quiet --help"
+    [[ $command == page ]] && options="--output --help"
+    if ((COMP_CWORD == 1)); then
+        _dettrace_words "diff output json page --help" "$word"
+    elif [[ $before == --color || ($before == = && ${COMP_WORDS[COMP_CWORD - 2]} == --color) ]]; then
+        _dettrace_words "always never auto" "${word#=}"
+    elif [[ $word == -* ]]; then
+        _dettrace_words "$options" "$word"
+        [[ ${COMPREPLY-} != *= ]] || compopt -o nospace 2>/dev/null
+    elif [[ $command == output ]] && (($(_dettrace_count "" 1) == 1)); then
+        _dettrace_words "1 2" "$word"
+    else
+        _dettrace_names -f "$word"
+    fi
+}
+
+complete -F _dettrace dettrace
+complete -F _dettrace_run dettrace-run
+complete -F _dettrace_image dettrace-image
+complete -F _dettrace_report dettrace-report

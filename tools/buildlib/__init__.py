@@ -1,0 +1,1 @@
+"""The parts of tools/build, which proves and builds the program."""

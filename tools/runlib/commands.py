@@ -1,0 +1,206 @@
+"""What tools/run does, from its words to its status."""
+from __future__ import annotations
+
+import contextlib
+import os
+import sys
+import traceback
+from typing import Dict, List, Optional, Sequence
+
+from imagelib.errors import ImageError, reason_of
+from imagelib.texts import shown
+from reportlib.streams import Refusal
+
+from .ends import Outcome, outcome
+from .errors import DIFFERENT, FAILED, SIGNALLED, RunError
+from .finding import find_program, has_option, usage_of, version_of
+from .outlets import Outlets, open_all, write_all
+from .progress import EVERY, Progress
+from .reports import Kept, Report, kept_report
+from .running import check, follow
+from .signals import Stopped, scratch, stop_on_signals
+from .source import IMAGE, kind_of
+from .words import Request, Told, help_text, read_words
+
+
+class Voice:
+    """What says lines on standard error, each behind the tool's name."""
+
+    def __init__(self, name: str) -> None:
+        self.name = name
+        self.is_quiet = False
+        self.progress = Progress(False, self.write)
+
+    def write(self, data: bytes) -> None:
+        """Where standard error cannot be written, there is nobody to tell it to."""
+        with contextlib.suppress(OSError):
+            write_all(2, data)
+
+    def show_progress(self, request: Request) -> None:
+        self.is_quiet = request.is_quiet
+        self.progress = Progress(not request.is_quiet and os.isatty(2), self.write)
+
+    def say(self, lines: Sequence[str]) -> None:
+        if lines:
+            self.progress.end_line()
+            self.write("".join(f"{self.name}: {line}\n" for line in lines).encode("utf-8", "backslashreplace"))
+
+    def note(self, lines: Sequence[str]) -> None:
+        if not self.is_quiet:
+            self.say(lines)
+
+
+class Runs:
+    """The runs of a request on an image."""
+
+    def __init__(self, request: Request, program: str, image: str, voice: Voice) -> None:
+        self.request, self.program, self.image, self.voice = request, program, image, voice
+        self.outlets = Outlets(voice.progress)
+
+    def words(self, numbers: Dict[str, int]) -> List[bytes]:
+        options = [word for name, number in numbers.items() for word in (name, str(number))]
+        words = [self.program, "run", self.image, *options, "--", *self.request.command]
+        return [os.fsencode(word) for word in words]
+
+    def run(self, numbers: Dict[str, int], is_shown: bool, keeps: Sequence[Kept]) -> Outcome:
+        """A run with these options, of which the guest's output is shown or not."""
+        progress = self.voice.progress
+        report = Report(self.show if is_shown else lambda stream, data: None, keeps)
+
+        def take(block: bytes) -> None:
+            report.take(block)
+            fault = None if keeps else self.outlets.fault()
+            if fault:
+                raise fault
+
+        def tick() -> None:
+            progress.tick(report.reader.events, report.reader.offset)
+
+        try:
+            ended = follow(self.words(numbers), take, tick, EVERY if progress.is_shown else None)
+        finally:
+            progress.hide()
+        check(ended, report, self.program, self.image)
+        self.voice.say([f"dettrace said: {shown(line)}" for line in ended.said.splitlines()])
+        for kept in keeps:
+            kept.finish()
+        return outcome(self.request, self.image, report.first_end, report.reader.verdict)
+
+    def show(self, stream: int, data: bytes) -> None:
+        self.outlets.write(stream, data)
+
+    def run_one(self, keeps: Sequence[Kept]) -> int:
+        end = self.run(self.request.numbers, True, keeps)
+        self.voice.say(end.lines)
+        return end.status
+
+    def run_several(self, keeps: Sequence[Kept]) -> int:
+        """Runs it again and again, until a report differs from the first."""
+        # Parts that not every run needs are loaded here, since that takes longer than a small run.
+        from . import comparing
+
+        has_workers = has_option(self.program, "--workers")
+        tried = list(comparing.variants(self.request.numbers, self.request.runs, has_workers))
+        with scratch() as folder:
+            first = os.path.join(folder, "first")
+            with kept_report(first) as kept:
+                end = self.run(tried[0], True, [kept, *keeps])
+            self.voice.say(end.lines)
+            for at, numbers in enumerate(tried[1:], 2):
+                other = os.path.join(folder, "other")
+                self.again(numbers, f"run {at} of {len(tried)} ({comparing.called(numbers)})", other)
+                if not comparing.are_equal(first, other):
+                    names = [comparing.called(each) for each in (tried[0], numbers)]
+                    self.voice.say([f"two runs differ, A with {names[0]} and B with {names[1]}:"])
+                    comparing.show_difference([first, other], names)
+                    return DIFFERENT
+        self.voice.note([comparing.told_equal(tried)])
+        return end.status if self.request.is_strict else 0
+
+    def again(self, numbers: Dict[str, int], called: str, path: str) -> None:
+        """One more run, whose report is put at a path."""
+        try:
+            with kept_report(path) as kept:
+                self.run(numbers, False, [kept])
+        except RunError as error:
+            raise RunError(*(f"{called}: {line}" for line in error.lines)) from error
+
+
+def run(request: Request, voice: Voice) -> int:
+    """Does what the words ask for, and answers the status."""
+    voice.show_progress(request)
+    program = find_program(os.environ)
+    if "--workers" in request.numbers and not has_option(program, "--workers"):
+        raise RunError(f"--workers: this dettrace does not have it: {shown(usage_of(program))}")
+    kind = kind_of(request.source)
+    with contextlib.ExitStack() as stack:
+        image = request.source
+        if kind != IMAGE:
+            from .cache import packed
+
+            made = stack.enter_context(packed(request.source, kind, os.environ, voice.progress.show))
+            image = made.image
+            voice.note(made.notes)
+        check_text(image)
+        keeps = [stack.enter_context(kept_report(request.report))] if request.report is not None else []
+        runs = Runs(request, program, image, voice)
+        status = runs.run_one(keeps) if request.runs == 1 else runs.run_several(keeps)
+        fault = runs.outlets.fault()
+        if fault:
+            raise fault
+    return status
+
+
+def check_text(image: str) -> None:
+    try:
+        os.fsencode(image).decode("utf-8")
+    except UnicodeDecodeError as error:
+        raise RunError(f"{shown(os.fsencode(image))} is no UTF-8, as the name of an image has to be") from error
+
+
+def tell(option: str, name: str) -> int:
+    """Writes what an option asks for that runs nothing."""
+    text = help_text(name) if option == "--help" else f"{name} {version_of()}\n"
+    try:
+        write_all(1, text.encode())
+    except OSError as error:
+        raise RunError(f"standard output cannot be written: {reason_of(error)}") from error
+    return 0
+
+
+def told_mistake(error: Exception) -> str:
+    """A mistake of this tool itself, and where it is."""
+    frame = traceback.extract_tb(error.__traceback__)[-1]
+    place = f"{os.path.basename(frame.filename)}:{frame.lineno}"
+    said = shown(" ".join(str(error).split()))
+    return f"a mistake of this tool, at {place}: {type(error).__name__} {said}"
+
+
+def main(words: Optional[Sequence[str]] = None, name: str = "run") -> int:
+    """Runs the tool, and answers its exit status."""
+    stop_on_signals()
+    voice = Voice(name)
+    try:
+        if not open_all():
+            raise RunError("standard output is closed")
+        try:
+            request = read_words(sys.argv[1:] if words is None else words)
+        except Told as told:
+            return tell(str(told), name)
+        return run(request, voice)
+    except (RunError, ImageError) as error:
+        voice.say([line for line in error.lines])
+    except Refusal as error:
+        voice.say([str(error)])
+    except Stopped as stopped:
+        voice.progress.hide()
+        return SIGNALLED + stopped.number
+    except OSError as error:
+        name_there = error.filename
+        place = f"{shown(name_there)}: " if isinstance(name_there, (str, bytes)) else ""
+        voice.say([f"{place}{reason_of(error)}"])
+    except MemoryError:
+        voice.say(["memory ran out"])
+    except Exception as error:  # A traceback's status would be taken for the guest's.
+        voice.say([told_mistake(error)])
+    return FAILED

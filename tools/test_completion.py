@@ -1,0 +1,85 @@
+"""What bash completes of the four commands, as its variable COMP_WORDS has their words."""
+from __future__ import annotations
+
+import os
+import shutil
+import subprocess
+import tempfile
+import unittest
+from pathlib import Path
+from typing import List
+
+from program import TOP
+
+SCRIPT = """. "$0" && COMP_CWORD=$(($# - 1)) && COMP_WORDS=("$@") && COMP_LINE="$*" && COMP_POINT=${#COMP_LINE}
+function=$(complete -p "$1" | sed 's/.*-F \\([a-z_]*\\) .*/\\1/') && { $function; printf '%s\\n' "${COMPREPLY[@]}"; }
+"""
+RUN_OPTIONS = ["--seed", "--budget", "--host", "--workers", "--report", "--check", "--twice", "--strict", "--quiet",
+               "--help", "--version", "--"]
+
+
+@unittest.skipUnless(shutil.which("bash"), "there is no bash")
+class CompletionTest(unittest.TestCase):
+    def setUp(self) -> None:
+        folder = tempfile.TemporaryDirectory()
+        self.addCleanup(folder.cleanup)
+        self.folder = Path(folder.name)
+        (self.folder / "two words").mkdir()
+        (self.folder / "image").mkdir()
+        (self.folder / "tree.tar").touch()
+
+    def completed(self, *words: str) -> List[str]:
+        """What the last of the words becomes, in the order in which it is offered."""
+        done = subprocess.run(["bash", "--norc", "-c", SCRIPT, TOP / "completion/dettrace.bash", *words],
+                              cwd=self.folder, env={"PATH": os.defpath}, stdin=subprocess.DEVNULL, capture_output=True,
+                              text=True, check=True)
+        self.assertEqual(done.stderr, "")
+        return [line for line in done.stdout.splitlines() if line]
+
+    def expect(self, *rows: tuple[str, List[str]]) -> None:
+        """Each row has words that are parted by blanks, of which the last may be empty, and what it becomes."""
+        for words, wanted in rows:
+            with self.subTest(words):
+                self.assertEqual(sorted(self.completed(*words.split(" "))), sorted(wanted))
+
+    FOLDERS = ["image", "two words"]
+    FILES = ["image", "tree.tar", "two words"]
+
+    def test_the_program(self) -> None:
+        options = ["--seed", "--budget", "--host", "--"]
+        self.expect(
+            ("dettrace ", ["run"]), ("dettrace r", ["run"]), ("dettrace x", []),
+            ("dettrace run ", self.FOLDERS), ("dettrace run im", ["image"]), ("dettrace run tree", []),
+            ("dettrace run -", options), ("dettrace run --s", ["--seed"]), ("dettrace run --seed ", []),
+            ("dettrace run --seed 5 ", self.FOLDERS), ("dettrace run image ", options),
+            ("dettrace run image --host 1 --b", ["--budget"]), ("dettrace run image -- ", []),
+            ("dettrace run image -- --s", []))
+
+    def test_the_tool_that_runs(self) -> None:
+        self.expect(
+            ("dettrace-run ", self.FILES), ("dettrace-run t", ["tree.tar", "two words"]),
+            ("dettrace-run -", RUN_OPTIONS), ("dettrace-run --s", ["--seed", "--strict"]),
+            ("dettrace-run --check ", []), ("dettrace-run --report ", self.FILES),
+            ("dettrace-run --twice ", self.FILES), ("dettrace-run --seed 1 image ", RUN_OPTIONS),
+            ("dettrace-run image -- ", []))
+
+    def test_the_tool_for_images(self) -> None:
+        self.expect(
+            ("dettrace-image ", ["pack", "list", "check", "unpack", "--help"]), ("dettrace-image p", ["pack"]),
+            ("dettrace-image pack ", self.FILES), ("dettrace-image pack -", ["--exclude", "--help"]),
+            ("dettrace-image pack --exclude ", []), ("dettrace-image list ", self.FOLDERS),
+            ("dettrace-image check -", ["--help"]), ("dettrace-image unpack image ", self.FOLDERS))
+
+    def test_the_tool_for_reports(self) -> None:
+        self.expect(
+            ("dettrace-report ", ["diff", "output", "json", "page", "--help"]), ("dettrace-report d", ["diff"]),
+            ("dettrace-report diff ", self.FILES), ("dettrace-report diff -", ["--color=", "--quiet", "--help"]),
+            ("dettrace-report diff --color = ", ["always", "never", "auto"]),
+            ("dettrace-report diff --color = n", ["never"]),
+            ("dettrace-report diff --color =", ["always", "never", "auto"]),
+            ("dettrace-report output tree.tar ", ["1", "2"]), ("dettrace-report output t", ["tree.tar", "two words"]),
+            ("dettrace-report json -", ["--help"]), ("dettrace-report page -", ["--output", "--help"]))
+
+
+if __name__ == "__main__":
+    unittest.main()

@@ -1,0 +1,149 @@
+"""tools/run with the program itself: each example, each kind of end, and the session of docs/RUN.md."""
+from __future__ import annotations
+
+import os
+import shlex
+import subprocess
+import tarfile
+import unittest
+
+from imagelib.index import read_image
+from program import EXAMPLES, PROGRAM, TOP, fresh_checkout, needs_program
+from reportlib.testing import run as report
+from runlib.testing import Done, RunCase, elf
+
+NAMES = sorted(index.parent.name for index in EXAMPLES.glob("*/image.json"))
+CODES = {"shell": 3}
+
+
+def words_of(name: str) -> list:
+    """The command that lies beside an example."""
+    return shlex.split((EXAMPLES / name / "command").read_text())
+
+
+def code(*words: int) -> bytes:
+    """A program of these instructions."""
+    data = b"".join(word.to_bytes(4, "little") for word in words)
+    size = 64 + 56 + len(data)
+    return elf(segments=[(1, 0, 0x10000, size, size)], entry=0x10000 + 64 + 56)[:-4] + data
+
+
+def li(register: int, value: int) -> int:
+    """addi register, x0, value"""
+    return value << 20 | register << 7 | 0x13
+
+
+ECALL, EBREAK, LOOP = 0x73, 0x100073, 0x6F
+A0, A1, A2, A7 = 10, 11, 12, 17
+
+
+@needs_program
+class Real(RunCase):
+    def setUp(self) -> None:
+        super().setUp()
+        self.environment["DETTRACE"] = str(PROGRAM)
+
+    def test_each_example_shows_its_output_and_ends_with_its_code(self) -> None:
+        for name in NAMES:
+            with self.subTest(name):
+                recorded = (EXAMPLES / name / "report").read_bytes()
+                done = self.run_words("--report", "kept", EXAMPLES / name, *words_of(name))
+                self.assertEqual((done.status, done.out), (
+                    CODES.get(name, 0), report("output", "-", "1", given=recorded).output))
+                self.assertEqual("\n".join([*done.err, ""] if done.err else []).encode(),
+                                 report("output", "-", "2", given=recorded).output)
+                self.assertEqual((self.work / "kept").read_bytes(), recorded)
+
+    def test_examples_are_equal_under_several_hosts(self) -> None:
+        for name in ("race", "processes", "signals"):
+            with self.subTest(name):
+                done = self.run_words("--check", "5", EXAMPLES / name, *words_of(name))
+                self.assertEqual((done.status, len(done.err)), (CODES.get(name, 0), 1))
+                self.assertTrue(done.err[0].startswith("run: equal: 5 runs with --host 1 to 5"))
+
+    def test_a_folder_and_an_archive_of_it(self) -> None:
+        self.write("hello", (EXAMPLES / "hello" / "hello").read_bytes())
+        with tarfile.open(self.work / "tree.tar.gz", "w:gz") as archive:
+            archive.add(self.work / "tree", ".")
+        for source in ("tree", "tree.tar.gz", "tree"):
+            done = self.run_words("--report", source + ".report", source, "--", "hello")
+            self.assertEqual(done, Done(0, b"hello\n", []))
+        self.assertEqual((self.work / "tree.report").read_bytes(), (self.work / "tree.tar.gz.report").read_bytes())
+
+    def end(self, data: bytes, *options: str) -> tuple:
+        """How a run of a program ends, and the first words of what is said."""
+        self.write("x", data)
+        done = self.run_words(*options, "tree", "--", "/x")
+        self.assertEqual((done.out, len(done.err)), (b"", 1))
+        return done.status, done.err[0]
+
+    def test_each_kind_of_end(self) -> None:
+        status, line = self.end(code(li(A7, 198), ECALL))
+        self.assertEqual((status, line), (202, "run: process 1 made the system call socket (198), which this version "
+                                               "lacks: there is no network (docs/GUESTS.md, \"The system calls\")"))
+        status, line = self.end(code(li(A0, 0), li(A7, 220), ECALL))
+        self.assertEqual((status, line.split(" for ")[0]), (202, "run: process 1 asked the system call clone (220)"))
+        status, line = self.end(code(LOOP), "--budget", "1000")
+        self.assertEqual((status, line.split(":")[1]), (201, " the budget of 1000 instructions is used up"))
+        status, line = self.end(code(EBREAK))
+        self.assertEqual((status, line.split(":")[1]), (133, " /x was ended by SIGTRAP, signal 5"))
+        status, line = self.end(code(0))
+        self.assertEqual((status, line.split(":")[1]), (132, " /x was ended by SIGILL, signal 4"))
+        # A pipe whose read end and write end the reader has itself.
+        read = (0x00012503, 0x00010593, li(A2, 1), li(A7, 63), ECALL)
+        status, line = self.end(code(0xFF010113, 0x00010513, li(A1, 0), li(A7, 59), ECALL, *read))
+        self.assertEqual((status, line.split(":")[1][:20]), (200, " all processes wait,"))
+        self.write("x", code(li(A0, 77), li(A7, 93), ECALL))
+        self.assertEqual(self.run_command("/x"), Done(77, b"", []))
+
+    def test_what_is_said_of_a_start_is_the_reason_of_the_program(self) -> None:
+        """Each line has the reason that was found in the image, and not what stands where that is another one."""
+        self.write("sh", b"#!/none\n")
+        self.write("dos", b"#!/sh\r\n")
+        self.write("twice", b"#!/sh\n")
+        self.write("pie", elf(kind=3))
+        self.write("large", elf(segments=[(1, 0, 0x10000, 64, 64), (1, 0, 0x100000, 0, 64 << 20)]))
+        self.write("text", b"text")
+        os.symlink("loop", self.work / "tree" / "loop")
+        for program, status, part in (
+            ("/none", 127, "nothing is at /none"), ("", 127, "is empty"), ("/sh", 127, "its interpreter /none"),
+            ("/dos", 127, "carriage return"), ("/twice", 126, "a script too"), ("/pie", 126, "Type DYN"),
+            ("/large", 126, "64 MiB"), ("/text", 126, "a text"), ("/", 126, "a directory"),
+            ("/text/", 126, "goes through"), ("/loop", 126, "more than 40 links"), ("n" * 300, 126, "300 bytes"),
+            ("/" * 4096, 126, "4096 bytes"),
+        ):
+            with self.subTest(program):
+                done = self.run_command(program)
+                self.assertEqual((done.status, done.out, len(done.err)), (status, b"", 1))
+                self.assertIn(part, done.err[0])
+
+    def test_an_image_that_the_program_refuses(self) -> None:
+        os.mkdir(self.work / "image")
+        (self.work / "image" / "image.json").write_text("{")
+        (line,) = self.lines_of(read_image, "image")
+        self.assertTrue(line.startswith("refused: 2 BadIndex: "), line)
+        self.says(self.run_words("image", "--", "/x"), 125, f"image: {line}")
+
+
+@needs_program
+class Page(unittest.TestCase):
+    def test_the_session_prints_what_the_page_shows(self) -> None:
+        page = (TOP / "docs" / "RUN.md").read_text()
+        lines = [line[4:] for line in page.split("\n") if line.startswith("    ")]
+        steps = "\n".join(lines[1:]).split("$ ")[1:]
+        self.assertGreater(len(steps), 8)
+        status = 0
+        with fresh_checkout() as folder:
+            environment = {**os.environ, "DETTRACE": str(PROGRAM), "XDG_CACHE_HOME": str(folder / "cache")}
+            for step in steps:
+                command, wanted = f"{step.rstrip()}\n".split("\n", 1)
+                with self.subTest(command):
+                    ran = subprocess.run(["sh", "-c", f"umask 022; (exit {status}); {command}"], cwd=folder, text=True,
+                                         env=environment, stdin=subprocess.DEVNULL, stdout=subprocess.PIPE,
+                                         stderr=subprocess.STDOUT, check=False)
+                    self.assertEqual(ran.stdout, wanted)
+                    status = ran.returncode
+
+
+if __name__ == "__main__":
+    unittest.main()
