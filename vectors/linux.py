@@ -583,7 +583,7 @@ def main() -> int:
     parser.add_argument("first", nargs="?", type=int, default=0)
     given = parser.parse_args()
     if not os.access(PROGRAM, os.X_OK):
-        parser.error("the program is not built; ./dettrace builds it")
+        parser.error("the program is not built; ./dettrace build makes it")
     tally = Tally()
     for number in range(given.first, given.first + given.sequences):
         tally.run(number)

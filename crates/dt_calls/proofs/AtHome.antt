@@ -3,15 +3,17 @@ use Rattle.std.proofs.Common.{◌≡◌, ℕ, Option, None, Some, subst}
 use Rattle.std.specs.Prelude.{IsSome, IfSome, Result, Ok, Err, IfOk}
 use Rattle.std.specs.FinMap.{get, insert}
 use Rattle.dt_base.specs.declared.memory.NoMemory.{NoMemory}
+use Rattle.dt_host.specs.World.{World}
 use Rattle.dt_host.specs.declared.error.HostErr.{HostErr}
 use Rattle.dt_tables.proofs.Found.{none_there}
 use Rattle.dt_rv64.specs.declared.machine.Machine.{Machine}
 use Rattle.dt_rv64.specs.declared.segments.Seg.{Seg}
 use Rattle.dt_rv64.specs.Segment.{segment_of}
 use Rattle.dt_calls.specs.declared.call.effect.Effect.{Effect as EffectInCode}
+use Rattle.dt_calls.specs.declared.shared.Shared.{Shared}
 use Rattle.dt_calls.specs.Effect.{Effect}
 use Rattle.dt_calls.specs.InCode.{machines_at_home}
-use Rattle.dt_calls.specs.Sound.{Hand, HasEffect}
+use Rattle.dt_calls.specs.Sound.{HasEffect, left}
 use Rattle.dt_calls.specs.AtHome.{Places, RunsAt, HasEffectAt}
 use Rattle.dt_calls.proofs.Homes.{home-there, home-place}
 
@@ -42,15 +44,15 @@ pub all-runs : (before after : Places) (p : ℕ) (place now : Option Machine) (r
 all-runs before after p place now (Ok seg) home rest some stays run = runs-at before after p place now seg home rest some stays run
 all-runs before after p place now (Err e) home rest some stays run = run
 
-pub serves-at : (defined : Machine → Effect) (old new : Hand) (before after : Places) (p : ℕ) (place now : Option Machine) (result : Result EffectInCode HostErr) (count later : ℕ)
+pub serves-at : (defined : Machine → Effect) (old new : Shared) (world : World) (before after : Places) (p : ℕ) (place now : Option Machine) (result : Result EffectInCode HostErr) (count later : ℕ)
     → get before p ≡ Some place → after ≡ insert before p now → IsSome place → IsSome now
-    → IfSome place (λ was. IfSome now (λ m. HasEffect (defined was) old new m result count later))
-    → HasEffectAt defined old new before after p result count later
-serves-at defined old new before after p (Some was) (Some now) result count later home rest some stays serves = record {
+    → IfSome place (λ was. IfSome now (λ m. HasEffect p (defined was) old (left new world m) result count later))
+    → HasEffectAt defined old new world before after p result count later
+serves-at defined old new world before after p (Some was) (Some now) result count later home rest some stays serves = record {
   was = was;
   now = now;
   becomes = record { home = home; rest = rest };
   serves = serves;
 }
-serves-at defined old new before after p None now result count later home rest some stays serves = cc
-serves-at defined old new before after p (Some was) None result count later home rest some stays serves = cc
+serves-at defined old new world before after p None now result count later home rest some stays serves = cc
+serves-at defined old new world before after p (Some was) None result count later home rest some stays serves = cc

@@ -18,7 +18,7 @@ use Rattle.dt_procs.specs.Table.{Table, members_of, member_of, IsRising, IsTable
 use Rattle.dt_procs.proofs.Standing.{Rises}
 use Rattle.dt_procs.proofs.Pairs.{AllPairs-head, AllPairs-tail}
 use Rattle.dt_rv64.specs.declared.machine.Machine.{Machine}
-use Rattle.dt_calls.specs.Container.{Processes}
+use Rattle.dt_calls.specs.Container.{Tasks}
 
 -- all members that follow have pids above a bound, and so has one that lives
 above_all : (bound q : ℕ) (ms : List Member) → All (λ m. bound < m.vpid) ms → has_live ms q ≡ true → bound < q
@@ -115,8 +115,8 @@ module _ {X : Type 0} where
               by_key false apart = let over = above q (subst (λ c. IsSome (cond c (Some e.1) (find nat_cmp q es))) apart some) in omega arith
 
 -- places for machines are places of live processes, so they are at most 64
-pub few-places : (places : FinMap nat_cmp (Option Machine)) (processes : Processes) (t : Table) → IsTable t → ((p : ℕ) → IsSome (get places p) → IsSome (get processes p)) → ((p : ℕ) → IsSome (get processes p) → has_live (members_of t) p ≡ true) → length (keys places) ≤ PROCESS_LIMIT
-few-places places processes t table paired live =
+pub few-places : (places : FinMap nat_cmp (Option Machine)) (tasks : Tasks) (t : Table) → IsTable t → ((p : ℕ) → IsSome (get places p) → IsSome (get tasks p)) → ((p : ℕ) → IsSome (get tasks p) → has_live (members_of t) p ≡ true) → length (keys places) ≤ PROCESS_LIMIT
+few-places places tasks t table paired live =
     let less = few-in (entries places) (members_of t) (entries_sorted places) table.rising (λ q some.
     live q (paired q (subst (λ found. IsSome found) (sym (get-entries places q)) some))) in
     let keyed = length-map (entries places) (λ (e : ℕ × Option Machine). e.0) in

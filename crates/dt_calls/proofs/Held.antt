@@ -1,10 +1,10 @@
 -- How open files and working directories hold their nodes, through each change of what processes share.
 use Rattle.std.proofs.Common.{arith, ◌≡◌, ◌≢◌, ℕ, ◌+◌, ◌<◌, ◌≤◌, ◌||◌, not, suc, zero, cond, Bool, true, false, List, [], ◌∷◌, length, get_or, Option, Some, None, refl, sym, ap, subst, ◌∙◌}
 use Rattle.std.proofs.Math.Bool.{or-true}
-use Rattle.std.specs.Prelude.{IsSome, IfSome, Ok}
+use Rattle.std.specs.Prelude.{IsSome, IfSome, is_some, Result, Ok, Err}
 use Rattle.std.specs.List.{list_any, All}
 use Rattle.std.specs.Cmp.{nat_cmp_total}
-use Rattle.std.specs.FinMap.{get, insert, remove, same_map, nat_cmp-IsAntisymmetric}
+use Rattle.std.specs.FinMap.{get, insert, remove, nat_cmp-IsAntisymmetric}
 use Rattle.std.proofs.lemmas.Bool.Decides.{nat_tests}
 use Rattle.std.proofs.lemmas.List.Folds.{list_any-append, list_any_none}
 use Rattle.dt_base.specs.declared.caller.Caller.{Caller}
@@ -12,8 +12,9 @@ use Rattle.dt_base.specs.declared.event.End.{End}
 use Rattle.dt_fds.specs.Backs.{AllIn, KeepsNodes, KeepsOthers as KeepsHolds, OnlyFiles, at, holding_at, IsBacked, IsPiped, descriptions_of}
 use Rattle.dt_fds.specs.declared.files.Files.{Files}
 use Rattle.dt_tables.specs.inner.Weight.{weight}
+use Rattle.dt_host.specs.declared.error.HostErr.{HostErr}
 use Rattle.dt_host.specs.World.{World, Forest, IsDir, OnlyPids}
-use Rattle.dt_tables.proofs.Maps.{at_insert, get-insert_same, get-insert_other, get-remove_other}
+use Rattle.dt_tables.proofs.Maps.{at_insert, get-remove_other}
 use Rattle.dt_host.proofs.Spots.{IsLive-IsDir}
 use Rattle.dt_tables.proofs.Totals.{total-insert, total-remove}
 use Rattle.dt_procs.specs.declared.member.Member.{Member}
@@ -24,196 +25,150 @@ use Rattle.dt_procs.proofs.Pairs.{AllPairs-head, AllPairs-tail}
 use Rattle.dt_procs.proofs.Standing.{Rises}
 use Rattle.dt_procs.specs.Table as procs
 use Rattle.dt_procs.specs.Table.{members_of}
-use Rattle.dt_callbase.proofs.Kept.{sound_held, others_held, others_kept, piped_nodes}
+use Rattle.dt_callbase.proofs.Kept.{sound_held, others_held, piped_nodes}
 use Rattle.dt_callbase.specs.declared.fs.Fs.{Fs}
 use Rattle.dt_callbase.specs.Sound.{Sound, KeepsOthers, stage, scene}
 use Rattle.dt_space.specs.Space.{PageView}
-use Rattle.dt_tree.proofs.Holding.{KeepsHeld-same, holds-held, shape-held}
+use Rattle.dt_tree.proofs.Holding.{holds-held, shape-held}
 use Rattle.dt_tree.proofs.Namings.{one_for-same, one_for-swap}
 use Rattle.dt_tree.specs.Changes.{tree_after_hold}
 use Rattle.dt_tree.specs.FileTree.{FileTree, holds_of}
 use Rattle.dt_tree.specs.Shape.{one_for}
 use Rattle.dt_tree.specs.Table.{Table, Stands, shape_of, tree_of}
 use Rattle.dt_rv64.specs.declared.machine.Machine.{Machine}
-use Rattle.dt_calls.specs.declared.shared.Process.{Process}
+use Rattle.dt_calls.specs.declared.container.Served.{Served}
+use Rattle.dt_calls.specs.declared.task.Task.{Task}
 use Rattle.dt_calls.specs.declared.shared.Shared.{Shared}
-use Rattle.dt_calls.specs.Container.{Processes, Signals}
+use Rattle.dt_calls.specs.Container.{Tasks, task_in}
 use Rattle.dt_calls.specs.declared.call.effect.Effect.{Effect as EffectInCode}
 use Rattle.dt_calls.specs.Effect.{Effect}
 use Rattle.dt_calls.specs.InCode.{shared_of, effect_as}
-use Rattle.dt_signals.specs.declared.signals.Sig.{Sig}
-use Rattle.dt_calls.specs.Sound.{Hand, hand, directories_of, with_part, IsSoundHand, LeavesSound, HasEffect, KeepsSignals}
-use Rattle.dt_calls.proofs.Ended.{by_own}
-use Rattle.dt_calls.proofs.Signalled.{signal-here, sound-signals, still-insert}
+use Rattle.dt_calls.specs.Settle.{next_after}
+use Rattle.dt_calls.specs.Sound.{directories_of, IsSound, KeepsSound, LivesOn, LeavesSound, ChangesTasks, HasEffect, left}
+use Rattle.dt_calls.proofs.Tasks.{by_task, some-task, task-here, still-insert, count-put}
 
-same_key : (m : Processes) (k : ℕ) (own : Process) → get (insert m k own) k ≡ Some own
-same_key m k own = get-insert_same nat_cmp_total nat_cmp-IsAntisymmetric m k own
-
-other_key : (m : Processes) (k : ℕ) (own : Process) (q : ℕ) → q ≢ k → get (insert m k own) q ≡ get m q
-other_key m k own q apart = get-insert_other nat_cmp_total nat_cmp-IsAntisymmetric m k own q apart
-
--- a part counts among the others
-count-at : (m : Processes) (k : ℕ) (own : Process) → get m k ≡ Some own → (n : ℕ) → one_for own.caller.cwd n ≤ directories_of m n
+-- a task counts among the others
+count-at : (m : Tasks) (k : ℕ) (own : Task) → get m k ≡ Some own → (n : ℕ) → one_for own.caller.cwd n ≤ directories_of m n
 count-at m k own is n =
-    let gone = total-remove nat_cmp_total (by_own n) nat_cmp-IsAntisymmetric m k in
-    let one = ap (weight (by_own n)) is in
+    let gone = total-remove nat_cmp_total (by_task n) nat_cmp-IsAntisymmetric m k in
+    let one = ap (weight (by_task n)) is in
     omega arith
 
 -- and so do two
-count-two : (m : Processes) (k q : ℕ) (own other : Process) → q ≢ k → get m k ≡ Some own → get m q ≡ Some other → (n : ℕ) → one_for own.caller.cwd n + one_for other.caller.cwd n ≤ directories_of m n
+count-two : (m : Tasks) (k q : ℕ) (own other : Task) → q ≢ k → get m k ≡ Some own → get m q ≡ Some other → (n : ℕ) → one_for own.caller.cwd n + one_for other.caller.cwd n ≤ directories_of m n
 count-two m k q own other apart is is_other n =
-    let gone = total-remove nat_cmp_total (by_own n) nat_cmp-IsAntisymmetric m k in
-    let one = ap (weight (by_own n)) is in
+    let gone = total-remove nat_cmp_total (by_task n) nat_cmp-IsAntisymmetric m k in
+    let one = ap (weight (by_task n)) is in
     let there = get-remove_other nat_cmp_total nat_cmp-IsAntisymmetric m k q apart ∙ is_other in
     let second = count-at (remove m k) q other there n in
     omega arith
 
--- another part in the place of a process's
-count-changed : (m : Processes) (k : ℕ) (own new : Process) (n : ℕ) → directories_of (insert m k new) n + one_for own.caller.cwd n ≡ directories_of (insert m k own) n + one_for new.caller.cwd n
-count-changed m k own new n =
-    let before = total-insert nat_cmp_total (by_own n) m k own in
-    let after = total-insert nat_cmp_total (by_own n) m k new in
-    omega arith
+module _ (c : Shared) (p : ℕ) (w : World) (sound : IsSound c w) (lives : IsSome (get c.tasks p)) where
+  abbrev own : Task
+  own = task_in c.tasks p
 
-module _ (c : Shared) (own : Process) (w : World) (sound : IsSoundHand (hand c own w)) where
-  abbrev here : Processes
-  here = insert c.processes own.caller.vpid own
+  here-own : get c.tasks p ≡ Some own
+  here-own = some-task c.tasks p lives
 
-  here-own : get here own.caller.vpid ≡ Some own
-  here-own = same_key c.processes own.caller.vpid own
+  pub own-dir : IsDir (shape_of c.fs.tree w.forest) (task_in c.tasks p).caller.cwd
+  own-dir = subst (λ (found : Option Task). IfSome found (λ t. IsDir (shape_of c.fs.tree w.forest) t.caller.cwd)) here-own (sound.directories p)
 
-  pub own-dir : IsDir (shape_of c.fs.tree w.forest) own.caller.cwd
-  own-dir = subst (λ (found : Option Process). IfSome found (λ own. IsDir (shape_of c.fs.tree w.forest) own.caller.cwd)) here-own (sound.directories own.caller.vpid)
-
-  pub own-given : own.caller.vpid < c.pids.next
-  own-given = sound.given own.caller.vpid (subst IsSome (sym here-own) refl)
-
-  pub own-lives : has_live (members_of c.pids) own.caller.vpid ≡ true
-  own-lives = sound.lives own.caller.vpid (subst IsSome (sym here-own) refl)
-
-  pub own-signalled : IsSome (get c.signals own.caller.vpid)
-  own-signalled = sound.signalled own.caller.vpid (subst IsSome (sym here-own) refl)
+  -- a task stands under its process's pid
+  own-vpid : own.caller.vpid ≡ p
+  own-vpid = subst (λ (found : Option Task). IfSome found (λ t. t.caller.vpid ≡ p)) here-own (sound.named p)
 
   -- the scene of a call is sound
-  pub sound-scene : (space : List PageView) → Sound (stage c.fs w own.caller space)
+  pub sound-scene : (space : List PageView) → Sound (stage c.fs w (task_in c.tasks p).caller space)
   sound-scene space = record {
     stands = sound.stands;
     is_dir = own-dir;
     all_in = sound.all_in;
     enough = λ n.
-        let count = count-at here own.caller.vpid own here-own n in
+        let count = count-at c.tasks p own here-own n in
         omega (arith, sound.holds n, one_for-swap own.caller.cwd n);
     piped = sound.piped;
   }
 
-  module _ (fs : Fs) (new : Process) (v : World) (space pages : List PageView) (left : Sound (stage fs v new.caller pages)) (others : KeepsOthers (scene (stage c.fs w own.caller space)) (scene (stage fs v new.caller pages))) (rest : OnlyFiles w v) where
+  module _ (fs : Fs) (new : Task) (v : World) (space pages : List PageView) (stays : Sound (stage fs v new.caller pages)) (others : KeepsOthers (scene (stage c.fs w own.caller space)) (scene (stage fs v new.caller pages))) (rest : OnlyFiles w v) where
     abbrev moved : Shared
-    moved = record c { fs = fs }
+    moved = record c { fs = fs; tasks = insert c.tasks p new }
 
-    -- a fact of each part, where it holds of the process's own and of the others' as they were
-    parts-moved : (P : ℕ → Option Process → Type 0) → P new.caller.vpid (Some new) → ((q : ℕ) → q ≢ own.caller.vpid → P q (get here q)) → (q : ℕ) → P q (get (insert c.processes new.caller.vpid new) q)
-    parts-moved P mine theirs q =
-        at_insert nat_cmp_total nat_cmp-IsAntisymmetric (P q) c.processes new.caller.vpid new q
-        (λ is. subst (λ q. P q (Some new)) (sym is) mine)
-        (λ apart.
-        let away : q ≢ own.caller.vpid = λ is. apart (is ∙ sym others.vpid) in
-        subst (P q) (other_key c.processes own.caller.vpid own q away) (theirs q away))
+    -- a fact of each task, where it holds of the process's own and of the others' as they were
+    tasks-moved : (P : ℕ → Option Task → Type 0) → P p (Some new) → ((q : ℕ) → q ≢ p → P q (get c.tasks q)) → (q : ℕ) → P q (get (insert c.tasks p new) q)
+    tasks-moved P mine theirs q =
+        at_insert nat_cmp_total nat_cmp-IsAntisymmetric (P q) c.tasks p new q (λ is. subst (λ q. P q (Some new)) (sym is) mine) (theirs q)
 
-    other-dir : (q : ℕ) → q ≢ own.caller.vpid → (found : Option Process) → get here q ≡ found → IfSome found (λ other. IsDir (shape_of c.fs.tree w.forest) other.caller.cwd) → IfSome found (λ other. IsDir (shape_of fs.tree v.forest) other.caller.cwd)
+    other-dir : (q : ℕ) → q ≢ p → (found : Option Task) → get c.tasks q ≡ found → IfSome found (λ other. IsDir (shape_of c.fs.tree w.forest) other.caller.cwd) → IfSome found (λ other. IsDir (shape_of fs.tree v.forest) other.caller.cwd)
     other-dir q apart None is dir = tt
     other-dir q apart (Some other) is dir =
         let n = other.caller.cwd in
-        let two = count-two here own.caller.vpid q own other apart here-own is n in
+        let two = count-two c.tasks p q own other apart here-own is n in
         others.dirs n (omega (arith, sound.holds n, one_for-swap own.caller.cwd n, one_for-same n)) dir
 
     -- a call leaves what is held as it has to be
-    pub sound-called : IsSoundHand (hand moved new v)
+    pub sound-called : IsSound (record c { fs = fs; tasks = insert c.tasks p new }) v
     sound-called = record {
-      stands = left.stands;
+      stands = stays.stands;
       pids = subst (procs.Stands c.pids) (sym rest) sound.pids;
-      all_in = left.all_in;
-      directories = parts-moved (λ q found. IfSome found (λ other. IsDir (shape_of fs.tree v.forest) other.caller.cwd)) left.is_dir
-          (λ q apart. other-dir q apart (get here q) refl (sound.directories q));
+      all_in = stays.all_in;
+      directories = tasks-moved (λ q found. IfSome found (λ other. IsDir (shape_of fs.tree v.forest) other.caller.cwd)) stays.is_dir
+          (λ q apart. other-dir q apart (get c.tasks q) refl (sound.directories q));
       holds = λ n.
-          let key : insert c.processes new.caller.vpid new ≡ insert c.processes own.caller.vpid new = ap (λ k. insert c.processes k new) others.vpid in
-          let now = ap (λ (m : Processes). directories_of m n) key in
-          let count = count-changed c.processes own.caller.vpid own new n in
+          let count = count-put c.tasks p own new here-own n in
           omega (arith, sound.holds n, others.holds n, one_for-swap own.caller.cwd n, one_for-swap new.caller.cwd n);
-      piped = left.piped;
-      named = parts-moved (λ q found. IfSome found (λ other. other.caller.vpid ≡ q)) refl (λ q apart. sound.named q);
-      given = parts-moved (λ q found. IsSome found → q < c.pids.next) (λ some. let mine = own-given in omega (arith, others.vpid)) (λ q apart. sound.given q);
-      lives = parts-moved (λ q found. IsSome found → has_live (members_of c.pids) q ≡ true) (λ some. subst (λ q. has_live (members_of c.pids) q ≡ true) (sym others.vpid) own-lives) (λ q apart. sound.lives q);
-      signalled = parts-moved (λ q found. IsSome found → IsSome (get c.signals q)) (λ some. subst (λ q. IsSome (get c.signals q)) (sym others.vpid) own-signalled) (λ q apart. sound.signalled q);
+      piped = stays.piped;
+      named = tasks-moved (λ q found. IfSome found (λ other. other.caller.vpid ≡ q)) (others.vpid ∙ own-vpid) (λ q apart. sound.named q);
+      given = tasks-moved (λ q found. IsSome found → q < c.pids.next) (λ some. sound.given p lives) (λ q apart. sound.given q);
+      lives = tasks-moved (λ q found. IsSome found → has_live (members_of c.pids) q ≡ true) (λ some. sound.lives p lives) (λ q apart. sound.lives q);
       fresh = λ q past.
-          let mine = own-given in
-          others.tables q (omega arith) ∙ sound.fresh q past;
+          let mine = sound.given p lives in
+          others.tables q (λ is. absurd (omega (arith, own-vpid))) ∙ sound.fresh q past;
     }
 
-    pub keeps-called : LeavesSound (hand c own w) (hand moved new v) None
-    keeps-called = record { sound = sound-called; vpid = others.vpid; parts = λ q there. there; next = refl; child = tt }
+    pub keeps-called : KeepsSound c (record c { fs = fs; tasks = insert c.tasks p new }) v
+    keeps-called = record { sound = sound-called; tasks = still-insert c.tasks p new; next = refl }
 
-module _ (c : Shared) (own : Process) (w : World) (sound : IsSoundHand (hand c own w)) where
-  -- the break alone changes
-  pub keeps-break : (new : Process) → new.caller ≡ own.caller → LeavesSound (hand c own w) (hand c new w) None
-  keeps-break new same =
-      keeps-called c own w sound c.fs new w [] []
-      (subst (λ (caller : Caller). Sound (stage c.fs w caller [])) (sym same) (sound-scene c own w sound []))
-      (others_kept (scene (stage c.fs w own.caller [])) (scene (stage c.fs w new.caller [])) (sym same) refl (KeepsHeld-same (tree_of c.fs.tree w.forest)))
-      refl
-
-  -- the time alone changes
-  pub keeps-clock : (clock : ℕ) → LeavesSound (hand c own w) (hand (record c { fs = record c.fs { clock = clock } }) own w) None
-  keeps-clock clock =
-      let fs : Fs = record c.fs { clock = clock } in
-      let before = sound-scene c own w sound [] in
-      keeps-called c own w sound fs own w [] []
-      (record { stands = before.stands; is_dir = before.is_dir; all_in = before.all_in; enough = before.enough; piped = before.piped })
-      (others_kept (scene (stage c.fs w own.caller [])) (scene (stage fs w own.caller [])) refl refl (KeepsHeld-same (tree_of c.fs.tree w.forest)))
-      refl
-
-  -- the signal states alone change
-  pub keeps-signals : (signals : Signals) → KeepsSignals c.signals signals → LeavesSound (hand c own w) (hand (record c { signals = signals }) own w) None
-  keeps-signals signals still = record { sound = sound-signals (with_part c own) signals w sound still; vpid = refl; parts = λ q there. there; next = refl; child = tt }
-
-  pub keeps-raised : (signals : Signals) (new : Shared) → new ≡ record c { signals = signals } → KeepsSignals c.signals new.signals → LeavesSound (hand c own w) (hand new own w) None
-  keeps-raised signals new is still =
-      subst (λ (s : Shared). LeavesSound (hand c own w) (hand s own w) None) (sym is)
-      (keeps-signals signals (subst (KeepsSignals c.signals) (ap (λ (s : Shared). s.signals) is) still))
-
-  -- the signal states change, and how many bytes the process's call has moved
-  pub keeps-done : (done : ℕ) (signals : Signals) → KeepsSignals c.signals signals → LeavesSound (hand c own w) (hand (record c { signals = signals }) (record own { caller = record own.caller { done = done } }) w) None
-  keeps-done done signals still =
-      let now : Process = record own { caller = record own.caller { done = done } } in
-      let before = sound-scene c own w sound [] in
-      let same = others_kept (scene (stage c.fs w own.caller [])) (scene (stage c.fs w own.caller [])) refl refl (KeepsHeld-same (tree_of c.fs.tree w.forest)) in
-      let kept = keeps-called c own w sound c.fs now w [] []
-      (record { stands = before.stands; is_dir = before.is_dir; all_in = before.all_in; enough = before.enough; piped = before.piped })
-      (record { vpid = same.vpid; tables = same.tables; holds = same.holds; files = same.files; dirs = same.dirs })
-      refl in
-      record { sound = sound-signals (with_part c now) signals w kept.sound still; vpid = refl; parts = λ q there. there; next = refl; child = tt }
-
-  -- open files are closed, and the process's break changes
-  pub keeps-closed : (files : Files) (tree : Table) (new : Process) (v : World) → new.caller ≡ own.caller → IsBacked (at files tree v) → KeepsHolds own.caller.vpid (holding_at (at c.fs.files c.fs.tree w)) (holding_at (at files tree v)) → OnlyFiles w v → LeavesSound (hand c own w) (hand (record c { fs = record c.fs { tree = tree; files = files } }) new v) None
+  -- open files are closed, and the process's task changes
+  pub keeps-closed : (files : Files) (tree : Table) (new : Task) (v : World) → new.caller ≡ (task_in c.tasks p).caller → IsBacked (at files tree v) → KeepsHolds p (holding_at (at c.fs.files c.fs.tree w)) (holding_at (at files tree v)) → OnlyFiles w v → KeepsSound c (record c { fs = record c.fs { tree = tree; files = files }; tasks = insert c.tasks p new }) v
   keeps-closed files tree new v same backed others rest =
       let fs : Fs = record c.fs { tree = tree; files = files } in
-      keeps-called c own w sound fs new v [] []
-      (subst (λ (caller : Caller). Sound (stage fs v caller [])) (sym same) (sound_held c.fs fs w v own.caller [] [] (sound-scene c own w sound []) backed others))
-      (others_held (scene (stage c.fs w own.caller [])) (scene (stage fs v new.caller [])) (sym same) others)
+      let holds : KeepsHolds own.caller.vpid (holding_at (at c.fs.files c.fs.tree w)) (holding_at (at files tree v)) = subst (λ q. KeepsHolds q (holding_at (at c.fs.files c.fs.tree w)) (holding_at (at files tree v))) (sym own-vpid) others in
+      keeps-called fs new v [] []
+      (subst (λ (caller : Caller). Sound (stage fs v caller [])) (sym same) (sound_held c.fs fs w v own.caller [] [] (sound-scene []) backed holds))
+      (others_held (scene (stage c.fs w own.caller [])) (scene (stage fs v new.caller [])) (sym same) holds)
       rest
 
--- what is kept by one step and then by another
-pub keeps-then : (old mid new : Hand) (made : Option Machine) → LeavesSound old mid made → LeavesSound mid new None → LeavesSound old new made
-keeps-then old mid new made first then = record {
-  sound = then.sound;
-  vpid = then.vpid ∙ first.vpid;
-  parts = λ q there. then.parts q (first.parts q there);
-  next = then.next ∙ first.next;
-  child = by_made made first.child;
+-- the time alone changes
+keeps-clock : (c : Shared) (w : World) → IsSound c w → (clock : ℕ) → KeepsSound c (record c { fs = record c.fs { clock = clock } }) w
+keeps-clock c w sound clock = record {
+  sound = record {
+    stands = sound.stands;
+    pids = sound.pids;
+    all_in = sound.all_in;
+    directories = sound.directories;
+    holds = sound.holds;
+    piped = sound.piped;
+    named = sound.named;
+    given = sound.given;
+    lives = sound.lives;
+    fresh = sound.fresh;
+  };
+  tasks = λ q there. there;
+  next = refl;
 }
-  where
-    by_made : (made : Option Machine) → IfSome made (λ _. IsSome (get mid.shared.processes old.shared.pids.next)) → IfSome made (λ _. IsSome (get new.shared.processes old.shared.pids.next))
-    by_made None there = tt
-    by_made (Some m) there = then.parts old.shared.pids.next there
+
+-- a call that keeps what is sound leaves it so, whatever became of the process
+pub leaves : (p : ℕ) (served : Served) (old new : Shared) (w : World) → KeepsSound old new w → LeavesSound p served None old new w
+leaves p served old new w kept = record { sound = kept.sound; tasks = λ q lives there. kept.tasks q there; next = kept.next; child = tt }
+
+-- one step that keeps what is sound, and then another
+pub leaves-then : (p : ℕ) (served : Served) (made : Option Machine) (old mid new : Shared) (v w : World) → KeepsSound old mid v → LeavesSound p served made mid new w → LeavesSound p served made old new w
+leaves-then p served made old mid new v w first then = record {
+  sound = then.sound;
+  tasks = λ q lives there. then.tasks q lives (first.tasks q there);
+  next = then.next ∙ ap (λ next. next_after next made) first.next;
+  child = subst (λ next. IfSome made (λ _. LivesOn p served next → IsSome (get new.tasks next))) first.next then.child;
+}
 
 lives-born : (members : List Member) (q parent : ℕ) → has_live (with_child members q parent) q ≡ true
 lives-born [] q parent = grind (arith, nat_tests)
@@ -223,88 +178,68 @@ lives-still : (members : List Member) (q parent p : ℕ) → has_live members p 
 lives-still members q parent p is =
     list_any-append (is_live p) members (newborn q parent ∷ []) ∙ ap (λ b. b || list_any (is_live p) (newborn q parent ∷ [])) is
 
--- parts of two processes can be put in either order
-insert_apart : (m : Processes) (k q : ℕ) (a b : Process) → q ≢ k → insert (insert m q b) k a ≡ insert (insert m k a) q b
-insert_apart m k q a b apart = same_map nat_cmp_total nat_cmp-IsAntisymmetric _ _ (λ p.
-    at_insert nat_cmp_total nat_cmp-IsAntisymmetric (λ found. found ≡ get (insert (insert m k a) q b) p) (insert m q b) k a p
-    (λ is. sym (ap (get (insert (insert m k a) q b)) is ∙ other_key (insert m k a) q b k (λ same. apart (sym same)) ∙ same_key m k a))
-    (λ off. at_insert nat_cmp_total nat_cmp-IsAntisymmetric (λ found. found ≡ get (insert (insert m k a) q b) p) m q b p
-    (λ is. sym (ap (get (insert (insert m k a) q b)) is ∙ same_key (insert m k a) q b))
-    (λ away. sym (other_key (insert m k a) q b p away ∙ other_key m k a p off))))
+module _ (c : Shared) (p : ℕ) (w : World) (sound : IsSound c w) (lives : IsSome (get c.tasks p)) where
+  abbrev parent : Task
+  parent = task_in c.tasks p
 
-module _ (c : Shared) (own : Process) (w : World) (sound : IsSoundHand (hand c own w)) where
-  abbrev present : Processes
-  present = insert c.processes own.caller.vpid own
-
-  none-next : get present c.pids.next ≡ None
-  none-next = by_found (get present c.pids.next) refl
+  none-next : get c.tasks c.pids.next ≡ None
+  none-next = by_found (get c.tasks c.pids.next) refl
     where
-      by_found : (found : Option Process) → get present c.pids.next ≡ found → found ≡ None
+      by_found : (found : Option Task) → get c.tasks c.pids.next ≡ found → found ≡ None
       by_found None is = refl
-      by_found (Some other) is = absurd (let below : c.pids.next < c.pids.next = sound.given c.pids.next (subst IsSome (sym is) refl) in omega arith)
+      by_found (Some other) is = absurd (let below : c.pids.next < c.pids.next = sound.given c.pids.next (ap is_some is) in omega arith)
 
-  module _ (new : Shared) (child : Process) (v : World) (parent : ℕ) (only : OnlyPids w v) (stands : Stands new.fs.tree v.forest) (tree : tree_of new.fs.tree v.forest ≡ tree_after_hold (tree_of c.fs.tree v.forest) own.caller.cwd) (nodes : KeepsNodes c.pids.next c.fs.files.descriptors new.fs.files.descriptors) (pipes : new.fs.files.pipes ≡ c.fs.files.pipes) (ends : new.fs.files.ends ≡ c.fs.files.ends) (pids : procs.Stands new.pids v.pids) (members : members_of new.pids ≡ with_child (members_of c.pids) c.pids.next parent) (next : new.pids.next ≡ c.pids.next + 1) (processes : new.processes ≡ insert c.processes c.pids.next child) (vpid : child.caller.vpid ≡ c.pids.next) (cwd : child.caller.cwd ≡ own.caller.cwd) (state : Sig) (states : new.signals ≡ insert c.signals c.pids.next state) where
-    apart-next : c.pids.next ≢ own.caller.vpid
-    apart-next is = let below = own-given c own w sound in omega arith
-
-    all-parts : insert new.processes own.caller.vpid own ≡ insert present c.pids.next child
-    all-parts = ap (λ (m : Processes). insert m own.caller.vpid own) processes ∙ insert_apart c.processes own.caller.vpid c.pids.next own child apart-next
-
-    tree-now : tree_of new.fs.tree v.forest ≡ tree_after_hold (tree_of c.fs.tree w.forest) own.caller.cwd
-    tree-now = tree ∙ ap (λ (f : Forest). tree_after_hold (tree_of c.fs.tree f) own.caller.cwd) only.forest
+  module _ (new : Shared) (child : Task) (v : World) (only : OnlyPids w v) (stands : Stands new.fs.tree v.forest) (tree : tree_of new.fs.tree v.forest ≡ tree_after_hold (tree_of c.fs.tree v.forest) parent.caller.cwd) (nodes : KeepsNodes c.pids.next c.fs.files.descriptors new.fs.files.descriptors) (pipes : new.fs.files.pipes ≡ c.fs.files.pipes) (ends : new.fs.files.ends ≡ c.fs.files.ends) (pids : procs.Stands new.pids v.pids) (members : members_of new.pids ≡ with_child (members_of c.pids) c.pids.next p) (next : new.pids.next ≡ c.pids.next + 1) (tasks : new.tasks ≡ insert c.tasks c.pids.next child) (vpid : child.caller.vpid ≡ c.pids.next) (cwd : child.caller.cwd ≡ parent.caller.cwd) where
+    tree-now : tree_of new.fs.tree v.forest ≡ tree_after_hold (tree_of c.fs.tree w.forest) parent.caller.cwd
+    tree-now = tree ∙ ap (λ (f : Forest). tree_after_hold (tree_of c.fs.tree f) parent.caller.cwd) only.forest
 
     shape-now : shape_of new.fs.tree v.forest ≡ shape_of c.fs.tree w.forest
-    shape-now = ap (λ (t : FileTree). t.shape) tree-now ∙ shape-held (tree_of c.fs.tree w.forest) own.caller.cwd
+    shape-now = ap (λ (t : FileTree). t.shape) tree-now ∙ shape-held (tree_of c.fs.tree w.forest) parent.caller.cwd
 
-    parts-child : (P : ℕ → Option Process → Type 0) → P c.pids.next (Some child) → ((r : ℕ) → P r (get present r)) → (r : ℕ) → P r (get (insert new.processes own.caller.vpid own) r)
-    parts-child P mine theirs r = subst (λ (m : Processes). P r (get m r)) (sym all-parts)
-        (at_insert nat_cmp_total nat_cmp-IsAntisymmetric (P r) present c.pids.next child r (λ is. subst (λ r. P r (Some child)) (sym is) mine) (λ apart. theirs r))
+    tasks-child : (P : ℕ → Option Task → Type 0) → P c.pids.next (Some child) → ((r : ℕ) → P r (get c.tasks r)) → (r : ℕ) → P r (get new.tasks r)
+    tasks-child P mine theirs r = subst (λ (m : Tasks). P r (get m r)) (sym tasks)
+        (at_insert nat_cmp_total nat_cmp-IsAntisymmetric (P r) c.tasks c.pids.next child r (λ is. subst (λ r. P r (Some child)) (sym is) mine) (λ apart. theirs r))
 
     dir-child : IsDir (shape_of c.fs.tree w.forest) child.caller.cwd
-    dir-child = subst (IsDir (shape_of c.fs.tree w.forest)) (sym cwd) (own-dir c own w sound)
+    dir-child = subst (IsDir (shape_of c.fs.tree w.forest)) (sym cwd) (own-dir c p w sound lives)
 
-    holds-child : (n : ℕ) → holds_of (tree_of new.fs.tree v.forest) n ≡ descriptions_of new.fs.files.descriptors n + directories_of (insert new.processes own.caller.vpid own) n
+    holds-child : (n : ℕ) → holds_of (tree_of new.fs.tree v.forest) n ≡ descriptions_of new.fs.files.descriptors n + directories_of new.tasks n
     holds-child n =
         let now = ap (λ (t : FileTree). holds_of t n) tree-now in
-        let more = holds-held (tree_of c.fs.tree w.forest) sound.stands.tree own.caller.cwd (IsLive-IsDir (shape_of c.fs.tree w.forest) own.caller.cwd (own-dir c own w sound)) n in
-        let parts = ap (λ (m : Processes). directories_of m n) all-parts in
-        let put = total-insert nat_cmp_total (by_own n) present c.pids.next child in
-        let none = ap (weight (by_own n)) none-next in
+        let more = holds-held (tree_of c.fs.tree w.forest) sound.stands.tree parent.caller.cwd (IsLive-IsDir (shape_of c.fs.tree w.forest) parent.caller.cwd (own-dir c p w sound lives)) n in
+        let all = ap (λ (m : Tasks). directories_of m n) tasks in
+        let put = total-insert nat_cmp_total (by_task n) c.tasks c.pids.next child in
+        let none = ap (weight (by_task n)) none-next in
         let dir = ap (λ d. one_for d n) cwd in
         omega (arith, sound.holds n, nodes.counts n)
 
     -- a child is there, which holds its working directory
-    pub sound-child : IsSoundHand (hand new own v)
+    pub sound-child : IsSound new v
     sound-child = record {
       stands = stands;
       pids = pids;
       all_in = subst (λ s. AllIn s new.fs.files.descriptors) (sym shape-now) (nodes.all_in (shape_of c.fs.tree w.forest) sound.all_in);
-      directories = parts-child (λ r found. IfSome found (λ other. IsDir (shape_of new.fs.tree v.forest) other.caller.cwd))
+      directories = tasks-child (λ r found. IfSome found (λ other. IsDir (shape_of new.fs.tree v.forest) other.caller.cwd))
           (subst (λ s. IsDir s child.caller.cwd) (sym shape-now) dir-child)
-          (λ r. subst (λ s. IfSome (get present r) (λ other. IsDir s other.caller.cwd)) (sym shape-now) (sound.directories r));
+          (λ r. subst (λ s. IfSome (get c.tasks r) (λ other. IsDir s other.caller.cwd)) (sym shape-now) (sound.directories r));
       holds = holds-child;
       piped = subst (IsPiped new.fs.files) (sym only.pipes) (piped_nodes c.pids.next c.fs.files new.fs.files w.pipes nodes pipes ends sound.piped);
-      named = parts-child (λ r found. IfSome found (λ other. other.caller.vpid ≡ r)) vpid (λ r. sound.named r);
-      given = parts-child (λ r found. IsSome found → r < new.pids.next) (λ some. omega arith) (λ r some. let below = sound.given r some in omega arith);
-      lives = parts-child (λ r found. IsSome found → has_live (members_of new.pids) r ≡ true)
-          (λ some. subst (λ ms. has_live ms c.pids.next ≡ true) (sym members) (lives-born (members_of c.pids) c.pids.next parent))
-          (λ r some. subst (λ ms. has_live ms r ≡ true) (sym members) (lives-still (members_of c.pids) c.pids.next parent r (sound.lives r some)));
-      signalled = parts-child (λ r found. IsSome found → IsSome (get new.signals r))
-          (λ some. subst (λ ss. IsSome (get ss c.pids.next)) (sym states) (signal-here c.signals c.pids.next state))
-          (λ r some. subst (λ ss. IsSome (get ss r)) (sym states) (still-insert c.signals c.pids.next state r (sound.signalled r some)));
+      named = tasks-child (λ r found. IfSome found (λ other. other.caller.vpid ≡ r)) vpid (λ r. sound.named r);
+      given = tasks-child (λ r found. IsSome found → r < new.pids.next) (λ some. omega arith) (λ r some. let below = sound.given r some in omega arith);
+      lives = tasks-child (λ r found. IsSome found → has_live (members_of new.pids) r ≡ true)
+          (λ some. subst (λ ms. has_live ms c.pids.next ≡ true) (sym members) (lives-born (members_of c.pids) c.pids.next p))
+          (λ r some. subst (λ ms. has_live ms r ≡ true) (sym members) (lives-still (members_of c.pids) c.pids.next p r (sound.lives r some)));
       fresh = λ r past. nodes.tables r (omega arith) ∙ sound.fresh r (omega arith);
     }
 
-  -- a child is a process more
-  pub keeps-child : (new : Shared) (child : Process) (v : World) (m : Machine) → IsSoundHand (hand new own v) → new.pids.next ≡ c.pids.next + 1 → new.processes ≡ insert c.processes c.pids.next child → LeavesSound (hand c own w) (hand new own v) (Some m)
-  keeps-child new child v m now next processes = record {
-    sound = now;
-    vpid = refl;
-    parts = λ r there. subst (λ (m : Processes). IsSome (get m r)) (sym processes)
-        (at_insert nat_cmp_total nat_cmp-IsAntisymmetric (λ found. IsSome found) c.processes c.pids.next child r (λ is. refl) (λ apart. there));
-    next = next;
-    child = subst (λ (m : Processes). IsSome (get m c.pids.next)) (sym processes) (subst (λ found. IsSome found) (sym (same_key c.processes c.pids.next child)) refl);
-  }
+-- a child is a process more
+pub keeps-child : (p : ℕ) (served : Served) (c new : Shared) (child : Task) (v : World) (m : Machine) → IsSound new v → new.pids.next ≡ c.pids.next + 1 → new.tasks ≡ insert c.tasks c.pids.next child → LeavesSound p served (Some m) c new v
+keeps-child p served c new child v m now next tasks = record {
+  sound = now;
+  tasks = λ r lives there. subst (λ (m : Tasks). IsSome (get m r)) (sym tasks) (still-insert c.tasks c.pids.next child r there);
+  next = next;
+  child = λ lives. subst (λ (m : Tasks). IsSome (get m c.pids.next)) (sym tasks) (task-here c.tasks c.pids.next child);
+}
 
 -- the members with pids above one's are not of its pid
 none-above : (x : Member) (members : List Member) → All (λ y. x.vpid < y.vpid) members → list_any (is_live x.vpid) members ≡ false
@@ -337,58 +272,62 @@ lives-without (x ∷ members) vpid p apart is =
       | false ↦ λ here. or-then (is_live p x) (has_live members p) (has_live (without_member members vpid) p) rest is
     ] refl
 
-module _ (c : Shared) (own : Process) (w : World) (sound : IsSoundHand (hand c own w)) where
-  abbrev living : Processes
-  living = insert c.processes own.caller.vpid own
+module _ (c : Shared) (w : World) (sound : IsSound c w) (pids : procs.Table) (v : World) (parent : ℕ) (which : Option ℕ) (vpid : ℕ) (end : End) (rising : procs.IsRising (members_of c.pids)) (found : look_for (members_of c.pids) parent which ≡ Got vpid end) (only : OnlyPids w v) (stands : procs.Stands pids v.pids) (members : members_of pids ≡ without_member (members_of c.pids) vpid) (next : pids.next ≡ c.pids.next) where
+  zombie-dead : has_live (members_of c.pids) vpid ≡ false
+  zombie-dead =
+      let z = lowest (members_of c.pids) parent which vpid end rising found in
+      subst (λ p. has_live (members_of c.pids) p ≡ false) z.pid (dead (members_of c.pids) z.zombie end rising z.ended z.there.0 z.there.1 z.there.2)
 
-  module _ (pids : procs.Table) (v : World) (parent : ℕ) (which : Option ℕ) (vpid : ℕ) (end : End) (rising : procs.IsRising (members_of c.pids)) (found : look_for (members_of c.pids) parent which ≡ Got vpid end) (only : OnlyPids w v) (stands : procs.Stands pids v.pids) (members : members_of pids ≡ without_member (members_of c.pids) vpid) (next : pids.next ≡ c.pids.next) where
-    zombie-dead : has_live (members_of c.pids) vpid ≡ false
-    zombie-dead =
-        let z = lowest (members_of c.pids) parent which vpid end rising found in
-        subst (λ p. has_live (members_of c.pids) p ≡ false) z.pid (dead (members_of c.pids) z.zombie end rising z.ended z.there.0 z.there.1 z.there.2)
+  lives-reaped : (p : ℕ) → has_live (members_of c.pids) p ≡ true → has_live (members_of pids) p ≡ true
+  lives-reaped p is = subst (λ ms. has_live ms p ≡ true) (sym members)
+      (lives-without (members_of c.pids) vpid p (λ same. let both : true ≡ false = sym is ∙ subst (λ p. has_live (members_of c.pids) p ≡ false) (sym same) zombie-dead in cc) is)
 
-    lives-reaped : (p : ℕ) → has_live (members_of c.pids) p ≡ true → has_live (members_of pids) p ≡ true
-    lives-reaped p is = subst (λ ms. has_live ms p ≡ true) (sym members)
-        (lives-without (members_of c.pids) vpid p (λ same. let both : true ≡ false = sym is ∙ subst (λ p. has_live (members_of c.pids) p ≡ false) (sym same) zombie-dead in cc) is)
+  -- a zombie is reaped
+  sound-reaped : IsSound (record c { pids = pids }) v
+  sound-reaped = record {
+    stands = subst (Stands c.fs.tree) (sym only.forest) sound.stands;
+    pids = stands;
+    all_in = subst (λ f. AllIn (shape_of c.fs.tree f) c.fs.files.descriptors) (sym only.forest) sound.all_in;
+    directories = λ p. subst (λ f. IfSome (get c.tasks p) (λ other. IsDir (shape_of c.fs.tree f) other.caller.cwd)) (sym only.forest) (sound.directories p);
+    holds = λ n. subst (λ f. holds_of (tree_of c.fs.tree f) n ≡ descriptions_of c.fs.files.descriptors n + directories_of c.tasks n) (sym only.forest) (sound.holds n);
+    piped = subst (IsPiped c.fs.files) (sym only.pipes) sound.piped;
+    named = sound.named;
+    given = λ p some. let below = sound.given p some in omega arith;
+    lives = λ p some. lives-reaped p (sound.lives p some);
+    fresh = λ p past. sound.fresh p (omega arith);
+  }
 
-    -- a zombie is reaped
-    pub sound-reaped : IsSoundHand (hand (record c { pids = pids }) own v)
-    sound-reaped = record {
-      stands = subst (Stands c.fs.tree) (sym only.forest) sound.stands;
-      pids = stands;
-      all_in = subst (λ f. AllIn (shape_of c.fs.tree f) c.fs.files.descriptors) (sym only.forest) sound.all_in;
-      directories = λ p. subst (λ f. IfSome (get living p) (λ other. IsDir (shape_of c.fs.tree f) other.caller.cwd)) (sym only.forest) (sound.directories p);
-      holds = λ n. subst (λ f. holds_of (tree_of c.fs.tree f) n ≡ descriptions_of c.fs.files.descriptors n + directories_of living n) (sym only.forest) (sound.holds n);
-      piped = subst (IsPiped c.fs.files) (sym only.pipes) sound.piped;
-      named = sound.named;
-      given = λ p some. let below = sound.given p some in omega arith;
-      lives = λ p some. lives-reaped p (sound.lives p some);
-      signalled = sound.signalled;
-      fresh = λ p past. sound.fresh p (omega arith);
+  pub keeps-reaped : KeepsSound c (record c { pids = pids }) v
+  keeps-reaped = record { sound = sound-reaped; tasks = λ q there. there; next = next }
+
+-- what was kept before a stop was served, or a part of it
+pub effect-then : (p : ℕ) (defined rest : Effect) (old mid new : Shared) (v w : World) (m : Machine) (result : Result EffectInCode HostErr) (before now : ℕ) → defined ≡ rest → KeepsSound old mid v → HasEffect p rest mid (left new w m) result before now → HasEffect p defined old (left new w m) result before now
+effect-then p defined rest old mid new v w m (Ok e) before now is first then = record {
+  served = is ∙ then.served;
+  kept = leaves-then p e.served e.child old mid new v w first then.kept;
+  cause = then.cause;
+}
+effect-then p defined rest old mid new v w m (Err x) before now is first then = record {
+  served = then.served;
+  kept = then.kept;
+  cause = then.cause;
+}
+
+-- a call that changes tasks alone has its effect
+pub serves-tasks : (p : ℕ) (defined : Effect) (c new : Shared) (w : World) (machine : Machine) (e : EffectInCode) (count : ℕ) → IsSound c w → e.child ≡ None → ChangesTasks c new → defined ≡ effect_as (shared_of new w) machine e → HasEffect p defined c (left new w machine) (Ok e) count count
+serves-tasks p defined c new w machine e count sound none changes served = record {
+  served = served;
+  kept = subst (λ made. LeavesSound p e.served made c new w) (sym none) (leaves p e.served c new w (changes.kept w sound));
+  cause = record { later = omega arith; rose = λ failed. cc };
+}
+
+-- and so has one that takes time alone
+pub serves-time : (p : ℕ) (defined : Effect) (c new : Shared) (w : World) (machine : Machine) (e : EffectInCode) (count : ℕ) → IsSound c w → e.child ≡ None → new ≡ record c { fs = new.fs } → new.fs ≡ record c.fs { clock = new.fs.clock } → defined ≡ effect_as (shared_of new w) machine e → HasEffect p defined c (left new w machine) (Ok e) count count
+serves-time p defined c new w machine e count sound none rest files served =
+    let is : new ≡ record c { fs = record c.fs { clock = new.fs.clock } } = rest ∙ ap (λ (fs : Fs). record c { fs = fs }) files in
+    let kept : KeepsSound c new w = subst (λ (s : Shared). KeepsSound c s w) (sym is) (keeps-clock c w sound new.fs.clock) in
+    record {
+      served = served;
+      kept = subst (λ made. LeavesSound p e.served made c new w) (sym none) (leaves p e.served c new w kept);
+      cause = record { later = omega arith; rose = λ failed. cc };
     }
-
-    pub keeps-reaped : LeavesSound (hand c own w) (hand (record c { pids = pids }) own v) None
-    keeps-reaped = record { sound = sound-reaped; vpid = refl; parts = λ q there. there; next = next; child = tt }
-
-module _ (defined : Effect) (c : Shared) (own : Process) (w : World) (machine : Machine) (e : EffectInCode) (count : ℕ) (sound : IsSoundHand (hand c own w)) (none : e.child ≡ None) where
-  -- one that changes the break
-  pub serves-break : (new : Process) → new.caller ≡ own.caller → defined ≡ effect_as (shared_of c w) new machine e → HasEffect defined (hand c own w) (hand c new w) machine (Ok e) count count
-  serves-break new same served = record {
-    served = served;
-    kept = subst (LeavesSound (hand c own w) (hand c new w)) (sym none) (keeps-break c own w sound new same);
-    cause = record { later = omega arith; rose = λ failed. cc };
-  }
-
-  -- one that takes time
-  serves-clock : (clock : ℕ) → defined ≡ effect_as (shared_of (record c { fs = record c.fs { clock = clock } }) w) own machine e → HasEffect defined (hand c own w) (hand (record c { fs = record c.fs { clock = clock } }) own w) machine (Ok e) count count
-  serves-clock clock served = record {
-    served = served;
-    kept = subst (LeavesSound (hand c own w) (hand (record c { fs = record c.fs { clock = clock } }) own w)) (sym none) (keeps-clock c own w sound clock);
-    cause = record { later = omega arith; rose = λ failed. cc };
-  }
-
-  pub serves-time : (new : Shared) → new ≡ record c { fs = new.fs } → new.fs ≡ record c.fs { clock = new.fs.clock } → defined ≡ effect_as (shared_of new w) own machine e → HasEffect defined (hand c own w) (hand new own w) machine (Ok e) count count
-  serves-time new rest files served =
-      let is : new ≡ record c { fs = record c.fs { clock = new.fs.clock } } = rest ∙ ap (λ (fs : Fs). record c { fs = fs }) files in
-      subst (λ (s : Shared). HasEffect defined (hand c own w) (hand s own w) machine (Ok e) count count) (sym is)
-      (serves-clock new.fs.clock (subst (λ (s : Shared). defined ≡ effect_as (shared_of s w) own machine e) is served))

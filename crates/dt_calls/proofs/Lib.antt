@@ -1,3 +1,4 @@
+pub mod Tasks
 pub mod Held
 pub mod Done
 pub mod Homes
@@ -7,6 +8,8 @@ pub mod Ended
 pub mod Few
 pub mod Settled
 pub mod Delivering
-pub mod Signalled
+pub mod Called
+pub mod Returning
 pub mod Serving
+pub mod Fits
 pub mod Started

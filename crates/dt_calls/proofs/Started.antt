@@ -11,7 +11,7 @@ use Rattle.dt_fds.specs.Descriptions.{Descriptions, empty_descriptions, with_ope
 use Rattle.dt_fds.specs.Backs.{AllIn, IsPiped, descriptions_of}
 use Rattle.dt_tables.specs.inner.Weight.{weight}
 use Rattle.dt_host.specs.World.{World, Forest, PipeContents, IsDir}
-use Rattle.dt_tables.proofs.Maps.{at_insert, get-insert_same, get-insert_other}
+use Rattle.dt_tables.proofs.Maps.{at_insert, get-insert_other}
 use Rattle.dt_host.proofs.Spots.{IsLive-IsDir}
 use Rattle.dt_tables.proofs.Totals.{total-insert, total-empty}
 use Rattle.dt_pipes.specs.Table as pipes
@@ -30,10 +30,9 @@ use Rattle.dt_tree.specs.Table.{Table as TreeTable, Stands, shape_of, tree_of}
 use Rattle.dt_tree.proofs.Namings.{one_for-swap}
 use Rattle.dt_tree.proofs.Holding.{holds-held, shape-held}
 use Rattle.dt_tree.proofs.Images.{not_held}
-use Rattle.dt_calls.specs.declared.shared.Process.{Process}
+use Rattle.dt_calls.specs.declared.task.Task.{Task}
 use Rattle.dt_calls.specs.declared.shared.Shared.{Shared as SharedInCode}
-use Rattle.dt_calls.specs.Container.{Processes, blank_process}
-use Rattle.dt_signals.specs.Signals.{no_signals}
+use Rattle.dt_calls.specs.Container.{Tasks, blank_task}
 use Rattle.dt_calls.specs.Sound.{IsSound, directories_of}
 
 -- what one process opens is in no table of another
@@ -55,52 +54,50 @@ tables-first p q apart =
     ∙ get-insert_other nat_cmp_total nat_cmp-IsAntisymmetric empty p _ q apart
     ∙ get-empty nat_cmp q
 
-abbrev pub first_part : Process
-first_part = blank_process FIRST_PID
+abbrev pub first_task : Task
+first_task = blank_task FIRST_PID
 
 -- the first process alone
-abbrev pub first_parts : Processes
-first_parts = insert empty FIRST_PID first_part
+abbrev pub first_tasks : Tasks
+first_tasks = insert empty FIRST_PID first_task
 
--- what holds of the first process's part holds of each part
-of_first : (P : ℕ → Option Process → Type 0) → ((q : ℕ) → P q None) → P FIRST_PID (Some first_part) → (q : ℕ) → P q (get first_parts q)
+-- what holds of the first process's task holds of each task
+of_first : (P : ℕ → Option Task → Type 0) → ((q : ℕ) → P q None) → P FIRST_PID (Some first_task) → (q : ℕ) → P q (get first_tasks q)
 of_first P none first q =
-    at_insert nat_cmp_total nat_cmp-IsAntisymmetric (λ found. P q found) empty FIRST_PID first_part q
-    (λ is. subst (λ k. P k (Some first_part)) (sym is) first) (λ apart. subst (P q) (sym (get-empty nat_cmp q)) (none q))
+    at_insert nat_cmp_total nat_cmp-IsAntisymmetric (λ found. P q found) empty FIRST_PID first_task q
+    (λ is. subst (λ k. P k (Some first_task)) (sym is) first) (λ apart. subst (P q) (sym (get-empty nat_cmp q)) (none q))
 
-directories-first : (n : ℕ) → directories_of first_parts n ≡ one_for ROOT n
+directories-first : (n : ℕ) → directories_of first_tasks n ≡ one_for ROOT n
 directories-first n =
-    let g = λ (own : Process). one_for own.caller.cwd n in
-    let sum = total-insert nat_cmp_total g empty FIRST_PID first_part in
+    let g = λ (t : Task). one_for t.caller.cwd n in
+    let sum = total-insert nat_cmp_total g empty FIRST_PID first_task in
     let none = total-empty nat_cmp_total g in
-    let weighs = ap (weight g) (get-empty {X = Process} nat_cmp FIRST_PID) in
+    let weighs = ap (weight g) (get-empty {X = Task} nat_cmp FIRST_PID) in
     omega arith
 
 -- a container begins: its process holds the root, and nothing is open that names a node
 pub sound-first : (c : SharedInCode) (old : TreeTable) (u w : World) (entries : List Entry) → Stands old u.forest → tree_of old u.forest ≡ image_tree entries → Stands c.fs.tree w.forest → tree_of c.fs.tree w.forest ≡ tree_after_hold (tree_of old u.forest) ROOT → procs.Stands c.pids w.pids
-    → ((n : ℕ) → descriptions_of c.fs.files.descriptors n ≡ 0) → ((v : Forest) → AllIn v c.fs.files.descriptors) → c.fs.files.descriptors ≡ first_files FIRST_PID → IsPiped c.fs.files w.pipes → c.processes ≡ first_parts → c.signals ≡ insert empty FIRST_PID no_signals → members_of c.pids ≡ first_members → c.pids.next ≡ FIRST_PID + 1 → IsSound c w
-sound-first c old u w entries was image stands tree pids nodes all files piped parts states members next =
+    → ((n : ℕ) → descriptions_of c.fs.files.descriptors n ≡ 0) → ((v : Forest) → AllIn v c.fs.files.descriptors) → c.fs.files.descriptors ≡ first_files FIRST_PID → IsPiped c.fs.files w.pipes → c.tasks ≡ first_tasks → members_of c.pids ≡ first_members → c.pids.next ≡ FIRST_PID + 1 → IsSound c w
+sound-first c old u w entries was image stands tree pids nodes all files piped tasks members next =
     let t = tree_of old u.forest in
     let top : IsDir t.shape ROOT = subst (IsDir t.shape) was.tree.root was.tree.shaped.root in
     let dir : IsDir (shape_of c.fs.tree w.forest) ROOT = subst (λ x. IsDir x.shape ROOT) (sym tree) (subst (λ s. IsDir s ROOT) (sym (shape-held t ROOT)) top) in
-    let by = λ (P : ℕ → Option Process → Type 0) (none : (q : ℕ) → P q None) (first : P FIRST_PID (Some first_part)) (q : ℕ). subst (λ (m : Processes). P q (get m q)) (sym parts) (of_first P none first q) in
+    let by = λ (P : ℕ → Option Task → Type 0) (none : (q : ℕ) → P q None) (first : P FIRST_PID (Some first_task)) (q : ℕ). subst (λ (m : Tasks). P q (get m q)) (sym tasks) (of_first P none first q) in
     record {
       stands = stands;
       pids = pids;
       all_in = all (shape_of c.fs.tree w.forest);
-      directories = by (λ q found. IfSome found (λ own. IsDir (shape_of c.fs.tree w.forest) own.caller.cwd)) (λ q. tt) dir;
+      directories = by (λ q found. IfSome found (λ t. IsDir (shape_of c.fs.tree w.forest) t.caller.cwd)) (λ q. tt) dir;
       holds = λ n.
           let more = holds-held t was.tree ROOT (IsLive-IsDir t.shape ROOT top) n in
           let now = ap (λ x. holds_of x n) tree in
           let start = ap (λ x. holds_of x n) image ∙ not_held entries n in
-          let dirs = ap (λ m. directories_of m n) parts ∙ directories-first n in
+          let dirs = ap (λ m. directories_of m n) tasks ∙ directories-first n in
           omega (arith, nodes n, one_for-swap ROOT n);
       piped = piped;
-      named = by (λ q found. IfSome found (λ own. own.caller.vpid ≡ q)) (λ q. tt) refl;
+      named = by (λ q found. IfSome found (λ t. t.caller.vpid ≡ q)) (λ q. tt) refl;
       given = by (λ q found. IsSome found → q < c.pids.next) (λ q some. cc) (λ some. omega (arith, next));
       lives = by (λ q found. IsSome found → has_live (members_of c.pids) q ≡ true) (λ q some. cc) (λ some. ap (λ ms. has_live ms FIRST_PID) members);
-      signalled = by (λ q found. IsSome found → IsSome (get c.signals q)) (λ q some. cc)
-          (λ some. ap is_some (ap (λ m. get m FIRST_PID) states ∙ get-insert_same nat_cmp_total nat_cmp-IsAntisymmetric empty FIRST_PID no_signals));
       fresh = λ q late. ap (λ f. get f.tables q) files ∙ tables-first FIRST_PID q (λ is. absurd (omega (arith, next)));
     }
 

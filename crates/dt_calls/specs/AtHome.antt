@@ -2,13 +2,15 @@
 use Rattle.std.specs.Prelude.{◌≡◌, ℕ, Option, Some, Result}
 use Rattle.std.specs.Ordering.{nat_cmp}
 use Rattle.std.specs.FinMap.{FinMap, get, insert}
+use Rattle.dt_host.specs.World.{World}
 use Rattle.dt_host.specs.declared.error.HostErr.{HostErr}
 use Rattle.dt_rv64.specs.declared.machine.Machine.{Machine}
 use Rattle.dt_rv64.specs.declared.segments.Seg.{Seg}
 use Rattle.dt_rv64.specs.Segment.{segment_of}
 use Rattle.dt_calls.specs.declared.call.effect.Effect.{Effect as EffectInCode}
+use Rattle.dt_calls.specs.declared.shared.Shared.{Shared}
 use Rattle.dt_calls.specs.Effect.{Effect}
-use Rattle.dt_calls.specs.Sound.{Hand, HasEffect}
+use Rattle.dt_calls.specs.Sound.{HasEffect, left}
 
 -- the places for machines
 abbrev pub Places : Type 0
@@ -27,8 +29,8 @@ pub record RunsAt (before after : Places) (p : ℕ) (seg : Seg) : Type 0 where
   pub run : segment_of was ≡ record { count = seg.count; stop = seg.stop; machine = now }
 
 -- a stop of the process was served as it is defined for the machine, unless the host failed or memory was wanting
-pub record HasEffectAt (defined : Machine → Effect) (old new : Hand) (before after : Places) (p : ℕ) (result : Result EffectInCode HostErr) (count later : ℕ) : Type 0 where
+pub record HasEffectAt (defined : Machine → Effect) (old new : Shared) (world : World) (before after : Places) (p : ℕ) (result : Result EffectInCode HostErr) (count later : ℕ) : Type 0 where
   pub was : Machine
   pub now : Machine
   pub becomes : Becomes before after p was now
-  pub serves : HasEffect (defined was) old new now result count later
+  pub serves : HasEffect p (defined was) old (left new world now) result count later

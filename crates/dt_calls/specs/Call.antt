@@ -8,22 +8,22 @@ use Rattle.dt_rv64.specs.declared.machine.Machine.{Machine}
 use Rattle.dt_rv64.specs.declared.segments.Stop.{Stop}
 use Rattle.dt_rv64.specs.declared.segments.Stop.TheVariants.{Call, Counter, Slice, Fault}
 use Rattle.dt_rv64.specs.Effects.{register}
-use Rattle.dt_calls.specs.declared.call.effect.Outcome.TheVariants.{Done, Ends}
-use Rattle.dt_calls.specs.declared.shared.Process.{Process}
+use Rattle.dt_calls.specs.declared.container.Served.TheVariants.{Done}
 use Rattle.dt_calls.specs.Container.{Shared}
 use Rattle.dt_calls.specs.Effect.{Effect, quiet_effect, done_effect, refused_effect, counter_effect}
 use Rattle.dt_calls.specs.FileCalls.{file_call}
 use Rattle.dt_calls.specs.MemoryCalls.{brk_call, munmap_call, mmap_call, mprotect_call}
 use Rattle.dt_calls.specs.Identity.{getpid_call, getppid_call, set_robust_list_call, uname_call}
 use Rattle.dt_calls.specs.Clone.{clone_call}
+use Rattle.dt_calls.specs.Ends.{with_end}
 use Rattle.dt_calls.specs.Execve.{execve_call}
 use Rattle.dt_calls.specs.Wait.{wait4_call}
 use Rattle.dt_calls.specs.Kill.{kill_call, tkill_call, tgkill_call}
 use Rattle.dt_calls.specs.SignalCalls.{sigaction_call, sigprocmask_call, sigreturn_call}
 
 -- exit(2) and exit_group(2): the process ends with a code
-unfoldable pub exit_call : Shared → Process → Machine → Effect
-exit_call c own m = quiet_effect c own m (Ends (Code (exit_code (register m A0))))
+unfoldable pub exit_call : Shared → ℕ → Machine → Effect
+exit_call c p m = with_end p (Code (exit_code (register m A0))) (quiet_effect c m Done)
 
 -- a call of one of these numbers is done and answers 0: sched_yield(2), and getuid(2) and its kin, since all is root's
 abbrev pub is_zero_call : ℕ → Bool
@@ -36,49 +36,49 @@ is_missing_call number =
     (number == MREMAP) || (number == MADVISE) || (number == PRLIMIT64) || (number == STATX) || (number == RSEQ)
 
 -- the calls on signals; any other is one on files, time or random bytes
-unfoldable pub signal_call : ℕ → Shared → Process → Machine → Effect
-signal_call number c own m =
-    if number == KILL then kill_call c own m
-    else if number == TKILL then tkill_call c own m
-    else if number == TGKILL then tgkill_call c own m
-    else if number == RT_SIGACTION then sigaction_call c own m
-    else if number == RT_SIGPROCMASK then sigprocmask_call c own m
-    else if number == RT_SIGRETURN then sigreturn_call c own m
-    else file_call number c own m
+unfoldable pub signal_call : ℕ → Shared → ℕ → Machine → Effect
+signal_call number c p m =
+    if number == KILL then kill_call c m
+    else if number == TKILL then tkill_call c m
+    else if number == TGKILL then tgkill_call c m
+    else if number == RT_SIGACTION then sigaction_call c p m
+    else if number == RT_SIGPROCMASK then sigprocmask_call c p m
+    else if number == RT_SIGRETURN then sigreturn_call c p m
+    else file_call number c p m
 
 -- the calls that tell a process who it is, and those that do nothing; any other is one on signals or one of those above
-unfoldable pub identity_call : ℕ → Shared → Process → Machine → Effect
-identity_call number c own m =
-    if (number == GETPID) || (number == GETTID) || (number == SET_TID_ADDRESS) then getpid_call c own m
-    else if number == GETPPID then getppid_call c own m
-    else if number == SET_ROBUST_LIST then set_robust_list_call c own m
-    else if number == UNAME then uname_call c own m
-    else if is_zero_call number then done_effect c own m 0
-    else if is_missing_call number then refused_effect c own m NoSys
-    else signal_call number c own m
+unfoldable pub identity_call : ℕ → Shared → ℕ → Machine → Effect
+identity_call number c p m =
+    if (number == GETPID) || (number == GETTID) || (number == SET_TID_ADDRESS) then getpid_call c p m
+    else if number == GETPPID then getppid_call c p m
+    else if number == SET_ROBUST_LIST then set_robust_list_call c m
+    else if number == UNAME then uname_call c m
+    else if is_zero_call number then done_effect c m 0
+    else if is_missing_call number then refused_effect c m NoSys
+    else signal_call number c p m
 
 -- the calls on memory; any other is one of those above
-unfoldable pub memory_call : ℕ → Shared → Process → Machine → Effect
-memory_call number c own m =
-    if number == BRK then brk_call c own m
-    else if number == MUNMAP then munmap_call c own m
-    else if number == MMAP then mmap_call c own m
-    else if number == MPROTECT then mprotect_call c own m
-    else identity_call number c own m
+unfoldable pub memory_call : ℕ → Shared → ℕ → Machine → Effect
+memory_call number c p m =
+    if number == BRK then brk_call c p m
+    else if number == MUNMAP then munmap_call c m
+    else if number == MMAP then mmap_call c m
+    else if number == MPROTECT then mprotect_call c m
+    else identity_call number c p m
 
 -- what the call of a number does; it is handed the pid that a child gets
-unfoldable pub call_of : ℕ → Shared → ℕ → Process → Machine → Effect
-call_of number c next own m =
-    if (number == EXIT) || (number == EXIT_GROUP) then exit_call c own m
-    else if number == CLONE then clone_call c next own m
-    else if number == EXECVE then execve_call c own m
-    else if number == WAIT4 then wait4_call c own m
-    else memory_call number c own m
+unfoldable pub call_of : ℕ → Shared → ℕ → ℕ → Machine → Effect
+call_of number c next p m =
+    if (number == EXIT) || (number == EXIT_GROUP) then exit_call c p m
+    else if number == CLONE then clone_call c next p m
+    else if number == EXECVE then execve_call c p m
+    else if number == WAIT4 then wait4_call c p m
+    else memory_call number c p m
 
 -- a call is served by its number, and a counter is read; at the end of a slice the process goes on, and at a fault it stays
 -- for the delivery of the fault's signal
-unfoldable pub effect_of_stop : Shared → ℕ → Process → Machine → Stop → Effect
-effect_of_stop c next own m Call = call_of (register m A7) c next own m
-effect_of_stop c next own m (Counter rd) = counter_effect c own m rd
-effect_of_stop c next own m (Fault signal) = quiet_effect c own m Done
-effect_of_stop c next own m Slice = quiet_effect c own m Done
+unfoldable pub effect_of_stop : Shared → ℕ → ℕ → Machine → Stop → Effect
+effect_of_stop c next p m Call = call_of (register m A7) c next p m
+effect_of_stop c next p m (Counter rd) = counter_effect c m rd
+effect_of_stop c next p m (Fault signal) = quiet_effect c m Done
+effect_of_stop c next p m Slice = quiet_effect c m Done

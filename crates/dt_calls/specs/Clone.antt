@@ -14,9 +14,9 @@ use Rattle.dt_space.specs.declared.access.Miss.{Miss}
 use Rattle.dt_space.specs.Space.{PageView}
 use Rattle.dt_space.specs.Write.{pages_after_store}
 use Rattle.dt_tree.specs.Changes.{tree_after_hold}
-use Rattle.dt_calls.specs.declared.call.effect.Outcome.TheVariants.{Done, Unsupported}
-use Rattle.dt_calls.specs.declared.shared.Process.{Process}
-use Rattle.dt_calls.specs.Container.{Shared, signals_at}
+use Rattle.dt_calls.specs.declared.container.Served.TheVariants.{Child, Unsupported}
+use Rattle.dt_calls.specs.declared.task.Task.{Task}
+use Rattle.dt_calls.specs.Container.{Shared, task_at}
 use Rattle.dt_calls.specs.Effect.{Effect, quiet_effect, refused_effect}
 
 -- a process that is no thread of its parent, with SIGCHLD at its end, and of the other flags at most these three
@@ -49,28 +49,27 @@ child_machine m vpid =
 abbrev pub parent_machine : Machine → ℕ → Machine
 parent_machine m vpid = with_pid (has_flag (register m A0) CLONE_PARENT_SETTID) (register m A2) vpid (machine_after_answer m vpid)
 
--- the child's part: a copy of the parent's, under its own pid
-abbrev pub child_process : Process → ℕ → Process
-child_process own vpid = record own { caller = record own.caller { vpid = vpid } }
+-- the child's task: a copy of its parent's under its own pid, with no signal pending
+abbrev pub child_task : Task → ℕ → Task
+child_task t vpid = record t { caller = record t.caller { vpid = vpid }; signals = after_fork t.signals }
 
 -- what is shared once the child is there: it holds its working directory, and has its parent's descriptors, actions and mask
-abbrev pub with_child_of : Shared → Process → ℕ → Shared
-with_child_of c own vpid = record c {
-  tree = tree_after_hold c.tree own.caller.cwd;
-  files = with_shared_table own.caller.vpid vpid c.files;
-  members = with_child c.members vpid own.caller.vpid;
-  processes = insert c.processes vpid (child_process own vpid);
-  signals = insert c.signals vpid (after_fork (signals_at c own.caller.vpid));
+abbrev pub with_child_of : Shared → ℕ → ℕ → Shared
+with_child_of c p vpid = record c {
+  tree = tree_after_hold c.tree (task_at c p).caller.cwd;
+  files = with_shared_table p vpid c.files;
+  members = with_child c.members vpid p;
+  tasks = insert c.tasks vpid (child_task (task_at c p) vpid);
 }
 
 -- a child is made
-abbrev pub clone_effect : Shared → ℕ → Process → Machine → Effect
-clone_effect c next own m =
-    record (quiet_effect (with_child_of c own next) own (parent_machine m next) Done) { child = Some (child_machine m next) }
+abbrev pub clone_effect : Shared → ℕ → ℕ → Machine → Effect
+clone_effect c next p m =
+    record (quiet_effect (with_child_of c p next) (parent_machine m next) (Child next)) { child = Some (child_machine m next) }
 
 -- clone(2): EAGAIN where 64 processes and zombies are there
-unfoldable pub clone_call : Shared → ℕ → Process → Machine → Effect
-clone_call c next own m =
-    if not (is_supported (register m A0)) then quiet_effect c own m (Unsupported CLONE)
-    else if is_full c.members then refused_effect c own m Again
-    else clone_effect c next own m
+unfoldable pub clone_call : Shared → ℕ → ℕ → Machine → Effect
+clone_call c next p m =
+    if not (is_supported (register m A0)) then quiet_effect c m (Unsupported CLONE)
+    else if is_full c.members then refused_effect c m Again
+    else clone_effect c next p m

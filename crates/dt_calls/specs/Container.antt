@@ -1,4 +1,4 @@
--- A container: what its processes share, each process's part, and the machines at home.
+-- A container: what its processes share, the task of each, and the machines at home.
 use Rattle.std.specs.Prelude.{ℕ, ◌+◌, List, [], Option, Some, None, unwrap_or}
 use Rattle.std.specs.Ordering.{nat_cmp}
 use Rattle.std.specs.FinMap.{FinMap, empty, get, insert}
@@ -17,18 +17,14 @@ use Rattle.dt_tree.specs.FileTree.{FileTree}
 use Rattle.dt_tree.specs.Changes.{tree_after_hold}
 use Rattle.dt_virt.specs.Words.{SeededWords, words_of_seed}
 use Rattle.dt_calls.specs.declared.numbers.TheConstants.{FIRST_UMASK}
-use Rattle.dt_calls.specs.declared.shared.Process.{Process}
+use Rattle.dt_calls.specs.declared.task.Task.{Task}
 
--- the parts of live processes, by pid
-abbrev pub Processes : Type 0
-Processes = FinMap nat_cmp Process
+-- the tasks of live processes, by pid
+abbrev pub Tasks : Type 0
+Tasks = FinMap nat_cmp Task
 
--- the signal states of live processes, by pid
-abbrev pub Signals : Type 0
-Signals = FinMap nat_cmp Sig
-
--- all of a container but its machines: the file tree, the open files, the pipes, the logical time, the seed's words, the
--- processes as their kin see them, zombies included, and the part and the signal state of each that lives
+-- what the processes of a container share: the file tree, the open files, the pipes, the logical time, the seed's words, the
+-- processes as their kin see them, zombies included, and the task of each that lives
 pub record Shared : Type 0 where
   pub tree : FileTree
   pub files : Descriptions
@@ -36,8 +32,7 @@ pub record Shared : Type 0 where
   pub clock : ℕ
   pub rand : SeededWords
   pub members : List Member
-  pub processes : Processes
-  pub signals : Signals
+  pub tasks : Tasks
 
 -- machines by the pid of the process
 abbrev pub Machines : Type 0
@@ -50,40 +45,38 @@ pub record Container : Type 0 where
   pub next : ℕ
   pub events : List Event
 
--- a process that has no program yet: its working directory is the root, and it has no data
-abbrev pub blank_process : ℕ → Process
-blank_process vpid = record {
+-- a process that has no program yet: its working directory is the root, it has no data, and all signals have the default action
+abbrev pub blank_task : ℕ → Task
+blank_task vpid = record {
   caller = record { vpid = vpid; cwd = ROOT; umask = FIRST_UMASK; done = 0 };
   program_break = record { start = 0; end = 0 };
+  signals = no_signals;
 }
 
--- the part of a process that lives
-abbrev pub process_at : Shared → ℕ → Process
-process_at c p = unwrap_or (get c.processes p) (blank_process p)
+-- the task of a process that lives
+abbrev pub task_in : Tasks → ℕ → Task
+task_in tasks p = unwrap_or (get tasks p) (blank_task p)
 
--- with this as the part of its process
-abbrev pub with_process : Shared → Process → Shared
-with_process c own = record c { processes = insert c.processes own.caller.vpid own }
+-- the task of a process, of what is shared
+abbrev pub task_at : Shared → ℕ → Task
+task_at c p = task_in c.tasks p
 
--- the signal state of a process that lives
-abbrev pub signals_in : Signals → ℕ → Sig
-signals_in signals p = unwrap_or (get signals p) no_signals
+-- with this as the task of a process
+abbrev pub with_task : Shared → ℕ → Task → Shared
+with_task c p t = record c { tasks = insert c.tasks p t }
 
-abbrev pub signals_at : Shared → ℕ → Sig
-signals_at c p = signals_in c.signals p
+-- a task with this as its signal state
+abbrev pub with_signals : Task → Sig → Task
+with_signals t g = record t { signals = g }
 
--- with this as the signal state of a process
-abbrev pub with_signals : Shared → ℕ → Sig → Shared
-with_signals c p g = record c { signals = insert c.signals p g }
-
--- the signal states, where the process has one: with the signal pending in it
-abbrev pub signals_after_raise_in : ℕ → ℕ → Signals → Option Sig → Signals
-signals_after_raise_in p signal signals None = signals
-signals_after_raise_in p signal signals (Some g) = insert signals p (with_pending signal g)
+-- the tasks with the signal pending in that of the process, where it has one
+abbrev pub tasks_after_raise_in : ℕ → ℕ → Tasks → Option Task → Tasks
+tasks_after_raise_in p signal tasks None = tasks
+tasks_after_raise_in p signal tasks (Some t) = insert tasks p (with_signals t (with_pending signal t.signals))
 
 -- a signal is pending at a process, if that lives
-abbrev pub signals_after_raise : ℕ → ℕ → Signals → Signals
-signals_after_raise p signal signals = signals_after_raise_in p signal signals (get signals p)
+abbrev pub tasks_after_raise : ℕ → ℕ → Tasks → Tasks
+tasks_after_raise p signal tasks = tasks_after_raise_in p signal tasks (get tasks p)
 
 -- no pipes, none of which has been made
 abbrev pub no_pipes : PipesView
@@ -98,8 +91,7 @@ first_shared t seed = record {
   clock = 0;
   rand = words_of_seed seed;
   members = first_members;
-  processes = insert empty FIRST_PID (blank_process FIRST_PID);
-  signals = insert empty FIRST_PID no_signals;
+  tasks = insert empty FIRST_PID (blank_task FIRST_PID);
 }
 
 -- a container whose one process has no program yet

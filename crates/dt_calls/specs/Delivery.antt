@@ -1,19 +1,19 @@
 -- The end of a turn: a signal is delivered to the process whose stop was served (signal(7)).
-use Rattle.std.specs.Prelude.{ℕ, Option, None, Some}
+use Rattle.std.specs.Prelude.{ℕ, Bool, true, false, Option, None, Some, if◌then◌else◌}
 use Rattle.dt_base.specs.declared.event.End.TheVariants.{Signal}
-use Rattle.dt_rv64.specs.declared.machine.Machine.{Machine}
 use Rattle.dt_rv64.specs.declared.segments.Stop.{Stop}
 use Rattle.dt_rv64.specs.declared.segments.Stop.TheVariants.{Call, Counter, Slice, Fault}
+use Rattle.dt_signals.specs.declared.delivery.CallState.{CallState}
 use Rattle.dt_signals.specs.declared.delivery.CallState.TheVariants.{Plain, Waits}
 use Rattle.dt_signals.specs.declared.delivery.Delivery.{Delivery}
 use Rattle.dt_signals.specs.declared.delivery.Delivery.TheVariants as delivery
-use Rattle.dt_signals.specs.declared.signals.Sig.{Sig}
 use Rattle.dt_signals.specs.Delivery.{DeliveryResult, delivery_of}
-use Rattle.dt_calls.specs.declared.call.effect.Outcome.{Outcome}
-use Rattle.dt_calls.specs.declared.call.effect.Outcome.TheVariants.{Done, Blocked, Progress, Ends, Unsupported}
-use Rattle.dt_calls.specs.declared.shared.Process.{Process}
-use Rattle.dt_calls.specs.Container.{signals_at, with_signals}
+use Rattle.dt_calls.specs.declared.container.Served.{Served}
+use Rattle.dt_calls.specs.declared.container.Served.TheVariants.{Done, Child, LastChild, Blocked, Progress, Ended, Unsupported}
+use Rattle.dt_calls.specs.declared.task.Task.{Task}
+use Rattle.dt_calls.specs.Container.{task_at, with_task, with_signals}
 use Rattle.dt_calls.specs.Effect.{Effect}
+use Rattle.dt_calls.specs.Ends.{with_end}
 
 -- the signal that a stop forces: a fault's
 abbrev pub forced_signal : Stop → Option ℕ
@@ -22,55 +22,56 @@ forced_signal (Counter rd) = None
 forced_signal Slice = None
 forced_signal (Fault signal) = Some signal
 
--- a process whose stop was served, as delivery sees and leaves it
-pub record Standing : Type 0 where
-  pub signals : Sig
-  pub own : Process
-  pub machine : Machine
-  pub outcome : Outcome
+-- a signal may be delivered: the process has not ended, and does not stay at a call that isn't supported
+abbrev pub takes_signals : Served → Bool
+takes_signals Done = true
+takes_signals (Child v) = true
+takes_signals (LastChild v) = false
+takes_signals Blocked = true
+takes_signals Progress = true
+takes_signals Ended = false
+takes_signals (Unsupported number) = false
 
-abbrev pub standing : Sig → Process → Machine → Outcome → Standing
-standing g own m outcome = record { signals = g; own = own; machine = m; outcome = outcome }
+-- a process's call, as delivery sees it: one that waits or goes on has moved so many bytes
+abbrev pub call_state : Task → Served → CallState
+call_state t Done = Plain
+call_state t (Child v) = Plain
+call_state t (LastChild v) = Plain
+call_state t Blocked = Waits t.caller.done
+call_state t Progress = Waits t.caller.done
+call_state t Ended = Plain
+call_state t (Unsupported number) = Plain
 
--- with no bytes moved by a call that goes on
-abbrev pub with_none_done : Process → Process
-with_none_done own = record own { caller = record own.caller { done = 0 } }
+-- a task after a delivery: where a handler is to be run, no call goes on, and the count of its bytes is 0
+abbrev pub task_after_delivery : Delivery → Task → Task
+task_after_delivery delivery.Nothing t = t
+task_after_delivery delivery.Handler t = record t { caller = record t.caller { done = 0 } }
+task_after_delivery (delivery.Ends signal) t = t
+
+-- what became of a process whose handler is to be run: a call that waited is over
+abbrev pub served_at_handler : Served → Served
+served_at_handler Done = Done
+served_at_handler (Child v) = Child v
+served_at_handler (LastChild v) = LastChild v
+served_at_handler Blocked = Done
+served_at_handler Progress = Done
+served_at_handler Ended = Ended
+served_at_handler (Unsupported number) = Unsupported number
 
 -- after a delivery: a handler is there to be run, also where a call waited; or the process ends by the signal
-abbrev pub with_delivery : Standing → Sig → Machine → Delivery → Standing
-with_delivery s g m delivery.Nothing = record s { signals = g; machine = m }
-with_delivery s g m delivery.Handler = record { signals = g; own = with_none_done s.own; machine = m; outcome = Done }
-with_delivery s g m (delivery.Ends signal) = record s { signals = g; machine = m; outcome = Ends (Signal signal) }
+abbrev pub with_delivery : ℕ → Effect → Delivery → Effect
+with_delivery p r delivery.Nothing = r
+with_delivery p r delivery.Handler = record r { served = served_at_handler r.served }
+with_delivery p r (delivery.Ends signal) = with_end p (Signal signal) r
 
--- the same, with the signal state and the machine that delivery leaves
-abbrev pub with_delivered : Standing → DeliveryResult → Standing
-with_delivered s d = with_delivery s d.signals d.machine d.delivery
+-- the same, with the task and the machine that delivery leaves
+abbrev pub with_delivered : ℕ → Effect → DeliveryResult → Effect
+with_delivered p r d =
+    let t = task_after_delivery d.delivery (with_signals (task_at r.shared p) d.signals) in
+    with_delivery p (record r { shared = with_task r.shared p t; machine = d.machine }) d.delivery
 
--- delivery by what became of the process: nothing is delivered where it has ended or stays at a call that isn't supported
-abbrev pub standing_by_outcome : Option ℕ → Standing → Outcome → Standing
-standing_by_outcome forced s Done = with_delivered s (delivery_of forced Plain s.signals s.machine)
-standing_by_outcome forced s Blocked = with_delivered s (delivery_of forced (Waits s.own.caller.done) s.signals s.machine)
-standing_by_outcome forced s Progress = with_delivered s (delivery_of forced (Waits s.own.caller.done) s.signals s.machine)
-standing_by_outcome forced s (Ends end) = s
-standing_by_outcome forced s (Unsupported number) = s
-
--- the process after delivery
-unfoldable pub standing_after_delivery : Option ℕ → Standing → Standing
-standing_after_delivery forced s = standing_by_outcome forced s s.outcome
-
--- what serving a stop did, with a process that stands so
-abbrev pub with_standing : Effect → Standing → Effect
-with_standing r s = record r {
-  shared = with_signals r.shared r.own.caller.vpid s.signals;
-  own = s.own;
-  machine = s.machine;
-  outcome = s.outcome;
-}
-
--- the process whose stop was served
-abbrev pub standing_of : Effect → Standing
-standing_of r = standing (signals_at r.shared r.own.caller.vpid) r.own r.machine r.outcome
-
--- a signal is delivered after a stop was served: that of a fault, or a pending one
-unfoldable pub effect_after_delivery : Option ℕ → Effect → Effect
-effect_after_delivery forced r = with_standing r (standing_after_delivery forced (standing_of r))
+-- a signal is delivered after a stop of a process was served: that of a fault, or a pending one
+unfoldable pub effect_after_delivery : Option ℕ → ℕ → Effect → Effect
+effect_after_delivery forced p r =
+    let t = task_at r.shared p in
+    if takes_signals r.served then with_delivered p r (delivery_of forced (call_state t r.served) t.signals r.machine) else r

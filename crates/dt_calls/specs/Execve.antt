@@ -9,33 +9,36 @@ use Rattle.dt_rv64.specs.declared.machine.Machine.{Machine}
 use Rattle.dt_rv64.specs.Effects.{register}
 use Rattle.dt_signals.specs.Signals.{after_exec}
 use Rattle.dt_virt.specs.Words.{start_bytes}
-use Rattle.dt_calls.specs.declared.call.effect.Outcome.TheVariants.{Done}
-use Rattle.dt_calls.specs.declared.shared.Process.{Process}
-use Rattle.dt_calls.specs.Container.{Shared, signals_at, with_signals}
+use Rattle.dt_calls.specs.declared.container.Served.TheVariants.{Done}
+use Rattle.dt_calls.specs.declared.task.Task.{Task}
+use Rattle.dt_calls.specs.Container.{Shared, task_at, with_task}
 use Rattle.dt_calls.specs.Effect.{Effect, quiet_effect, refused_effect}
 
 -- with these open files, their pipes, and the tree whose nodes they hold
 abbrev pub shared_with_holding : Shared → Holding → Shared
 shared_with_holding c h = record c { tree = h.tree; files = h.files; pipes = h.pipes }
 
--- the process's part: its break is where the program's starts
-abbrev pub with_program : Process → Program → Process
-with_program own program =
-    record own { program_break = record { start = program.break_start; end = program.break_start } }
+-- a task whose break starts at this address, and is empty
+abbrev pub task_after_start : ℕ → Task → Task
+task_after_start break_start t = record t { program_break = record { start = break_start; end = break_start } }
 
--- what is shared once another program was taken up: what is marked close-on-exec is closed, and handlers are gone
-abbrev pub with_exec : Shared → ℕ → Shared
-with_exec c p =
-    with_signals (shared_with_holding c (without_cloexec p (holding_of c.tree c.pipes c.files))) p (after_exec (signals_at c p))
+-- a task that goes on as another program: its break starts there, and handlers are gone
+abbrev pub task_after_exec : ℕ → Task → Task
+task_after_exec break_start t = record (task_after_start break_start t) { signals = after_exec t.signals }
+
+-- what is shared once a process has taken up another program: what is marked close-on-exec is closed, and its task goes on as
+-- that program
+abbrev pub with_exec : Shared → ℕ → ℕ → Shared
+with_exec c p break_start =
+    with_task (shared_with_holding c (without_cloexec p (holding_of c.tree c.pipes c.files))) p (task_after_exec break_start (task_at c p))
 
 -- a program that can be started takes the place of the one that called: pid, working directory and umask stay
-abbrev pub effect_of_program : Shared → Process → Machine → Result Program Errno → Effect
-effect_of_program c own m (Err errno) = refused_effect c own m errno
-effect_of_program c own m (Ok program) =
-    quiet_effect (with_exec c own.caller.vpid) (with_program own program) program.machine Done
+abbrev pub effect_of_program : Shared → ℕ → Machine → Result Program Errno → Effect
+effect_of_program c p m (Err errno) = refused_effect c m errno
+effect_of_program c p m (Ok program) = quiet_effect (with_exec c p program.break_start) program.machine Done
 
 -- the program of a path takes the place of the one that called, with the words it is handed (execve(2))
-unfoldable pub execve_call : Shared → Process → Machine → Effect
-execve_call c own m =
-    effect_of_program c own m (execve_program c.tree.shape own.caller.cwd m.space
+unfoldable pub execve_call : Shared → ℕ → Machine → Effect
+execve_call c p m =
+    effect_of_program c p m (execve_program c.tree.shape (task_at c p).caller.cwd m.space
     (register m A0) (register m A1) (register m A2) (start_bytes c.rand))

@@ -8,11 +8,12 @@ use Rattle.dt_fcalls.specs.Calls.{file_row}
 use Rattle.dt_iocalls.specs.Calls.{is_io, io_row}
 use Rattle.dt_namecalls.specs.Calls.{is_naming, name_row}
 use Rattle.dt_timecalls.specs.Calls.{is_time_call, time_row}
-use Rattle.dt_calls.specs.declared.shared.Process.{Process}
-use Rattle.dt_calls.specs.Container.{Shared, Signals, signals_after_raise}
+use Rattle.dt_signals.specs.declared.signals.Sig.{Sig}
+use Rattle.dt_signals.specs.Signals.{with_pending}
+use Rattle.dt_calls.specs.declared.task.Task.{Task}
+use Rattle.dt_calls.specs.Container.{Shared, task_at, with_task}
 use Rattle.dt_base.specs.declared.answer.Answer.{Answer}
 use Rattle.dt_base.specs.declared.answer.Answer.TheVariants.{Value, Refused, Output, Waits, Part, Pipe, Unsupported}
-use Rattle.dt_base.specs.declared.caller.Caller.{Caller}
 use Rattle.dt_calls.specs.Effect.{Effect, effect_of_answer}
 
 -- the arguments of a call: a0 to a5 (syscall(2))
@@ -21,14 +22,14 @@ arguments m =
     register m A0 ∷ register m A1 ∷ register m A2 ∷ register m A3 ∷ register m A4 ∷ register m A5 ∷ []
 
 -- what such a call sees
-abbrev pub scene_of : Shared → Process → Machine → Scene
-scene_of c own m = record {
+abbrev pub scene_of : Shared → ℕ → Machine → Scene
+scene_of c p m = record {
   tree = c.tree;
   files = c.files;
   pipes = c.pipes;
   clock = c.clock;
   rand = c.rand;
-  caller = own.caller;
+  caller = (task_at c p).caller;
   space = m.space;
 }
 
@@ -54,30 +55,32 @@ done_after count (Part moved) = moved
 done_after count (Pipe value) = 0
 done_after count Unsupported = 0
 
--- the process that made a call, after its answer
-abbrev pub caller_after : Caller → Answer → Caller
-caller_after caller answer = record caller { done = done_after caller.done answer }
+-- a signal state after the answer of a call: SIGPIPE is pending after a write to a pipe that nobody reads
+abbrev pub signals_after : Answer → Sig → Sig
+signals_after (Value value) g = g
+signals_after (Refused errno) g = g
+signals_after (Output stream bytes) g = g
+signals_after Waits g = g
+signals_after (Part moved) g = g
+signals_after (Pipe value) g = with_pending SIGPIPE g
+signals_after Unsupported g = g
 
--- the signal states after the answer of a call of a process: SIGPIPE is pending there after a write to a pipe that nobody reads
-abbrev pub signals_after : ℕ → Answer → Signals → Signals
-signals_after p (Value value) signals = signals
-signals_after p (Refused errno) signals = signals
-signals_after p (Output stream bytes) signals = signals
-signals_after p Waits signals = signals
-signals_after p (Part moved) signals = signals
-signals_after p (Pipe value) signals = signals_after_raise p SIGPIPE signals
-signals_after p Unsupported signals = signals
+-- the task of the process that made a call, after its answer
+abbrev pub task_after_answer : Answer → Task → Task
+task_after_answer answer t = record t {
+  caller = record t.caller { done = done_after t.caller.done answer };
+  signals = signals_after answer t.signals;
+}
 
--- what is shared after the answer of a call of a process
-abbrev pub shared_after_answer : Shared → ℕ → Answer → Shared
-shared_after_answer c p answer = record c { signals = signals_after p answer c.signals }
+-- the task of the process that made a call, as the call's row leaves it
+abbrev pub task_after_row : Task → Reply → Task
+task_after_row t r = task_after_answer r.answer (record t { caller = r.next.caller })
 
 -- the call of a number leaves this, and gives its answer
-abbrev pub effect_of_row : Shared → Process → Machine → ℕ → Reply → Effect
-effect_of_row c own m number r =
-    effect_of_answer (shared_after_answer (with_scene c r.next) own.caller.vpid r.answer) (record own { caller = caller_after r.next.caller r.answer })
-    (record m { space = r.next.space }) number r.answer
+abbrev pub effect_of_row : Shared → ℕ → Machine → ℕ → Reply → Effect
+effect_of_row c p m number r =
+    effect_of_answer (with_task (with_scene c r.next) p (task_after_row (task_at c p) r)) (record m { space = r.next.space }) number r.answer
 
 -- the call of a number, served by its row
-unfoldable pub file_call : ℕ → Shared → Process → Machine → Effect
-file_call number c own m = effect_of_row c own m number (row_of number (arguments m) (scene_of c own m))
+unfoldable pub file_call : ℕ → Shared → ℕ → Machine → Effect
+file_call number c p m = effect_of_row c p m number (row_of number (arguments m) (scene_of c p m))

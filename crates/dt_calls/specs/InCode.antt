@@ -1,27 +1,29 @@
 -- What the code has in hand, as the definitions see it with what its host keeps.
-use Rattle.std.specs.Prelude.{◌≡◌, ℕ, List, [], ◌∷◌, Option, None, Some, IsSome}
+use Rattle.std.specs.Prelude.{◌≡◌, ℕ, Bool, if◌then◌else◌, List, [], ◌∷◌, Option, None, Some, IsSome}
 use Rattle.std.specs.Ordering.{nat_cmp}
-use Rattle.std.specs.FinMap.{FinMap, empty, entries, get, insert}
+use Rattle.std.specs.FinMap.{FinMap, empty, entries, get, insert, remove}
 use Rattle.dt_base.specs.declared.answer.Answer.{Answer}
 use Rattle.dt_base.specs.declared.event.Event.{Event}
 use Rattle.dt_rv64.specs.declared.machine.Machine.{Machine}
 use Rattle.dt_fds.specs.OpenFiles.{pipes_at}
 use Rattle.dt_host.specs.World.{World}
+use Rattle.dt_mcalls.specs.Brk.{BrkResult}
 use Rattle.dt_procs.specs.Table.{members_of}
 use Rattle.dt_sigcalls.specs.Called.{SignalCallResult}
+use Rattle.dt_signals.specs.declared.delivery.Delivery.{Delivery}
+use Rattle.dt_signals.specs.Delivery.{DeliveryResult}
 use Rattle.dt_tree.specs.Table.{tree_of}
 use Rattle.dt_calls.specs.declared.call.effect.Effect.{Effect as EffectInCode}
-use Rattle.dt_calls.specs.declared.call.effect.Outcome.{Outcome}
 use Rattle.dt_calls.specs.declared.container.Launch.{Launch}
 use Rattle.dt_calls.specs.declared.container.Served.{Served}
-use Rattle.dt_calls.specs.declared.shared.Process.{Process}
 use Rattle.dt_calls.specs.declared.shared.Shared.{Shared as SharedInCode}
-use Rattle.dt_calls.specs.Container.{Shared, Container, Machines, Signals}
+use Rattle.dt_calls.specs.Container.{Shared, Container, Machines, Tasks, task_in, with_signals}
 use Rattle.dt_calls.specs.Effect.{Effect}
-use Rattle.dt_calls.specs.Delivery.{Standing}
+use Rattle.dt_calls.specs.Delivery.{task_after_delivery}
+use Rattle.dt_calls.specs.Ends.{has_ended}
 use Rattle.dt_calls.specs.SignalCalls.{AfterSigreturn}
 use Rattle.dt_calls.specs.Launch.{ContainerLaunch}
-use Rattle.dt_calls.specs.Settle.{ContainerTurn, with_own}
+use Rattle.dt_calls.specs.Settle.{ContainerTurn, is_end_of_all, with_own}
 
 -- a container in code: its tables of inodes, pipes and pids stand for a tree, for pipes and for processes where what the host keeps is known;
 -- each live process has a place for its machine, which is empty where the machine is away
@@ -39,8 +41,7 @@ shared_of c w = record {
   clock = c.fs.clock;
   rand = c.fs.rand;
   members = members_of c.pids;
-  processes = c.processes;
-  signals = c.signals;
+  tasks = c.tasks;
 }
 
 -- the machines in these places
@@ -57,6 +58,12 @@ abbrev pub with_child_place : FinMap nat_cmp (Option Machine) → ℕ → Option
 with_child_place places next None = places
 with_child_place places next (Some m) = insert places next (Some m)
 
+-- the places after a turn of p: its own goes where it has ended, and a child gets one; at the end of all none are left
+abbrev pub places_after_turn : FinMap nat_cmp (Option Machine) → ℕ → ℕ → Served → Option Machine → FinMap nat_cmp (Option Machine)
+places_after_turn places next p served child =
+    if is_end_of_all p served then empty
+    else with_child_place (if has_ended served then remove places p else places) next child
+
 -- what a run sees of a container
 abbrev pub container_of : ContainerView → World → Container
 container_of c w = record {
@@ -68,31 +75,36 @@ container_of c w = record {
 
 -- a process lives, and has a place for its machine
 pub record Lives (c : ContainerView) (p : ℕ) : Type 0 where
-  pub part : IsSome (get c.shared.processes p)
+  pub task : IsSome (get c.shared.tasks p)
   pub place : IsSome (get c.places p)
 
 -- what serving a stop did
-abbrev pub effect_as : Shared → Process → Machine → EffectInCode → Effect
-effect_as c own m r = record { shared = c; own = own; machine = m; child = r.child; events = r.events.items; outcome = r.outcome }
+abbrev pub effect_as : Shared → Machine → EffectInCode → Effect
+effect_as c m r = record { shared = c; machine = m; child = r.child; events = r.events.items; served = r.served }
 
 -- a call left the signal state of a process and its machine so, and gave its answer
-pub record CalledAt (r : SignalCallResult) (p : ℕ) (before after : Signals) (old new : Machine) (given : Answer) : Type 0 where
-  pub signals : after ≡ insert before p r.signals
+pub record CalledAt (r : SignalCallResult) (p : ℕ) (before after : Tasks) (old new : Machine) (given : Answer) : Type 0 where
+  pub tasks : after ≡ insert before p (with_signals (task_in before p) r.signals)
   pub machine : new ≡ record old { space = r.pages }
   pub answer : given ≡ r.answer
 
--- likewise a return from a handler, and what becomes of the process
-pub record SigreturnAt (b : AfterSigreturn) (p : ℕ) (before after : Signals) (new : Machine) (became : Outcome) : Type 0 where
-  pub signals : after ≡ insert before p b.signals
-  pub machine : new ≡ b.machine
-  pub outcome : became ≡ b.outcome
+-- a move of the break left the task of a process and its machine so, and answers where the break is
+pub record BreakAt (r : BrkResult) (p : ℕ) (before after : Tasks) (old new : Machine) (answer : ℕ) : Type 0 where
+  pub tasks : after ≡ insert before p (record (task_in before p) { program_break = r.program_break })
+  pub machine : new ≡ record old { space = r.pages }
+  pub told : answer ≡ r.program_break.end
 
--- a process after a delivery
-pub record DeliveredAt (after : Standing) (p : ℕ) (before now : Signals) (part : Process) (new : Machine) (became : Outcome) : Type 0 where
-  pub signals : now ≡ insert before p after.signals
-  pub own : part ≡ after.own
-  pub machine : new ≡ after.machine
-  pub outcome : became ≡ after.outcome
+-- likewise a return from a handler, which says whether the frame could be read
+pub record SigreturnAt (b : AfterSigreturn) (p : ℕ) (before after : Tasks) (new : Machine) (was_read : Bool) : Type 0 where
+  pub tasks : after ≡ insert before p (with_signals (task_in before p) b.signals)
+  pub machine : new ≡ b.machine
+  pub is_read : was_read ≡ b.is_read
+
+-- likewise a delivery, which says what it came to
+pub record DeliveredAt (d : DeliveryResult) (p : ℕ) (before after : Tasks) (new : Machine) (came : Delivery) : Type 0 where
+  pub tasks : after ≡ insert before p (task_after_delivery d.delivery (with_signals (task_in before p) d.signals))
+  pub machine : new ≡ d.machine
+  pub delivery : came ≡ d.delivery
 
 -- what launching came to
 abbrev pub container_launch_as : Container → Launch → ContainerLaunch

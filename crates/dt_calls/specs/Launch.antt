@@ -9,8 +9,8 @@ use Rattle.dt_procs.specs.declared.member.TheConstants.{FIRST_PID}
 use Rattle.dt_virt.specs.Words.{start_bytes}
 use Rattle.dt_calls.specs.declared.container.Launch.{Launch}
 use Rattle.dt_calls.specs.declared.container.Launch.TheVariants.{Started, NoStart}
-use Rattle.dt_calls.specs.Container.{Container, process_at, with_process}
-use Rattle.dt_calls.specs.Execve.{with_program}
+use Rattle.dt_calls.specs.Container.{Container, task_at, with_task}
+use Rattle.dt_calls.specs.Execve.{task_after_start}
 
 -- the container after a launch, and what it came to
 pub record ContainerLaunch : Type 0 where
@@ -22,7 +22,7 @@ abbrev pub launch_of_program : Container → Result Program Errno → ContainerL
 launch_of_program c (Err errno) = record { container = c; launch = NoStart errno }
 launch_of_program c (Ok program) = record {
   container = record c {
-    shared = with_process c.shared (with_program (process_at c.shared FIRST_PID) program);
+    shared = with_task c.shared FIRST_PID (task_after_start program.break_start (task_at c.shared FIRST_PID));
     machines = insert c.machines FIRST_PID program.machine;
   };
   launch = Started;

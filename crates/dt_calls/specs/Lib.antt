@@ -6,6 +6,7 @@ pub mod Identity
 pub mod Clone
 pub mod Execve
 pub mod Wait
+pub mod Ends
 pub mod Kill
 pub mod SignalCalls
 pub mod Call

@@ -14,9 +14,8 @@ use Rattle.dt_rv64.specs.Effects.{register}
 use Rattle.dt_space.specs.Argument.{is_writable_or_null, with_bytes_unless_null}
 use Rattle.dt_callbase.specs.Arguments.{has_only}
 use Rattle.dt_base.specs.Abi.{has_flag}
-use Rattle.dt_calls.specs.declared.call.effect.Outcome.TheVariants.{Blocked, Unsupported}
+use Rattle.dt_calls.specs.declared.container.Served.TheVariants.{Blocked, Unsupported}
 use Rattle.dt_calls.specs.declared.numbers.TheConstants.{RUSAGE_SIZE}
-use Rattle.dt_calls.specs.declared.shared.Process.{Process}
 use Rattle.dt_calls.specs.Container.{Shared}
 use Rattle.dt_calls.specs.Effect.{Effect, quiet_effect, done_effect, refused_effect}
 
@@ -42,22 +41,22 @@ abbrev pub usage_bytes : List ℕ
 usage_bytes = replicate RUSAGE_SIZE 0
 
 -- a zombie is reaped, and its pid is the answer; EFAULT where its status or the use of resources can't be written
-abbrev pub reap_effect : Shared → Process → Machine → ℕ → ℕ → ℕ → End → Effect
-reap_effect c own m status usage vpid end =
+abbrev pub reap_effect : Shared → Machine → ℕ → ℕ → ℕ → End → Effect
+reap_effect c m status usage vpid end =
     if is_writable_or_null m.space status 4 && is_writable_or_null m.space usage RUSAGE_SIZE
-    then done_effect (record c { members = without_member c.members vpid }) own
+    then done_effect (record c { members = without_member c.members vpid })
     (record m { space = with_bytes_unless_null (with_bytes_unless_null m.space status (status_bytes end)) usage usage_bytes }) vpid
-    else refused_effect c own m BadAddress
+    else refused_effect c m BadAddress
 
 -- by what there is: with WNOHANG the answer is 0 where no child has ended, and else the process waits
-abbrev pub effect_of_reaped : Shared → Process → Machine → Reaped → Effect
-effect_of_reaped c own m (Got vpid end) = reap_effect c own m (register m A1) (register m A3) vpid end
-effect_of_reaped c own m NoneReady = if has_flag (low_word (register m A2)) WNOHANG then done_effect c own m 0 else quiet_effect c own m Blocked
-effect_of_reaped c own m NoChild = refused_effect c own m Child
+abbrev pub effect_of_reaped : Shared → Machine → Reaped → Effect
+effect_of_reaped c m (Got vpid end) = reap_effect c m (register m A1) (register m A3) vpid end
+effect_of_reaped c m NoneReady = if has_flag (low_word (register m A2)) WNOHANG then done_effect c m 0 else quiet_effect c m Blocked
+effect_of_reaped c m NoChild = refused_effect c m Child
 
 -- reaps a child that has ended, or waits for one; for a group of processes it isn't supported (wait4(2))
-unfoldable pub wait4_call : Shared → Process → Machine → Effect
-wait4_call c own m =
-    if is_group (low_word (register m A0)) then quiet_effect c own m (Unsupported WAIT4)
-    else if not (has_only (low_word (register m A2)) WAIT_OPTIONS) then refused_effect c own m Inval
-    else effect_of_reaped c own m (look_for c.members own.caller.vpid (which_child (low_word (register m A0))))
+unfoldable pub wait4_call : Shared → ℕ → Machine → Effect
+wait4_call c p m =
+    if is_group (low_word (register m A0)) then quiet_effect c m (Unsupported WAIT4)
+    else if not (has_only (low_word (register m A2)) WAIT_OPTIONS) then refused_effect c m Inval
+    else effect_of_reaped c m (look_for c.members p (which_child (low_word (register m A0))))

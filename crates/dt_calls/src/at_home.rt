@@ -5,10 +5,10 @@ ghost use Rattle.dt_rv64.specs.Segment.{segment_of};
 ghost use Rattle.dt_calls.specs.Settle.{effect_of_turn};
 ghost use Rattle.dt_calls.specs.InCode.{machines_at_home, shared_of};
 ghost use Rattle.dt_calls.specs.AtHome.{RunsAt, HasEffectAt};
-ghost use Rattle.dt_calls.specs.Sound.{IsSoundHand, HasEffect, hand};
+ghost use Rattle.dt_calls.specs.Sound.{IsSound, HasEffect, left};
 
 use crate::call::{Effect, serve_and_deliver};
-use crate::shared::{Process, Shared};
+use crate::shared::Shared;
 use dt_base::NoMemory;
 use dt_host::{Host, HostErr};
 use dt_rv64::{Machine, Seg, Stop, segment};
@@ -32,20 +32,20 @@ pub(crate) fn serve_at<H: Host>(
     alloc: Global,
     host: &mut H,
     shared: &mut Shared,
-    own: &mut Process,
     places: &mut Numbered<Option<Machine>>,
     vpid: u32,
     stop: Stop,
 ) -> Result<Effect, HostErr>
-    requires sound { IsSoundHand (hand shared.old own.old (H.view host.old)) }
+    requires sound { IsSound shared.old (H.view host.old) }
+    requires lives { IsSome (get shared.old.tasks vpid) }
     requires home { IsSome (get (machines_at_home places.old) vpid) }
     ensures { HasEffectAt
-        (λ m. effect_of_turn (shared_of shared.old (H.view host.old)) shared.old.pids.next own.old m stop)
-        (hand shared.old own.old (H.view host.old)) (hand shared.new own.new (H.view host.new))
+        (λ m. effect_of_turn (shared_of shared.old (H.view host.old)) shared.old.pids.next vpid m stop)
+        shared.old shared.new (H.view host.new)
         places.old places.new vpid result (H.count host.old) (H.count host.new) }
 {
     match places.get_mut(u64::from(vpid)) {
-        Some(place) => serve_in(alloc, host, shared, own, place, stop),
+        Some(place) => serve_in(alloc, host, shared, vpid, place, stop),
         None => unreachable!(),
     }
 }
@@ -69,20 +69,21 @@ fn serve_in<H: Host>(
     alloc: Global,
     host: &mut H,
     shared: &mut Shared,
-    own: &mut Process,
+    vpid: u32,
     place: &mut Option<Machine>,
     stop: Stop,
 ) -> Result<Effect, HostErr>
-    requires sound { IsSoundHand (hand shared.old own.old (H.view host.old)) }
+    requires sound { IsSound shared.old (H.view host.old) }
+    requires lives { IsSome (get shared.old.tasks vpid) }
     requires some { IsSome place.old }
     ensures stays { IsSome place.new }
-    ensures served { IfSome place.old (λ was. IfSome place.new (λ now. HasEffect
-        (effect_of_turn (shared_of shared.old (H.view host.old)) shared.old.pids.next own.old was stop)
-        (hand shared.old own.old (H.view host.old)) (hand shared.new own.new (H.view host.new)) now result
+    ensures served { IfSome place.old (λ was. IfSome place.new (λ now. HasEffect vpid
+        (effect_of_turn (shared_of shared.old (H.view host.old)) shared.old.pids.next vpid was stop)
+        shared.old (left shared.new (H.view host.new) now) result
         (H.count host.old) (H.count host.new))) }
 {
     match place {
-        Some(machine) => serve_and_deliver(alloc, host, shared, own, machine, stop),
+        Some(machine) => serve_and_deliver(alloc, host, shared, vpid, machine, stop),
         None => unreachable!(),
     }
 }

@@ -1,10 +1,11 @@
 // The system calls, by their numbers.
-ghost use Rattle.std.specs.Prelude.{◌≡◌};
+ghost use Rattle.std.specs.Prelude.{IsSome};
+ghost use Rattle.std.specs.FinMap.{get};
 ghost use Rattle.dt_rv64.specs.Effects.{register};
 ghost use Rattle.dt_calls.specs.Call.{effect_of_stop, call_of, memory_call, identity_call, signal_call};
 ghost use Rattle.dt_calls.specs.Settle.{effect_of_turn};
 ghost use Rattle.dt_calls.specs.InCode.{shared_of};
-ghost use Rattle.dt_calls.specs.Sound.{IsSoundHand, HasEffect, hand};
+ghost use Rattle.dt_calls.specs.Sound.{IsSound, HasEffect, left};
 
 mod clone;
 mod effect;
@@ -17,18 +18,20 @@ mod memory;
 mod signals;
 mod wait;
 
+use crate::container::Served;
 use crate::delivery::{deliver_at, forced_signal};
-use crate::shared::{Process, Shared};
-use dt_base::Errno;
+use crate::shared::Shared;
 use dt_base::abi::{
     A7, BRK, CLONE, EXECVE, EXIT, EXIT_GROUP, GETEGID, GETEUID, GETGID, GETPID, GETPPID, GETTID,
     GETUID, KILL, MADVISE, MMAP, MPROTECT, MREMAP, MUNMAP, PRLIMIT64, RSEQ, RT_SIGACTION,
     RT_SIGPROCMASK, RT_SIGRETURN, SCHED_YIELD, SET_ROBUST_LIST, SET_TID_ADDRESS, STATX, TGKILL,
     TKILL, UNAME, WAIT4,
 };
+use dt_base::{End, Errno};
 use dt_host::{Host, HostErr};
 use dt_rv64::{Machine, Stop};
-pub use effect::{Effect, Outcome};
+use dt_signals::Delivery;
+pub use effect::Effect;
 use std::alloc::Global;
 
 /// Serves a stop, and delivers a signal to the process where there is one: that of a fault, or a pending one.
@@ -36,26 +39,33 @@ pub fn serve_and_deliver<H: Host>(
     alloc: Global,
     host: &mut H,
     shared: &mut Shared,
-    own: &mut Process,
+    vpid: u32,
     machine: &mut Machine,
     stop: Stop,
 ) -> Result<Effect, HostErr>
-    requires { IsSoundHand (hand shared.old own.old (H.view host.old)) }
-    ensures { HasEffect
-        (effect_of_turn (shared_of shared.old (H.view host.old)) shared.old.pids.next own.old machine.old stop)
-        (hand shared.old own.old (H.view host.old)) (hand shared.new own.new (H.view host.new)) machine.new result
+    requires sound { IsSound shared.old (H.view host.old) }
+    requires lives { IsSome (get shared.old.tasks vpid) }
+    ensures { HasEffect vpid
+        (effect_of_turn (shared_of shared.old (H.view host.old)) shared.old.pids.next vpid machine.old stop)
+        shared.old (left shared.new (H.view host.new) machine.new) result
         (H.count host.old) (H.count host.new) }
 {
-    let mut effect = serve_stop(alloc, host, shared, own, machine, stop)?;
+    let mut effect = serve_stop(alloc, host, shared, vpid, machine, stop)?;
+    if !effect.served.takes_signals() {
+        return Ok(effect);
+    }
     let forced = forced_signal(stop);
-    deliver_at(
-        &mut shared.signals,
-        own,
-        machine,
-        forced,
-        &mut effect.outcome,
-    );
-    Ok(effect)
+    match deliver_at(&mut shared.tasks, vpid, machine, forced, effect.served) {
+        Delivery::Nothing => Ok(effect),
+        Delivery::Handler => {
+            effect.served = effect.served.at_handler();
+            Ok(effect)
+        }
+        Delivery::Ends(signal) => {
+            effect.end(host, shared, vpid, End::Signal(signal))?;
+            Ok(effect)
+        }
+    }
 }
 
 // Serves a stop: a call by its number, a counter by the logical time, a fault and the end of a slice by nothing.
@@ -64,21 +74,22 @@ fn serve_stop<H: Host>(
     alloc: Global,
     host: &mut H,
     shared: &mut Shared,
-    own: &mut Process,
+    vpid: u32,
     machine: &mut Machine,
     stop: Stop,
 ) -> Result<Effect, HostErr>
-    requires { IsSoundHand (hand shared.old own.old (H.view host.old)) }
-    ensures { HasEffect (effect_of_stop
-        (shared_of shared.old (H.view host.old)) shared.old.pids.next own.old machine.old stop)
-        (hand shared.old own.old (H.view host.old)) (hand shared.new own.new (H.view host.new)) machine.new result
+    requires sound { IsSound shared.old (H.view host.old) }
+    requires lives { IsSome (get shared.old.tasks vpid) }
+    ensures { HasEffect vpid (effect_of_stop
+        (shared_of shared.old (H.view host.old)) shared.old.pids.next vpid machine.old stop)
+        shared.old (left shared.new (H.view host.new) machine.new) result
         (H.count host.old) (H.count host.new) }
 {
     let _before = host.faults();
     match stop {
-        Stop::Call => call(alloc, host, shared, own, machine),
+        Stop::Call => call(alloc, host, shared, vpid, machine),
         Stop::Counter(rd) => Ok(exit::read_counter(alloc, shared, machine, rd)),
-        Stop::Fault(_) | Stop::Slice => Ok(Effect::quiet(alloc, Outcome::Done)),
+        Stop::Fault(_) | Stop::Slice => Ok(Effect::quiet(alloc, Served::Done)),
     }
 }
 
@@ -87,22 +98,23 @@ fn call<H: Host>(
     alloc: Global,
     host: &mut H,
     shared: &mut Shared,
-    own: &mut Process,
+    vpid: u32,
     machine: &mut Machine,
 ) -> Result<Effect, HostErr>
-    requires { IsSoundHand (hand shared.old own.old (H.view host.old)) }
-    ensures { HasEffect (call_of (register machine.old A7) (shared_of shared.old (H.view host.old))
-        shared.old.pids.next own.old machine.old)
-        (hand shared.old own.old (H.view host.old)) (hand shared.new own.new (H.view host.new)) machine.new result
+    requires sound { IsSound shared.old (H.view host.old) }
+    requires lives { IsSome (get shared.old.tasks vpid) }
+    ensures { HasEffect vpid (call_of (register machine.old A7) (shared_of shared.old (H.view host.old))
+        shared.old.pids.next vpid machine.old)
+        shared.old (left shared.new (H.view host.new) machine.new) result
         (H.count host.old) (H.count host.new) }
 {
     let _before = host.faults();
     match machine.reg(A7) {
-        EXIT | EXIT_GROUP => Ok(exit::exit(alloc, machine)),
-        CLONE => clone::clone(alloc, host, shared, own, machine),
-        EXECVE => execve::execve(alloc, host, shared, own, machine),
-        WAIT4 => wait::wait4(alloc, host, shared, own, machine),
-        number => memory_call(alloc, host, shared, own, machine, number),
+        EXIT | EXIT_GROUP => exit::exit(alloc, host, shared, vpid, machine),
+        CLONE => clone::clone(alloc, host, shared, vpid, machine),
+        EXECVE => execve::execve(alloc, host, shared, vpid, machine),
+        WAIT4 => wait::wait4(alloc, host, shared, vpid, machine),
+        number => memory_call(alloc, host, shared, vpid, machine, number),
     }
 }
 
@@ -112,22 +124,23 @@ fn memory_call<H: Host>(
     alloc: Global,
     host: &mut H,
     shared: &mut Shared,
-    own: &mut Process,
+    vpid: u32,
     machine: &mut Machine,
     number: u64,
 ) -> Result<Effect, HostErr>
-    requires { IsSoundHand (hand shared.old own.old (H.view host.old)) }
-    ensures { HasEffect (memory_call number (shared_of shared.old (H.view host.old)) own.old machine.old)
-        (hand shared.old own.old (H.view host.old)) (hand shared.new own.new (H.view host.new)) machine.new result
+    requires sound { IsSound shared.old (H.view host.old) }
+    requires lives { IsSome (get shared.old.tasks vpid) }
+    ensures { HasEffect vpid (memory_call number (shared_of shared.old (H.view host.old)) vpid machine.old)
+        shared.old (left shared.new (H.view host.new) machine.new) result
         (H.count host.old) (H.count host.new) }
 {
     let _before = host.faults();
     match number {
-        BRK => Ok(memory::brk(alloc, own, machine)?),
+        BRK => Ok(memory::brk(alloc, shared, vpid, machine)?),
         MUNMAP => Ok(memory::munmap(alloc, machine)?),
         MMAP => Ok(memory::mmap(alloc, machine)?),
         MPROTECT => Ok(memory::mprotect(alloc, machine)?),
-        _ => identity_call(alloc, host, shared, own, machine, number),
+        _ => identity_call(alloc, host, shared, vpid, machine, number),
     }
 }
 
@@ -137,19 +150,20 @@ fn identity_call<H: Host>(
     alloc: Global,
     host: &mut H,
     shared: &mut Shared,
-    own: &mut Process,
+    vpid: u32,
     machine: &mut Machine,
     number: u64,
 ) -> Result<Effect, HostErr>
-    requires { IsSoundHand (hand shared.old own.old (H.view host.old)) }
-    ensures { HasEffect (identity_call number (shared_of shared.old (H.view host.old)) own.old machine.old)
-        (hand shared.old own.old (H.view host.old)) (hand shared.new own.new (H.view host.new)) machine.new result
+    requires sound { IsSound shared.old (H.view host.old) }
+    requires lives { IsSome (get shared.old.tasks vpid) }
+    ensures { HasEffect vpid (identity_call number (shared_of shared.old (H.view host.old)) vpid machine.old)
+        shared.old (left shared.new (H.view host.new) machine.new) result
         (H.count host.old) (H.count host.new) }
 {
     let _before = host.faults();
     match number {
-        GETPID | GETTID | SET_TID_ADDRESS => Ok(identity::getpid(alloc, own, machine)),
-        GETPPID => Ok(identity::getppid(alloc, shared, own, machine)),
+        GETPID | GETTID | SET_TID_ADDRESS => Ok(identity::getpid(alloc, vpid, machine)),
+        GETPPID => Ok(identity::getppid(alloc, shared, vpid, machine)),
         SET_ROBUST_LIST => Ok(identity::set_robust_list(alloc, machine)),
         UNAME => Ok(identity::uname(alloc, machine)?),
         SCHED_YIELD | GETUID | GETEUID | GETGID | GETEGID => Ok(Effect::done(alloc, machine, 0)),
@@ -158,7 +172,7 @@ fn identity_call<H: Host>(
             machine,
             Errno::NoSys,
         )),
-        _ => signal_call(alloc, host, shared, own, machine, number),
+        _ => signal_call(alloc, host, shared, vpid, machine, number),
     }
 }
 
@@ -168,13 +182,14 @@ fn signal_call<H: Host>(
     alloc: Global,
     host: &mut H,
     shared: &mut Shared,
-    own: &mut Process,
+    vpid: u32,
     machine: &mut Machine,
     number: u64,
 ) -> Result<Effect, HostErr>
-    requires { IsSoundHand (hand shared.old own.old (H.view host.old)) }
-    ensures { HasEffect (signal_call number (shared_of shared.old (H.view host.old)) own.old machine.old)
-        (hand shared.old own.old (H.view host.old)) (hand shared.new own.new (H.view host.new)) machine.new result
+    requires sound { IsSound shared.old (H.view host.old) }
+    requires lives { IsSome (get shared.old.tasks vpid) }
+    ensures { HasEffect vpid (signal_call number (shared_of shared.old (H.view host.old)) vpid machine.old)
+        shared.old (left shared.new (H.view host.new) machine.new) result
         (H.count host.old) (H.count host.new) }
 {
     let _before = host.faults();
@@ -182,9 +197,9 @@ fn signal_call<H: Host>(
         KILL => Ok(kill::kill(alloc, shared, machine)),
         TKILL => Ok(kill::tkill(alloc, shared, machine)),
         TGKILL => Ok(kill::tgkill(alloc, shared, machine)),
-        RT_SIGACTION => Ok(signals::rt_sigaction(alloc, shared, own, machine)?),
-        RT_SIGPROCMASK => Ok(signals::rt_sigprocmask(alloc, shared, own, machine)?),
-        RT_SIGRETURN => Ok(signals::rt_sigreturn(alloc, shared, own, machine)),
-        _ => files::call(alloc, host, shared, own, machine, number),
+        RT_SIGACTION => Ok(signals::rt_sigaction(alloc, shared, vpid, machine)?),
+        RT_SIGPROCMASK => Ok(signals::rt_sigprocmask(alloc, shared, vpid, machine)?),
+        RT_SIGRETURN => signals::rt_sigreturn(alloc, host, shared, vpid, machine),
+        _ => files::call(alloc, host, shared, vpid, machine, number),
     }
 }

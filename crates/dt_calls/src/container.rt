@@ -16,6 +16,7 @@ ghost use Rattle.dt_calls.specs.Sound.{IsSoundContainer};
 
 use crate::at_home::{run_at, serve_at};
 use crate::shared::Shared;
+use crate::task::start_task;
 use dt_base::{Command, End, Errno, Event, Image, NoMemory};
 use dt_exec::start_program;
 use dt_host::{Host, HostErr};
@@ -124,9 +125,7 @@ impl Container {
         let random = self.shared.fs.rand.start16();
         match start_program(self.alloc, host, &self.shared.fs.tree, command, &random)? {
             Ok(program) => {
-                let mut own = self.shared.process(FIRST_PID);
-                own.start(program.break_start);
-                self.shared.put(own);
+                start_task(&mut self.shared.tasks, FIRST_PID, program.break_start);
                 self.give_machine(FIRST_PID, program.machine);
                 self.counted();
                 Ok(Launch::Started)
@@ -179,18 +178,20 @@ impl Container {
         ensures sound { IfOk result (λ _. IsSoundContainer self.new (H.view host.new)) }
         ensures cause { HasCause (H.count host.old) (H.count host.new) (IsErrOf result HostErr.Failed) }
     {
-        let mut own = self.shared.process(vpid);
         let next = self.shared.pids.next();
         let effect = serve_at(
             self.alloc,
             host,
             &mut self.shared,
-            &mut own,
             &mut self.places,
             vpid,
             stop,
         )?;
-        self.settle(host, next, own, effect)
+        let served = effect.served;
+        self.events = effect.events;
+        self.settle(vpid, next, served, effect.child)?;
+        self.counted();
+        Ok(served)
     }
 
     /// Tries the call of a process again, which waits or goes on.

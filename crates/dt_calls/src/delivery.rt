@@ -1,67 +1,69 @@
 // Delivery of a signal to a process whose stop was served.
 ghost use Rattle.std.specs.Prelude.{◌≡◌, IsSome};
 ghost use Rattle.std.specs.FinMap.{get};
-ghost use Rattle.dt_calls.specs.Container.{signals_in};
-ghost use Rattle.dt_calls.specs.Delivery.{standing_after_delivery, forced_signal, standing};
+ghost use Rattle.dt_signals.specs.Delivery.{delivery_of, delivery_result};
+ghost use Rattle.dt_calls.specs.Container.{task_in, with_signals};
+ghost use Rattle.dt_calls.specs.Delivery.{forced_signal, call_state, task_after_delivery};
 ghost use Rattle.dt_calls.specs.InCode.{DeliveredAt};
 
-use crate::call::Outcome;
-use crate::shared::Process;
-use dt_base::End;
+use crate::container::Served;
+use crate::task::Task;
 use dt_rv64::{Machine, Stop};
-use dt_signals::{CallState, Delivery, Sig, deliver};
+use dt_signals::{CallState, Delivery, deliver};
 use dt_tables::Numbered;
 
-/// Delivers the signal of a fault, or the lowest that is pending and not masked, to a process whose stop was served.
+/// Delivers the signal of a fault, or the lowest that is pending and not masked, to a live process whose stop was
+/// served.
 pub fn deliver_at(
-    signals: &mut Numbered<Sig>,
-    own: &mut Process,
+    tasks: &mut Numbered<Task>,
+    vpid: u32,
     machine: &mut Machine,
     forced: Option<u8>,
-    outcome: &mut Outcome,
-)
-    requires { IsSome (get signals.old own.old.caller.vpid) }
-    ensures delivers { DeliveredAt
-        (standing_after_delivery forced
-        (standing (signals_in signals.old own.old.caller.vpid) own.old machine.old outcome.old))
-        own.old.caller.vpid signals.old signals.new own.new machine.new outcome.new }
-    ensures rest { own.new ≡ record own.old {
-      caller = record own.old.caller { done = own.new.caller.done };
-    } }
+    served: Served,
+) -> Delivery
+    requires { IsSome (get tasks.old vpid) }
+    ensures { DeliveredAt (delivery_of forced (call_state (task_in tasks.old vpid) served)
+        (task_in tasks.old vpid).signals machine.old) vpid tasks.old tasks.new machine.new result }
 {
-    match signals.get_mut(u64::from(own.caller.vpid)) {
-        Some(sig) => deliver_to(sig, own, machine, forced, outcome),
+    match tasks.get_mut(u64::from(vpid)) {
+        Some(task) => deliver_to(task, machine, forced, served),
         None => unreachable!(),
     }
 }
 
-// Delivers to a process with this signal state.
-#[tactic(auto, unfolding(crate::specs::Delivery::standing_after_delivery))]
+// Delivers to a process with this task.
 fn deliver_to(
-    sig: &mut Sig,
-    own: &mut Process,
+    task: &mut Task,
     machine: &mut Machine,
     forced: Option<u8>,
-    outcome: &mut Outcome,
-)
-    ensures delivered { standing_after_delivery forced (standing sig.old own.old machine.old outcome.old)
-        ≡ standing sig.new own.new machine.new outcome.new }
-    ensures rest { own.new ≡ record own.old {
-      caller = record own.old.caller { done = own.new.caller.done };
-    } }
+    served: Served,
+) -> Delivery
+    ensures delivered { delivery_of forced (call_state task.old served) task.old.signals machine.old
+        ≡ delivery_result result task.new.signals machine.new }
+    ensures task { task.new ≡ task_after_delivery result (with_signals task.old task.new.signals) }
 {
-    let call = match *outcome {
-        Outcome::Done => CallState::Plain,
-        Outcome::Blocked | Outcome::Progress => CallState::Waits(own.caller.done),
-        Outcome::Ends(_) | Outcome::Unsupported(_) => return,
-    };
-    match deliver(machine, sig, forced, call) {
-        Delivery::Nothing => {}
+    let call = call_state(task, served);
+    match deliver(machine, &mut task.signals, forced, call) {
+        Delivery::Nothing => Delivery::Nothing,
         Delivery::Handler => {
-            own.caller.done = 0;
-            *outcome = Outcome::Done;
+            task.caller.done = 0;
+            Delivery::Handler
         }
-        Delivery::Ends(signal) => *outcome = Outcome::Ends(End::Signal(signal)),
+        Delivery::Ends(signal) => Delivery::Ends(signal),
+    }
+}
+
+// The call of a process, as delivery sees it.
+fn call_state(task: &Task, served: Served) -> CallState
+    ensures { result ≡ call_state task.now served }
+{
+    match served {
+        Served::Blocked | Served::Progress => CallState::Waits(task.caller.done),
+        Served::Done
+        | Served::Child(_)
+        | Served::LastChild(_)
+        | Served::Ended
+        | Served::Unsupported(_) => CallState::Plain,
     }
 }
 

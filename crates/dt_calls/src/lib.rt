@@ -10,6 +10,6 @@ mod ending;
 pub mod numbers;
 mod settling;
 mod shared;
-mod signals;
+mod task;
 
 pub use container::{Container, Launch, Served};

@@ -8,22 +8,28 @@ use Rattle.dt_tables.proofs.Maps.{put_back}
 use Rattle.dt_tables.proofs.Valued.{get-map_values, map_values-insert, map_values-remove}
 use Rattle.dt_rv64.specs.declared.machine.Machine.{Machine}
 use Rattle.dt_calls.specs.Settle.{next_after, with_own}
-use Rattle.dt_run.specs.declared.phase.Phase.{Phase}
-use Rattle.dt_run.specs.declared.phase.Phase.TheVariants.{Owes, Ran, Waits}
-use Rattle.dt_run.specs.Work.{Work, Works, owing_work, with_segment_in, with_segment}
+use Rattle.dt_rv64.specs.declared.segments.Seg.{Seg}
+use Rattle.dt_sched.specs.declared.process.Phase.{Phase}
+use Rattle.dt_sched.specs.declared.process.Phase.TheVariants.{Owes, Ran, Waits}
+use Rattle.dt_run.specs.Work.{Work, Works, Prepared, owing_work, prepared_in, prepared_of, with_segment}
 use Rattle.dt_run.specs.Turn.{State, Act, act, turn_of_act, works_after_act, is_ended_verdict, with_child_work, stuck_turn, turn_of_work, turn_of_head, head_pid, turn}
 use Rattle.dt_run.specs.Ahead.{with_all_segments, turn_with_all_segments, with_segment_of, works_with_segment, TurnAhead, RanAhead}
 
-ran_in-again : (w : Work) (phase : Phase) → w.phase ≡ phase → with_segment (with_segment_in w phase) ≡ with_segment_in w phase
-unfolding with_segment
-ran_in-again w Owes is = refl
-ran_in-again w (Ran seg) is = ap (with_segment_in w) is
-ran_in-again w Waits is = ap (with_segment_in w) is
+prepared-again : (w : Work) (phase : Phase Seg) → w.phase ≡ phase → let d = prepared_in w phase in prepared_of d.work ≡ d
+unfolding prepared_of
+prepared-again w Owes is = refl
+prepared-again w (Ran seg) is = ap (prepared_in w) is
+prepared-again w Waits is = ap (prepared_in w) is
+
+-- a process brings the same to its turn once its segment was run
+pub prepared-with_segment : (w : Work) → prepared_of (with_segment w) ≡ prepared_of w
+unfolding prepared_of with_segment
+prepared-with_segment w = prepared-again w w.phase refl
 
 -- a segment that was run isn't run again
 pub with_segment-again : (w : Work) → with_segment (with_segment w) ≡ with_segment w
 unfolding with_segment
-with_segment-again w = ran_in-again w w.phase refl
+with_segment-again w = ap (λ (d : Prepared). d.work) (prepared-with_segment w)
 
 twice : (found : Option Work) → option_map with_segment (option_map with_segment found) ≡ option_map with_segment found
 twice None = refl
@@ -87,7 +93,7 @@ unfolding with_all_segments
 acted-ahead s p a =
     ap (λ works. record {
       next
-          = record { shared = a.shared; works = works; queue = a.queue; next = next_after s.next a.child };
+          = record { shared = a.shared; works = works; schedule = a.schedule; next = next_after s.next a.child };
       events
           = a.events;
       verdict = a.verdict;
@@ -99,8 +105,8 @@ taken-ahead : (s : State) (p : ℕ) (found : Option Work)
 unfolding with_all_segments
 taken-ahead s p None = ap stuck_turn (ahead-again s)
 taken-ahead s p (Some w) =
-    ap (λ v. turn_with_all_segments (turn_of_act (with_all_segments s) p (act s.shared s.queue s.next p v))) (with_segment-again w)
-    ∙ acted-ahead s p (act s.shared s.queue s.next p (with_segment w))
+    ap (λ d. turn_with_all_segments (turn_of_act (with_all_segments s) p (act s.shared s.schedule s.next p d))) (prepared-with_segment w)
+    ∙ acted-ahead s p (act s.shared s.schedule s.next p (prepared_of w))
 
 headed-ahead : (s : State) (head : Option ℕ) → turn_with_all_segments (turn_of_head (with_all_segments s) head) ≡ turn_with_all_segments (turn_of_head s head)
 unfolding with_all_segments
@@ -109,7 +115,7 @@ headed-ahead s (Some p) = ap (λ found. turn_with_all_segments (turn_of_work (wi
 
 pub turn-ahead : TurnAhead
 unfolding turn with_all_segments
-turn-ahead s = headed-ahead s (head_pid s.queue.order)
+turn-ahead s = headed-ahead s (head_pid s.schedule.order)
 
 -- turns of states that are the same once all segments were run come to the same
 pub turn-same : (a b : State) → with_all_segments a ≡ with_all_segments b → turn_with_all_segments (turn a) ≡ turn_with_all_segments (turn b)

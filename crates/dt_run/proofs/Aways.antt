@@ -7,7 +7,7 @@ use Rattle.std.specs.FinMap.{find, get, insert, empty, remove, get-insert, same_
 use Rattle.dt_tables.proofs.Maps.{at_insert, at_remove, get-remove_same, get-remove_other, get-insert_same, get-insert_other}
 use Rattle.dt_rv64.specs.declared.machine.Machine.{Machine}
 use Rattle.dt_calls.specs.Settle.{next_after, with_own}
-use Rattle.dt_run.specs.Work.{Work, Works, owing_work, with_segment}
+use Rattle.dt_run.specs.Work.{Work, Works, owing_work, prepared_of}
 use Rattle.dt_run.specs.Turn.{State, Act, act, works_after_act, is_ended_verdict, with_child_work, turn_of_work, turn_of_head, head_pid, turn}
 use Rattle.dt_run.specs.Ahead.{Away, with_works, state_with_works, turn_with_works, IsAway, HasHead, TurnAway}
 
@@ -85,17 +85,17 @@ module _ (ws : Away) where
   unfolding state_with_works
   taken-away s p None is some away = cc
   taken-away s p (Some w) is some away =
-      let a = act s.shared s.queue s.next p (with_segment w) in
+      let a = act s.shared s.schedule s.next p (prepared_of w) in
       ap (λ works. record {
         next
-            = record { shared = a.shared; works = works; queue = a.queue; next = next_after s.next a.child };
+            = record { shared = a.shared; works = works; schedule = a.schedule; next = next_after s.next a.child };
         events
             = a.events;
         verdict = a.verdict;
       })
       (changed-away s.works p s.next a (home-apart s p (subst IsSome (sym is) some) away) (next-fresh s away))
 
-  headed-away : (s : State) (head : Option ℕ) → head_pid s.queue.order ≡ head → HasHead s → IsAway s ws
+  headed-away : (s : State) (head : Option ℕ) → head_pid s.schedule.order ≡ head → HasHead s → IsAway s ws
       → turn_of_head (state_with_works ws s) head ≡ turn_with_works ws (turn_of_head s head)
   unfolding state_with_works
   headed-away s None is has away = refl
@@ -106,4 +106,4 @@ module _ (ws : Away) where
 
 pub turn-away : TurnAway
 unfolding turn state_with_works
-turn-away ws s has away = headed-away ws s (head_pid s.queue.order) refl has away
+turn-away ws s has away = headed-away ws s (head_pid s.schedule.order) refl has away

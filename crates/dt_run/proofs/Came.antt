@@ -1,6 +1,7 @@
 -- What a turn comes to once the head's stop was served.
 use Rattle.std.proofs.Common.{◌≡◌, ℕ, ◌+◌, ◌-◌, ◌*◌, ◌<◌, ◌≤◌, ◌==◌, ◌&&◌, Bool, true, false, cond, List, [], ◌∷◌, ◌++◌, length, Option, Some, None, refl, sym, ap, subst, ◌∙◌, arith, nat_le, length-append}
 use Rattle.std.specs.Prelude.{IsSome, IsTrue, option_map}
+use Rattle.std.proofs.lemmas.Bool.Decides.{nat_tests}
 use Rattle.std.specs.List.{AllByRecursion}
 use Rattle.std.specs.Cmp.{nat_cmp_total}
 use Rattle.std.specs.FinMap.{empty, get, nat_cmp-IsAntisymmetric}
@@ -16,7 +17,7 @@ use Rattle.dt_sched.specs.declared.settled.Settled.{Settled as Told}
 use Rattle.dt_sched.specs.declared.settled.Settled.TheVariants as as_told
 use Rattle.dt_sched.specs.declared.settled.Settled.TheVariants.{Again, Moved, Gone, Stopped}
 use Rattle.dt_sched.specs.Core as sched
-use Rattle.dt_sched.specs.Core.{CoreView, IsCore, head, owing_vpids, is_owing, has_segment_count, have_segment_counts, verdict_after}
+use Rattle.dt_sched.specs.Core.{CoreView, IsCore, head, owing_vpids, is_owing, is_waiting, is_vpid_waiting, is_queued, has_segment_count, have_segment_counts}
 use Rattle.dt_sched.proofs.Tables.{length-owing}
 use Rattle.dt_calls.specs.declared.container.Served.{Served}
 use Rattle.dt_calls.specs.declared.container.Served.TheVariants.{Done, Child, LastChild, Blocked, Progress, Ended, Unsupported}
@@ -26,49 +27,85 @@ use Rattle.dt_calls.proofs.Homes.{home-place}
 use Rattle.dt_calls.specs.Settle as calls
 use Rattle.dt_calls.specs.Settle.{ProcessTurn, ContainerTurn, with_process_turn, turn_of_container, turn_of_machine, machines_after_turn, next_after}
 use Rattle.dt_calls.specs.Sound.{IsSoundContainer}
-use Rattle.dt_run.specs.declared.phase.Phase.{Phase}
-use Rattle.dt_run.specs.declared.phase.Phase.TheVariants.{Owes, Ran, Waits}
+use Rattle.dt_sched.specs.declared.process.Phase.{Phase}
+use Rattle.dt_sched.specs.declared.process.Phase.TheVariants.{Owes, Ran, Waits}
+use Rattle.dt_sched.specs.Order.{verdict_after, schedule_after_turn, verdict_of_turn}
 use Rattle.dt_run.specs.declared.state.State.{State as StateInCode}
-use Rattle.dt_run.specs.Work.{Work, with_segment, turn_cost, stop_of}
-use Rattle.dt_run.specs.Queue.{settled_of, run_queue_after_turn, queue_verdict}
-use Rattle.dt_run.specs.Turn.{State, Turn, act, turn_of_act, paid_act, unpaid_act, act_of_turn, works_after_act, is_ended_verdict, turn_of_work, turn_of_head, head_pid, turn}
-use Rattle.dt_run.specs.inner.InCode.{phase_in, work_in, works_in, queue_of, state_of, turn_as, queue_phase, phases_after}
+use Rattle.dt_run.specs.Work.{Work, Prepared, prepared_of}
+use Rattle.dt_run.specs.Turn.{State, Turn, settled_of, act, turn_of_act, paid_act, unpaid_act, act_of_turn, works_after_act, is_ended_verdict, turn_of_work, turn_of_head, head_pid, turn}
+use Rattle.dt_run.specs.inner.InCode.{work_in, works_in, phase_in, with_stop, noted_stop, due_stop, schedule_of, state_of, turn_as, stops_after}
 use Rattle.dt_run.specs.inner.Good.{IsPlaced, IsPlacedIn, IsGood, steps_left}
 use Rattle.dt_run.proofs.Works.{get-works_in}
-use Rattle.dt_run.proofs.Noted.{Fits, served-fits, works_with, works-after}
-use Rattle.dt_run.proofs.Queued.{pids, IsHead, IsSpent, ready-head, queue-settled, verdict-settled, cost-known}
-use Rattle.dt_run.proofs.Placed.{once-apart, queue-placed, fresh-after, room}
+use Rattle.dt_calls.proofs.Fits.{Fits, served-fits}
+use Rattle.dt_run.proofs.Noted.{the_work, works_with, works-after}
+use Rattle.dt_run.proofs.Standings.{phase-first, after}
+use Rattle.dt_run.proofs.Queued.{pids, IsHead, IsSpent, ready-head, schedule-settled, verdict-settled}
+use Rattle.dt_run.proofs.Placed.{once-apart, queue-placed, unheld, room}
 
--- a turn of a head whose segment was run, and which the budget pays for
-turn-ready : (s : State) (p : ℕ) (rest : List ℕ) (w : Work) → s.queue.order ≡ p ∷ rest → get s.works p ≡ Some w
-    → with_segment w ≡ w → nat_le (turn_cost w.phase) s.queue.left ≡ true
-    → turn s ≡ turn_of_act s p (paid_act s.shared (record s.queue { left = s.queue.left - turn_cost w.phase }) s.next p w)
+-- a turn of a head by what it brings, and which the budget pays for
+turn-ready : (s : State) (p : ℕ) (rest : List ℕ) (w : Work) (d : Prepared) → s.schedule.order ≡ p ∷ rest → get s.works p ≡ Some w
+    → prepared_of w ≡ d → nat_le d.cost s.schedule.left ≡ true
+    → turn s ≡ turn_of_act s p (paid_act s.shared (record s.schedule { left = s.schedule.left - d.cost }) s.next p d)
 unfolding turn act
-turn-ready s p rest w order found ran pays =
+turn-ready s p rest w d order found due pays =
     ap (λ ps. turn_of_head s (head_pid ps)) order
     ∙ ap (turn_of_work s p) found
-    ∙ ap (λ v. turn_of_act s p (act s.shared s.queue s.next p v)) ran
-    ∙ ap (λ b. turn_of_act s p (cond b (paid_act s.shared (record s.queue { left = s.queue.left - turn_cost w.phase }) s.next p w)
-    (unpaid_act s.shared s.queue w))) pays
+    ∙ ap (λ d. turn_of_act s p (act s.shared s.schedule s.next p d)) due
+    ∙ ap (λ b. turn_of_act s p (cond b (paid_act s.shared (record s.schedule { left = s.schedule.left - d.cost }) s.next p d)
+    (unpaid_act s.shared s.schedule d.work))) pays
 
 -- and of one for which it doesn't pay
-pub turn-spent : (s : State) (p : ℕ) (rest : List ℕ) (w : Work) → s.queue.order ≡ p ∷ rest → get s.works p ≡ Some w
-    → with_segment w ≡ w → nat_le (turn_cost w.phase) s.queue.left ≡ false
-    → turn s ≡ turn_of_act s p (unpaid_act s.shared s.queue w)
+pub turn-spent : (s : State) (p : ℕ) (rest : List ℕ) (w : Work) (d : Prepared) → s.schedule.order ≡ p ∷ rest → get s.works p ≡ Some w
+    → prepared_of w ≡ d → nat_le d.cost s.schedule.left ≡ false
+    → turn s ≡ turn_of_act s p (unpaid_act s.shared s.schedule d.work)
 unfolding turn act
-turn-spent s p rest w order found ran spent =
+turn-spent s p rest w d order found due spent =
     ap (λ ps. turn_of_head s (head_pid ps)) order
     ∙ ap (turn_of_work s p) found
-    ∙ ap (λ v. turn_of_act s p (act s.shared s.queue s.next p v)) ran
-    ∙ ap (λ b. turn_of_act s p (cond b (paid_act s.shared (record s.queue { left = s.queue.left - turn_cost w.phase }) s.next p w)
-    (unpaid_act s.shared s.queue w))) spent
+    ∙ ap (λ d. turn_of_act s p (act s.shared s.schedule s.next p d)) due
+    ∙ ap (λ b. turn_of_act s p (cond b (paid_act s.shared (record s.schedule { left = s.schedule.left - d.cost }) s.next p d)
+    (unpaid_act s.shared s.schedule d.work))) spent
 
-arrived-ran : (m : Machine) (phase : Phase) → is_owing (queue_phase phase) ≡ false
-    → with_segment (record { machine = m; phase = phase }) ≡ record { machine = m; phase = phase }
-unfolding with_segment
-arrived-ran m Owes arrived = cc
-arrived-ran m (Ran seg) arrived = refl
-arrived-ran m Waits arrived = refl
+-- what a process that doesn't owe is prepared with
+abbrev ready : Machine → Phase ℕ → Stop → Prepared
+ready m phase stop = record {
+  work = record { machine = m; phase = with_stop phase stop };
+  stop = due_stop (is_waiting phase) stop;
+  cost = sched.cost_of phase;
+}
+
+prepared-ready : (m : Machine) (phase : Phase ℕ) (stop : Stop) → is_owing phase ≡ false → IsTrue (has_segment_count phase)
+    → prepared_of (record { machine = m; phase = with_stop phase stop }) ≡ ready m phase stop
+unfolding prepared_of
+prepared-ready m Owes stop arrived counted = cc
+prepared-ready m (Ran count) stop arrived counted =
+    ap (λ n. record { work = record { machine = m; phase = with_stop (Ran count) stop }; stop = stop; cost = n })
+    (grind (arith, nat_tests))
+prepared-ready m Waits stop arrived counted = refl
+
+-- whether the head of a queue waits
+waits-alone : (p : ℕ) (xs : List Process) → is_queued p xs ≡ false → is_vpid_waiting p xs ≡ false
+waits-alone p [] absent = refl
+waits-alone p (x ∷ xs) absent = grind (arith, nat_tests, waits-alone p xs)
+
+waits-head : (x : Process) (xs : List Process) → is_queued x.vpid xs ≡ false → is_vpid_waiting x.vpid (x ∷ xs) ≡ is_waiting x.phase
+waits-head x xs absent = grind (arith, nat_tests, waits-alone x.vpid xs absent)
+
+-- where the head of the queue stands
+head-phase : (s : StateInCode) (x : Process) (rest : List Process) → s.core.queue ≡ x ∷ rest
+    → phase_in s.core.queue s.stops x.vpid ≡ with_stop x.phase (noted_stop (get s.stops x.vpid))
+head-phase s x rest is =
+    ap (λ queue. phase_in queue s.stops x.vpid) is
+    ∙ ap (λ phase. with_stop phase (noted_stop (get s.stops x.vpid))) (phase-first x rest)
+
+-- its work
+head-work : (s : StateInCode) (x : Process) (rest : List Process) (m : Machine) → s.core.queue ≡ x ∷ rest
+    → get (machines_at_home s.container.places) x.vpid ≡ Some m
+    → get (works_in (machines_at_home s.container.places) (phase_in s.core.queue s.stops)) x.vpid ≡ Some (the_work s.stops x m)
+head-work s x rest m is home =
+    get-works_in (machines_at_home s.container.places) (phase_in s.core.queue s.stops) x.vpid
+    ∙ ap (option_map (work_in (phase_in s.core.queue s.stops x.vpid))) home
+    ∙ ap (λ phase. Some (work_in phase m)) (head-phase s x rest is)
 
 -- all have ended where the container is empty
 first-ended : (b : Bool) → is_ended_verdict (cond b (Some verdict.Ended) None) ≡ b
@@ -107,21 +144,21 @@ first-counted true b all = refl
 first-counted false b all = cc
 
 -- what became of a process whose stop, or whose waiting call, was served
-abbrev the_settled : StateInCode → World → ℕ → Machine → ProcessTurn
-the_settled s w n m = turn_of_machine (shared_of s.container.shared w) s.container.shared.pids.next n
-    (stop_of (phase_in (get s.phases n))) m
+abbrev the_settled : StateInCode → World → Process → Machine → ProcessTurn
+the_settled s w x m = turn_of_machine (shared_of s.container.shared w) s.container.shared.pids.next x.vpid
+    (due_stop (is_waiting x.phase) (noted_stop (get s.stops x.vpid))) m
 
 -- how the head stands, and the turn of the container that was taken
 pub record Came (s : StateInCode) (w : World) (p : ℕ) (to : ContainerView) (now : World) (served : Served) : Type 0 where
   pub head : IsHead s.core p
   pub machine : Machine
   pub home : get (machines_at_home s.container.places) head.first.vpid ≡ Some machine
-  pub stands : head.first.phase ≡ queue_phase (phase_in (get s.phases head.first.vpid))
   pub given : head.first.vpid < s.container.shared.pids.next
   pub good : IsGood s
   pub once : IsTrue (sched.is_distinct s.core.queue)
+  pub apart : is_queued head.first.vpid head.rest ≡ false
   pub counted : IsTrue (has_segment_count head.first.phase)
-  pub is : with_process_turn (container_of s.container w) head.first.vpid (the_settled s w head.first.vpid machine)
+  pub is : with_process_turn (container_of s.container w) head.first.vpid (the_settled s w head.first machine)
       ≡ container_turn_as (container_of to now) served
 
 -- where each process of the queue is placed its head is
@@ -129,29 +166,37 @@ pub head-placed : (s : StateInCode) (p : ℕ) (h : IsHead s.core p) → IsGood s
     → AllByRecursion (IsPlacedIn s) (h.first ∷ h.rest)
 head-placed s p h good = subst (AllByRecursion (IsPlacedIn s)) h.queue good.placed
 
-pub came : (s : StateInCode) (w : World) (p : ℕ) (to : ContainerView) (now : World) (served : Served) (phase : Phase)
-    → IsGood s → IsCore s.core → head s.core ≡ Ready p → phase ≡ phase_in (get s.phases p)
-    → turn_of_container (container_of s.container w) p (stop_of phase) ≡ Some (container_turn_as (container_of to now) served)
+pub came : (s : StateInCode) (w : World) (p : ℕ) (to : ContainerView) (now : World) (served : Served)
+    → IsGood s → IsCore s.core → head s.core ≡ Ready p
+    → turn_of_container (container_of s.container w) p (due_stop (is_vpid_waiting p s.core.queue) (noted_stop (get s.stops p)))
+    ≡ Some (container_turn_as (container_of to now) served)
     → Came s w p to now served
-came s w p to now served phase good sound ready stands is =
+came s w p to now served good sound ready is =
     let h = ready-head s.core p ready in
     let placed = head-placed s p h good in
     let found = the-machine (get (machines_at_home s.container.places) h.first.vpid) placed.0.home in
-    let one = subst (λ phase. turn_of_container (container_of s.container w) p (stop_of phase)
-    ≡ Some (container_turn_as (container_of to now) served)) stands is in
+    let tests = once-apart (is_queued h.first.vpid h.rest) (sched.is_distinct h.rest)
+    (subst (λ l. IsTrue (sched.is_distinct l)) h.queue sound.each_once) in
+    let waiting : is_vpid_waiting h.first.vpid s.core.queue ≡ is_waiting h.first.phase =
+    ap (is_vpid_waiting h.first.vpid) h.queue ∙ waits-head h.first h.rest tests.0 in
+    let one = subst (λ n. turn_of_container (container_of s.container w) n
+    (due_stop (is_vpid_waiting n s.core.queue) (noted_stop (get s.stops n)))
+    ≡ Some (container_turn_as (container_of to now) served)) (sym h.vpid) is in
+    let two = subst (λ waits. turn_of_container (container_of s.container w) h.first.vpid
+    (due_stop waits (noted_stop (get s.stops h.first.vpid)))
+    ≡ Some (container_turn_as (container_of to now) served)) waiting one in
     record {
       head = h;
       machine = found.0;
       home = found.1;
-      stands = placed.0.stands;
       given = placed.0.given;
       good = good;
       once = sound.each_once;
+      apart = tests.0;
       counted = first-counted _ _ (subst (λ l. IsTrue (have_segment_counts l)) h.queue sound.counted);
-      is = serve-home (container_of s.container w) h.first.vpid (stop_of (phase_in (get s.phases h.first.vpid))) found.0
-          (container_turn_as (container_of to now) served) found.1
-          (subst (λ n. turn_of_container (container_of s.container w) n (stop_of (phase_in (get s.phases n)))
-          ≡ Some (container_turn_as (container_of to now) served)) (sym h.vpid) one);
+      is = serve-home (container_of s.container w) h.first.vpid
+          (due_stop (is_waiting h.first.phase) (noted_stop (get s.stops h.first.vpid))) found.0
+          (container_turn_as (container_of to now) served) found.1 two;
     }
 
 -- the state in code after a turn
@@ -159,72 +204,83 @@ abbrev pub turned_state : StateInCode → ContainerView → ℕ → Served → S
 turned_state s to n served = record {
   container = record to { events = [] };
   core = sched.core_after_turn s.core (settled_of served);
-  phases = phases_after s.phases n served;
+  stops = stops_after s.stops n served;
 }
 
 -- a turn of the code as the definitions see it, by what the turn of the container came to
 abbrev seen : StateInCode → ℕ → ContainerTurn → Turn
 seen s n t = let core = sched.core_after_turn s.core (settled_of t.served) in turn_as (record {
   shared = t.container.shared;
-  works = works_in t.container.machines (phases_after s.phases n t.served);
-  queue = queue_of core;
+  works = works_in t.container.machines (phase_in core.queue (stops_after s.stops n t.served));
+  schedule = schedule_of core;
   next = t.container.next;
 }) t.container.events core.verdict
 
+-- the works after a turn, whether all have ended or not
+works-seen : (s : StateInCode) (x : Process) (rest : List Process) (m : Machine) (r : ProcessTurn) → s.core.queue ≡ x ∷ rest
+    → Fits s.container.shared.pids.next r → is_queued x.vpid rest ≡ false → is_queued s.container.shared.pids.next rest ≡ false
+    → x.vpid < s.container.shared.pids.next
+    → let machines = machines_at_home s.container.places in
+    let next = s.container.shared.pids.next in
+    let core = sched.core_after_turn s.core (settled_of r.served) in
+    cond (calls.is_end_of_all x.vpid r.served) empty
+    (works_with (works_in machines (phase_in s.core.queue s.stops)) next x.vpid (the_work s.stops x m) r)
+    ≡ works_in (machines_after_turn machines next x.vpid r) (phase_in core.queue (stops_after s.stops x.vpid r.served))
+works-seen s x rest m r is fits apart new given =
+    let machines = machines_at_home s.container.places in
+    let next = s.container.shared.pids.next in
+    ap (λ queue. cond (calls.is_end_of_all x.vpid r.served) empty
+    (works_with (works_in machines (phase_in queue s.stops)) next x.vpid (the_work s.stops x m) r)) is
+    ∙ works-after machines s.stops next x rest (the_work s.stops x m) r fits apart new (λ e. omega arith) refl
+    ∙ ap (λ queue. let core = sched.core_after_turn_of s.core queue (settled_of r.served) in
+    works_in (machines_after_turn machines next x.vpid r) (phase_in core.queue (stops_after s.stops x.vpid r.served))) (sym is)
+
 -- what becomes of the head, as the code has it
-acted-seen : (s : StateInCode) (w : World) (q : Process) (rest : List Process) (cost : ℕ) (r : ProcessTurn)
-    → s.core.queue ≡ q ∷ rest → sched.cost_of q.phase ≡ cost → Fits s.container.shared.pids.next r
-    → get s.phases s.container.shared.pids.next ≡ None → q.vpid < s.container.shared.pids.next
-    → turn_of_act (state_of s w) q.vpid
-    (act_of_turn (record (queue_of s.core) { left = s.core.left - cost }) q.vpid (phase_in (get s.phases q.vpid)) r)
-    ≡ seen s q.vpid (with_process_turn (container_of s.container w) q.vpid r)
-unfolding act_of_turn works_after_act queue_verdict
-acted-seen s w q rest cost r is costs fits fresh given =
+acted-seen : (s : StateInCode) (w : World) (x : Process) (rest : List Process) (m : Machine) (r : ProcessTurn)
+    → s.core.queue ≡ x ∷ rest → Fits s.container.shared.pids.next r → is_queued x.vpid rest ≡ false
+    → is_queued s.container.shared.pids.next rest ≡ false → x.vpid < s.container.shared.pids.next
+    → turn_of_act (state_of s w) x.vpid
+    (act_of_turn (record (schedule_of s.core) { left = s.core.left - sched.cost_of x.phase }) x.vpid (the_work s.stops x m) r)
+    ≡ seen s x.vpid (with_process_turn (container_of s.container w) x.vpid r)
+unfolding act_of_turn works_after_act verdict_of_turn
+acted-seen s w x rest m r is fits apart new given =
     let machines = machines_at_home s.container.places in
     let next = s.container.shared.pids.next in
     let t = settled_of r.served in
-    let to = run_queue_after_turn (record (queue_of s.core) { left = s.core.left - cost }) q.vpid t in
+    let to = schedule_after_turn (record (schedule_of s.core) { left = s.core.left - sched.cost_of x.phase }) x.vpid t in
     let core = sched.core_after_turn s.core t in
-    let queues : to ≡ queue_of core = queue-settled s.core q rest t cost is costs in
-    let verdicts : queue_verdict to q.vpid t ≡ core.verdict = verdict-settled s.core q rest t to is queues in
-    let works : cond (is_ended_verdict (queue_verdict to q.vpid t)) empty
-    (works_with (works_in machines s.phases) next q.vpid (phase_in (get s.phases q.vpid)) r)
-    ≡ works_in (machines_after_turn machines next q.vpid r) (phases_after s.phases q.vpid r.served)
-    = ap (λ b. cond b empty (works_with (works_in machines s.phases) next q.vpid (phase_in (get s.phases q.vpid)) r))
-    (ended-alike q.vpid to.blocked (length to.order) r.served)
-    ∙ works-after machines s.phases next q.vpid r fits fresh (λ e. omega arith) in
+    let schedules : to ≡ schedule_of core = schedule-settled s.core x rest t is in
+    let verdicts : verdict_of_turn to x.vpid t ≡ core.verdict = verdict-settled s.core x rest t to is schedules in
+    let works = ap (λ b. cond b empty
+    (works_with (works_in machines (phase_in s.core.queue s.stops)) next x.vpid (the_work s.stops x m) r))
+    (ended-alike x.vpid to.blocked (length to.order) r.served)
+    ∙ works-seen s x rest m r is fits apart new given in
     λ i. record {
-      next = record { shared = r.shared; works = works i; queue = queues i; next = next_after next r.child };
+      next = record { shared = r.shared; works = works i; schedule = schedules i; next = next_after next r.child };
       events = r.events;
       verdict = verdicts i;
     }
 
 module _ (s : StateInCode) (w : World) (p : ℕ) (to : ContainerView) (now : World) (served : Served)
     (c : Came s w p to now served) where
-  arrived : is_owing (queue_phase (phase_in (get s.phases c.head.first.vpid))) ≡ false
-  arrived = subst (λ phase. is_owing phase ≡ false) c.stands c.head.arrived
-
-  costs : sched.cost_of c.head.first.phase ≡ turn_cost (phase_in (get s.phases c.head.first.vpid))
-  costs =
-      ap sched.cost_of c.stands
-      ∙ cost-known (phase_in (get s.phases c.head.first.vpid)) arrived
-      (subst (λ phase. IsTrue (has_segment_count phase)) c.stands c.counted)
+  no-next : is_queued s.container.shared.pids.next c.head.rest ≡ false
+  no-next =
+      let placed = head-placed s p c.head c.good in
+      unheld (machines_at_home s.container.places) s.stops s.container.shared.pids.next c.head.rest placed.1
 
   -- the turn is the one that is defined
   pub turn-came : let new = turned_state s to c.head.first.vpid served in turn (state_of s w)
       ≡ turn_as (state_of new now) to.events new.core.verdict
   unfolding paid_act
   turn-came =
-      let n = c.head.first.vpid in
-      let phase = phase_in (get s.phases n) in
-      turn-ready (state_of s w) n (pids c.head.rest) (record { machine = c.machine; phase = phase })
-      (ap pids c.head.queue)
-      (get-works_in (machines_at_home s.container.places) s.phases n ∙ ap (option_map (work_in s.phases n)) c.home)
-      (arrived-ran c.machine phase arrived)
-      (subst (λ cost. nat_le cost s.core.left ≡ true) costs c.head.pays)
-      ∙ acted-seen s w c.head.first c.head.rest (turn_cost phase) (the_settled s w n c.machine) c.head.queue costs
-      (served-fits _ _ n _ c.machine) (c.good.fresh s.container.shared.pids.next (omega arith)) c.given
-      ∙ ap (seen s n) c.is
+      let x = c.head.first in
+      turn-ready (state_of s w) x.vpid (pids c.head.rest) (the_work s.stops x c.machine)
+      (ready c.machine x.phase (noted_stop (get s.stops x.vpid))) (ap pids c.head.queue)
+      (head-work s x c.head.rest c.machine c.head.queue c.home)
+      (prepared-ready c.machine x.phase (noted_stop (get s.stops x.vpid)) c.head.arrived c.counted) c.head.pays
+      ∙ acted-seen s w x c.head.rest c.machine (the_settled s w x c.machine) c.head.queue
+      (served-fits _ _ x.vpid _ c.machine) c.apart no-next c.given
+      ∙ ap (seen s x.vpid) c.is
 
   -- all is good then
   pub good-came : IsGood (turned_state s to c.head.first.vpid served)
@@ -232,21 +288,16 @@ module _ (s : StateInCode) (w : World) (p : ℕ) (to : ContainerView) (now : Wor
       let n = c.head.first.vpid in
       let machines = machines_at_home s.container.places in
       let next = s.container.shared.pids.next in
-      let r = the_settled s w n c.machine in
+      let r = the_settled s w c.head.first c.machine in
       let fits : Fits next r = served-fits _ _ n _ c.machine in
-      let none = c.good.fresh next (omega arith) in
-      let tests = once-apart (sched.is_queued n c.head.rest) (sched.is_distinct c.head.rest)
-      (subst (λ l. IsTrue (sched.is_distinct l)) c.head.queue c.once) in
-      let placed = queue-placed machines s.phases next c.head.first c.head.rest r.served r.own r.child
-      (calls.is_end_of_all n r.served) refl fits.own fits.child none tests.0 (head-placed s p c.head c.good) in
+      let placed = queue-placed machines s.stops next c.head.first c.head.rest r.served r.own r.child
+      (calls.is_end_of_all n r.served) refl fits.own fits.child c.apart (head-placed s p c.head c.good) in
       record {
         placed = subst (λ l. let core = sched.core_after_turn_of s.core l (settled_of served) in AllByRecursion
-            (IsPlaced (machines_at_home to.places) (phases_after s.phases n served) to.shared.pids.next) core.queue) (sym c.head.queue)
+            (IsPlaced (machines_at_home to.places) (stops_after s.stops n served) to.shared.pids.next) core.queue) (sym c.head.queue)
             (subst (λ (t : ContainerTurn). AllByRecursion
-            (IsPlaced t.container.machines (phases_after s.phases n t.served) t.container.next)
-            (sched.queue_after_turn_of c.head.first c.head.rest (settled_of t.served))) c.is placed);
-        fresh = subst (λ (t : ContainerTurn). (q : ℕ) → t.container.next ≤ q → get (phases_after s.phases n t.served) q ≡ None) c.is
-            (fresh-after s.phases next n r.served r.child c.given c.good.fresh);
+            (IsPlaced t.container.machines (stops_after s.stops n t.served) t.container.next)
+            (sched.processes_after_turn c.head.first c.head.rest (settled_of t.served))) c.is placed);
       }
 
   -- a child finds room
@@ -255,11 +306,11 @@ module _ (s : StateInCode) (w : World) (p : ℕ) (to : ContainerView) (now : Wor
       let n = c.head.first.vpid in
       let machines = machines_at_home s.container.places in
       let next = s.container.shared.pids.next in
-      let r = the_settled s w n c.machine in
+      let r = the_settled s w c.head.first c.machine in
       let fits : Fits next r = served-fits _ _ n _ c.machine in
       let homes : machines_after_turn machines next n r ≡ machines_at_home to.places = ap (λ (t : ContainerTurn). t.container.machines) c.is in
       subst (λ (t : ContainerTurn). IsTrue (sched.has_room s.core.queue (settled_of t.served))) c.is
-      (room machines s.phases next n r.own r.child s.core.queue to.places r.served c.once c.good.placed fits.own fits.child sound.few
+      (room machines s.stops next n r.own r.child s.core.queue to.places r.served c.once c.good.placed fits.own fits.child sound.few
       (λ on q there. home-place to.places q
       (subst IsSome (ap
       (λ (b : Bool). get (cond b empty (calls.with_child_machine (calls.with_own machines n r.own) next r.child)) q)
@@ -271,14 +322,14 @@ pub record Has (s : StateInCode) (p : ℕ) (to : ContainerView) (served : Served
   pub told_so : Told
   pub told_is : told_so ≡ settled_of served
   pub core : new.core ≡ sched.core_after_turn s.core told_so
-  pub phases : new.phases ≡ phases_after s.phases p served
+  pub stops : new.stops ≡ stops_after s.stops p served
 
 same_state : (s : StateInCode) (p n : ℕ) (to : ContainerView) (served : Served) (new : StateInCode) → n ≡ p
     → Has s p to served new → new ≡ turned_state s to n served
 same_state s p n to served new vpid h =
     let cores = h.core ∙ ap (sched.core_after_turn s.core) h.told_is in
-    let phases = h.phases ∙ ap (λ n. phases_after s.phases n served) (sym vpid) in
-    λ i. record { container = h.container i; core = cores i; phases = phases i }
+    let stops = h.stops ∙ ap (λ n. stops_after s.stops n served) (sym vpid) in
+    λ i. record { container = h.container i; core = cores i; stops = stops i }
 
 module _ (s : StateInCode) (w : World) (p : ℕ) (to : ContainerView) (now : World) (served : Served)
     (c : Came s w p to now served) (new : StateInCode) (h : Has s p to served new) where
@@ -302,7 +353,7 @@ length-left false ps n h = h
 length-one : (rest : List Process) (p : Process) → length (rest ++ p ∷ []) ≤ length rest + 2
 length-one rest p = omega (arith, length-append rest (p ∷ []))
 
-length-after : (q : Process) (rest : List Process) (t : Told) → length (sched.queue_after_turn_of q rest t) ≤ length rest + 2
+length-after : (q : Process) (rest : List Process) (t : Told) → length (sched.processes_after_turn q rest t) ≤ length rest + 2
 length-after q rest Again = length-one rest _
 length-after q rest (as_told.Child vpid) = omega (arith, length-append rest (sched.owing_process q.vpid ∷ sched.owing_process vpid ∷ []))
 length-after q rest (as_told.LastChild vpid) = length-left (q.vpid == 1) _ _ (length-one rest (sched.owing_process vpid))
@@ -319,11 +370,11 @@ pub steps-came : (core new : CoreView) (p : ℕ) (t : Told) → IsCore core → 
     → new ≡ sched.core_after_turn core t → new.left < core.left → steps_left new < steps_left core
 steps-came core new p t sound ready is falls =
     let h = ready-head core p ready in
-    let queue : new.queue ≡ sched.queue_after_turn_of h.first h.rest t = ap (λ (core : CoreView). core.queue) is
+    let queue : new.queue ≡ sched.processes_after_turn h.first h.rest t = ap (λ (core : CoreView). core.queue) is
     ∙ ap (λ l. let core = sched.core_after_turn_of core l t in core.queue) h.queue in
-    let some : length (owing_vpids new.queue) ≤ length (sched.queue_after_turn_of h.first h.rest t) = subst
-    (λ l. length (owing_vpids l) ≤ length (sched.queue_after_turn_of h.first h.rest t)) (sym queue)
-    (length-owing (sched.queue_after_turn_of h.first h.rest t)) in
+    let some : length (owing_vpids new.queue) ≤ length (sched.processes_after_turn h.first h.rest t) = subst
+    (λ l. length (owing_vpids l) ≤ length (sched.processes_after_turn h.first h.rest t)) (sym queue)
+    (length-owing (sched.processes_after_turn h.first h.rest t)) in
     let more = length-after h.first h.rest t in
     let old = subst (λ l. length l ≤ 64) h.queue sound.few in
     fewer-steps core.left new.left (length (owing_vpids core.queue)) (length (owing_vpids new.queue)) falls (omega (arith, old))
@@ -336,21 +387,16 @@ ready-home s p good ready =
     let placed = head-placed s p h good in
     subst (λ n. IsSome (get (machines_at_home s.container.places) n)) h.vpid placed.0.home
 
-noted-there : (found : Option Phase) → is_owing (queue_phase (phase_in found)) ≡ false → IsSome found
-noted-there None arrived = cc
-noted-there (Some phase) arrived = refl
-
--- and something is noted of it, since it does not owe
-pub ready-noted : (s : StateInCode) (p : ℕ) → IsGood s → head s.core ≡ Ready p → IsSome (get s.phases p)
+-- and its stop is noted
+pub ready-noted : (s : StateInCode) (p : ℕ) → IsGood s → head s.core ≡ Ready p → IsSome (get s.stops p)
 ready-noted s p good ready =
     let h = ready-head s.core p ready in
     let placed = head-placed s p h good in
-    subst (λ n. IsSome (get s.phases n)) h.vpid
-    (noted-there (get s.phases h.first.vpid) (subst (λ phase. is_owing phase ≡ false) placed.0.stands h.arrived))
+    subst (λ n. IsSome (get s.stops n)) h.vpid placed.0.noted
 
 -- a turn that the budget doesn't pay for
 unpaid-seen : (s : State) (p : ℕ) (w : Work) → get s.works p ≡ Some w
-    → turn_of_act s p (unpaid_act s.shared s.queue w) ≡ turn_as s [] (Some verdict.Budget)
+    → turn_of_act s p (unpaid_act s.shared s.schedule w) ≡ turn_as s [] (Some verdict.Budget)
 unfolding works_after_act
 unpaid-seen s p w found =
     ap (λ works. turn_as (record s { works = works }) [] (Some verdict.Budget))
@@ -359,17 +405,12 @@ unpaid-seen s p w found =
 pub spent-turn : (s : StateInCode) (w : World) → IsGood s → IsCore s.core → IsSpent s.core
     → turn (state_of s w) ≡ turn_as (state_of s w) [] (Some verdict.Budget)
 spent-turn s w good sound spent =
-    let n = spent.first.vpid in
-    let phase = phase_in (get s.phases n) in
+    let x = spent.first in
     let placed = subst (AllByRecursion (IsPlacedIn s)) spent.queue good.placed in
-    let machine = the-machine (get (machines_at_home s.container.places) n) placed.0.home in
-    let found : get (works_in (machines_at_home s.container.places) s.phases) n ≡ Some (record { machine = machine.0; phase = phase }) =
-    get-works_in (machines_at_home s.container.places) s.phases n ∙ ap (option_map (work_in s.phases n)) machine.1 in
-    let arrived = subst (λ phase. is_owing phase ≡ false) placed.0.stands spent.arrived in
+    let machine = the-machine (get (machines_at_home s.container.places) x.vpid) placed.0.home in
+    let found = head-work s x spent.rest machine.0 spent.queue machine.1 in
     let counted = first-counted _ _ (subst (λ l. IsTrue (have_segment_counts l)) spent.queue sound.counted) in
-    let costs = ap sched.cost_of placed.0.stands
-    ∙ cost-known phase arrived (subst (λ phase. IsTrue (has_segment_count phase)) placed.0.stands counted) in
-    turn-spent (state_of s w) n (pids spent.rest) (record { machine = machine.0; phase = phase })
-    (ap pids spent.queue) found (arrived-ran machine.0 phase arrived)
-    (subst (λ cost. nat_le cost s.core.left ≡ false) costs spent.spent)
-    ∙ unpaid-seen (state_of s w) n (record { machine = machine.0; phase = phase }) found
+    turn-spent (state_of s w) x.vpid (pids spent.rest) (the_work s.stops x machine.0)
+    (ready machine.0 x.phase (noted_stop (get s.stops x.vpid))) (ap pids spent.queue) found
+    (prepared-ready machine.0 x.phase (noted_stop (get s.stops x.vpid)) spent.arrived counted) spent.spent
+    ∙ unpaid-seen (state_of s w) x.vpid (the_work s.stops x machine.0) found

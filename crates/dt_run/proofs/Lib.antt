@@ -2,6 +2,7 @@ pub mod Turns
 pub mod Aheads
 pub mod Aways
 pub mod Works
+pub mod Standings
 pub mod Noted
 pub mod Queued
 pub mod Placed

@@ -11,12 +11,9 @@ use Rattle.dt_sched.specs.declared.settled.Head.TheVariants.{NotArrived, Ready, 
 use Rattle.dt_sched.specs.declared.settled.Settled.{Settled}
 use Rattle.dt_sched.specs.declared.settled.Settled.TheVariants.{Again, Child, LastChild, Waits as Blocked, Moved, Gone, Stopped}
 use Rattle.dt_sched.specs.Core as sched
-use Rattle.dt_sched.specs.Core.{CoreView, IsCore, head, head_unless_over, owing_process, owing_vpids, is_owing, has_segment_count, core_after_arrival, process_after_arrival, core_after_turn, core_after_turn_of, verdict_after}
-use Rattle.dt_run.specs.declared.phase.Phase.{Phase}
-use Rattle.dt_run.specs.declared.phase.Phase.TheVariants.{Owes, Ran, Waits}
-use Rattle.dt_run.specs.Work.{turn_cost}
-use Rattle.dt_run.specs.Queue.{Queue, order_after_turn, run_queue_after_turn, queue_verdict}
-use Rattle.dt_run.specs.inner.InCode.{queue_of, queue_phase}
+use Rattle.dt_sched.specs.Core.{CoreView, IsCore, head, head_unless_over, owing_process, owing_vpids, is_owing, core_after_arrival, process_after_arrival, core_after_turn, core_after_turn_of}
+use Rattle.dt_sched.specs.Order.{Schedule, order_after_turn, blocked_after, verdict_after, schedule_after_turn, verdict_of_turn}
+use Rattle.dt_run.specs.inner.InCode.{schedule_of}
 
 -- the pids of processes
 abbrev pub pids : List Process → List ℕ
@@ -114,7 +111,7 @@ left-pids true ns ps is = refl
 left-pids false ns ps is = is
 
 order-settled : (q : Process) (rest : List Process) (t : Settled)
-    → order_after_turn (q.vpid ∷ pids rest) q.vpid (pids rest) t ≡ pids (sched.queue_after_turn_of q rest t)
+    → order_after_turn q.vpid q.vpid q.vpid (λ child. child) (pids rest) t ≡ pids (sched.processes_after_turn q rest t)
 order-settled q rest Again = sym (pids-append rest (owing_process q.vpid))
 order-settled q rest (Child vpid) = sym (pids-two rest (owing_process q.vpid) (owing_process vpid))
 order-settled q rest (LastChild vpid) = left-pids (q.vpid == 1) _ (rest ++ owing_process vpid ∷ []) (sym (pids-append rest (owing_process vpid)))
@@ -123,46 +120,31 @@ order-settled q rest Moved = sym (pids-append rest _)
 order-settled q rest Gone = left-pids (q.vpid == 1) _ rest refl
 order-settled q rest (Stopped number) = refl
 
--- the queue after a turn of its head
-pub queue-settled : (core : CoreView) (q : Process) (rest : List Process) (t : Settled) (cost : ℕ)
-    → core.queue ≡ q ∷ rest → sched.cost_of q.phase ≡ cost
-    → run_queue_after_turn (record (queue_of core) { left = core.left - cost }) q.vpid t ≡ queue_of (core_after_turn core t)
-unfolding run_queue_after_turn
-queue-settled core q rest t cost is costs =
+-- the schedule after a turn of the head
+pub schedule-settled : (core : CoreView) (q : Process) (rest : List Process) (t : Settled) → core.queue ≡ q ∷ rest
+    → schedule_after_turn (record (schedule_of core) { left = core.left - sched.cost_of q.phase }) q.vpid t ≡ schedule_of (core_after_turn core t)
+unfolding schedule_after_turn
+schedule-settled core q rest t is =
     ap (λ l. record {
-      order = order_after_turn (pids l) q.vpid (drop 1 (pids l)) t;
-      blocked
-          = sched.blocked_after core.blocked t;
-      left = core.left - cost;
+      order = order_after_turn q.vpid q.vpid q.vpid (λ child. child) (drop 1 (pids l)) t;
+      blocked = blocked_after core.blocked t;
+      left = core.left - sched.cost_of q.phase;
     }) is
-    ∙ ap (λ order. record { order = order; blocked = sched.blocked_after core.blocked t; left = core.left - cost })
+    ∙ ap (λ order. record { order = order; blocked = blocked_after core.blocked t; left = core.left - sched.cost_of q.phase })
     (order-settled q rest t)
-    ∙ ap (λ n. record {
-      order = pids (sched.queue_after_turn_of q rest t);
-      blocked = sched.blocked_after core.blocked t;
-      left
-          = core.left - n;
-    }) (sym costs)
-    ∙ ap (λ l. queue_of (core_after_turn_of core l t)) (sym is)
+    ∙ ap (λ l. schedule_of (core_after_turn_of core l t)) (sym is)
 
 -- its verdict
-pub verdict-settled : (core : CoreView) (q : Process) (rest : List Process) (t : Settled) (to : Queue)
-    → core.queue ≡ q ∷ rest → to ≡ queue_of (core_after_turn core t)
-    → let new = core_after_turn core t in queue_verdict to q.vpid t ≡ new.verdict
-unfolding queue_verdict
+pub verdict-settled : (core : CoreView) (q : Process) (rest : List Process) (t : Settled) (to : Schedule)
+    → core.queue ≡ q ∷ rest → to ≡ schedule_of (core_after_turn core t)
+    → let new = core_after_turn core t in verdict_of_turn to q.vpid t ≡ new.verdict
+unfolding verdict_of_turn
 verdict-settled core q rest t to is same =
-    ap (λ (to : Queue). verdict_after q.vpid to.blocked (length to.order) t) same
+    ap (λ (to : Schedule). verdict_after q.vpid to.blocked (length to.order) t) same
     ∙ ap (λ l. let new = core_after_turn_of core l t in verdict_after q.vpid new.blocked (length (pids new.queue)) t) is
-    ∙ ap (λ n. verdict_after q.vpid (sched.blocked_after core.blocked t) n t)
-    (length-map (sched.queue_after_turn_of q rest t) (λ (p : Process). p.vpid))
+    ∙ ap (λ n. verdict_after q.vpid (blocked_after core.blocked t) n t)
+    (length-map (sched.processes_after_turn q rest t) (λ (p : Process). p.vpid))
     ∙ ap (λ l. let new = core_after_turn_of core l t in new.verdict) (sym is)
-
--- what a turn costs is known to the queue
-pub cost-known : (phase : Phase) → is_owing (queue_phase phase) ≡ false → IsTrue (has_segment_count (queue_phase phase))
-    → sched.cost_of (queue_phase phase) ≡ turn_cost phase
-cost-known Owes arrived counted = cc
-cost-known (Ran seg) arrived counted = grind (arith, nat_tests)
-cost-known Waits arrived counted = refl
 
 -- an arrival moves no process
 same-pid : (b : Bool) (p q : Process) → q.vpid ≡ p.vpid → (let x : Process = cond b q p in x.vpid) ≡ p.vpid
@@ -172,4 +154,4 @@ same-pid false p q is = refl
 pub pids-arrived : (vpid cost : ℕ) (ps : List Process) → pids (map (process_after_arrival vpid cost) ps) ≡ pids ps
 pids-arrived vpid cost [] = refl
 pids-arrived vpid cost (p ∷ ps) = λ i. same-pid (p.vpid == vpid) p
-    (record p { phase = as_queued.Arrived cost }) refl i ∷ pids-arrived vpid cost ps i
+    (record p { phase = as_queued.Ran cost }) refl i ∷ pids-arrived vpid cost ps i

@@ -7,7 +7,7 @@ use Rattle.dt_run.specs.Work.{Work, Works, with_segment}
 use Rattle.dt_run.specs.Turn.{State, Turn, is_ended_verdict, head_pid, turn}
 use Rattle.dt_run.specs.Run.{run_of_turns}
 
--- the segment of each process run that owes one
+-- a state in which each process has run the segment that it owed
 unfoldable pub with_all_segments : State → State
 with_all_segments s = record s { works = map_values with_segment s.works }
 
@@ -15,7 +15,7 @@ with_all_segments s = record s { works = map_values with_segment s.works }
 abbrev pub turn_with_all_segments : Turn → Turn
 turn_with_all_segments t = record t { next = with_all_segments t.next }
 
--- one process's segment run, where its part is at home and owes one
+-- the works with the segment of one process run, where its work is at home and owes one
 abbrev pub works_with_segment : Works → ℕ → Option Work → Works
 works_with_segment works p None = works
 works_with_segment works p (Some w) = insert works p (with_segment w)
@@ -48,7 +48,7 @@ pub record IsAway (s : State) (ws : Away) : Type 0 where
 
 -- the work of the queue's head is at home
 abbrev pub HasHead : State → Type 0
-HasHead s = (p : ℕ) → head_pid s.queue.order ≡ Some p → IsSome (get s.works p)
+HasHead s = (p : ℕ) → head_pid s.schedule.order ≡ Some p → IsSome (get s.works p)
 
 -- a turn after segments ran ahead is the turn, with equal events and verdict
 abbrev pub TurnAhead : Type 0
@@ -59,7 +59,7 @@ abbrev pub RanAhead : Type 0
 RanAhead = (p : ℕ) (s : State) → with_all_segments (with_segment_of p s) ≡ with_all_segments s
 
 -- a turn sees no machine of another process: with machines that were away it is the same turn, and they are as they
--- were
+-- were, unless all processes have ended
 abbrev pub TurnAway : Type 0
 TurnAway = (ws : Away) (s : State) → HasHead s → IsAway s ws → turn (state_with_works ws s) ≡ turn_with_works ws (turn s)
 

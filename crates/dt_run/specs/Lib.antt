@@ -1,7 +1,6 @@
 pub mod Failure
 pub mod HoldsTree
 pub mod Work
-pub mod Queue
 pub mod Turn
 pub mod Run
 pub mod Ahead

@@ -1,5 +1,5 @@
 -- A whole run: a function of the image, the command, the seed and the budget.
-use Rattle.std.specs.Prelude.{ℕ, zero, suc, ◌+◌, ◌==◌, List, [], ◌∷◌, ◌++◌, Option, Some, None, if◌then◌else◌}
+use Rattle.std.specs.Prelude.{◌≡◌, ℕ, zero, suc, ◌+◌, ◌==◌, List, [], ◌∷◌, ◌++◌, Option, Some, None, if◌then◌else◌}
 use Rattle.dt_base.specs.declared.image.Entry.{Entry}
 use Rattle.dt_base.specs.declared.event.End.{End}
 use Rattle.dt_base.specs.declared.event.End.TheVariants.{Code, Signal}
@@ -35,21 +35,25 @@ abbrev pub run_after_turn : Turn → Option Verdict → (State → Run) → Run
 run_after_turn t (Some verdict) rest = record { events = t.events; verdict = verdict; last = t.next.shared }
 run_after_turn t None rest = after_events t.events (rest t.next)
 
--- at most so many turns; after them the budget is spent
+-- at most so many turns, and then the verdict on the budget, which `run_of_turns` comes to by a turn
 unfoldable pub run_at_most : ℕ → State → Run
 run_at_most zero s = record { events = []; verdict = verdict.Budget; last = s.shared }
 run_at_most (suc most) s = let t = turn s in run_after_turn t t.verdict (run_at_most most)
 
 -- turns until a verdict: each costs at least 1, and one more than the budget finds it spent
 unfoldable pub run_of_turns : State → Run
-run_of_turns s = run_at_most (s.queue.left + 1) s
+run_of_turns s = run_at_most (s.schedule.left + 1) s
+
+-- a run is a turn and, unless that is the last one, the run from there
+abbrev pub RunByTurns : Type 0
+RunByTurns = (s : State) → let t = turn s in run_of_turns s ≡ run_after_turn t t.verdict run_of_turns
 
 -- a run that begins: each process whose machine is at home owes a segment, and the first has the first turn
 abbrev pub first_state : Container → ℕ → State
 first_state c budget = record {
   shared = c.shared;
   works = map_values owing_work c.machines;
-  queue = record { order = FIRST_PID ∷ []; blocked = 0; left = budget };
+  schedule = record { order = FIRST_PID ∷ []; blocked = 0; left = budget };
   next = c.next;
 }
 

@@ -9,16 +9,17 @@ use Rattle.dt_calls.specs.declared.container.Served.{Served}
 use Rattle.dt_calls.specs.declared.container.Served.TheVariants.{Done, Child, LastChild, Blocked, Progress, Ended, Unsupported}
 use Rattle.dt_calls.specs.Container.{Shared}
 use Rattle.dt_calls.specs.Settle.{ProcessTurn, turn_of_machine, next_after, with_own}
-use Rattle.dt_run.specs.declared.phase.Phase.{Phase}
-use Rattle.dt_run.specs.declared.phase.Phase.TheVariants.{Owes, Waits}
-use Rattle.dt_run.specs.Work.{Work, Works, owing_work, with_segment, turn_cost, stop_of}
-use Rattle.dt_run.specs.Queue.{Queue, settled_of, run_queue_after_turn, queue_verdict}
+use Rattle.dt_sched.specs.declared.settled.Settled.{Settled}
+use Rattle.dt_sched.specs.declared.settled.Settled.TheVariants as settled
+use Rattle.dt_sched.specs.Core.{phase_after_turn}
+use Rattle.dt_sched.specs.Order.{Schedule, schedule_after_turn, verdict_of_turn}
+use Rattle.dt_run.specs.Work.{Work, Works, Prepared, owing_work, prepared_of}
 
--- a run between two turns: what processes share, each one's work, the queue, and the pid that the next child gets
+-- a run between two turns: what processes share, each one's work, the schedule, and the pid that the next child gets
 pub record State : Type 0 where
   pub shared : Shared
   pub works : Works
-  pub queue : Queue
+  pub schedule : Schedule
   pub next : ℕ
 
 -- the state after a turn, what showed in it, and the verdict, where it is the last
@@ -27,57 +28,57 @@ pub record Turn : Type 0 where
   pub events : List Event
   pub verdict : Option Verdict
 
--- what a turn of one process comes to: what is shared and the queue then, its work, or none where it has ended, a
+-- what a turn of one process comes to: what is shared and the schedule then, its work, or none where it has ended, a
 -- child's machine, what shows, and the verdict, where there is one. The others' work has no part in it
 pub record Act : Type 0 where
   pub shared : Shared
-  pub queue : Queue
+  pub schedule : Schedule
   pub own : Option Work
   pub child : Option Machine
   pub events : List Event
   pub verdict : Option Verdict
 
--- where a process stands after its stop was served: where its call isn't supported it stays
-abbrev pub phase_after : Phase → Served → Phase
-phase_after phase Done = Owes
-phase_after phase (Child vpid) = Owes
-phase_after phase (LastChild vpid) = phase
-phase_after phase Blocked = Waits
-phase_after phase Progress = Waits
-phase_after phase Ended = phase
-phase_after phase (Unsupported number) = phase
+-- what the queue is told of a turn
+abbrev pub settled_of : Served → Settled
+settled_of Done = settled.Again
+settled_of (Child vpid) = settled.Child vpid
+settled_of (LastChild vpid) = settled.LastChild vpid
+settled_of Blocked = settled.Waits
+settled_of Progress = settled.Moved
+settled_of Ended = settled.Gone
+settled_of (Unsupported number) = settled.Stopped number
 
--- its work then, or none where it has ended
-abbrev pub own_work_after : Phase → Served → Option Machine → Option Work
-own_work_after phase served machine = option_map (λ m. record { machine = m; phase = phase_after phase served }) machine
+-- its work after its stop was served, or none where it has ended
+abbrev pub own_work_after : Work → Settled → Option Machine → Option Work
+own_work_after w turn machine = option_map (λ m. record { machine = m; phase = phase_after_turn w.phase turn }) machine
 
--- what becomes of the process and of the queue
-unfoldable pub act_of_turn : Queue → ℕ → Phase → ProcessTurn → Act
-act_of_turn q p phase r =
+-- what becomes of the process and of the schedule
+unfoldable pub act_of_turn : Schedule → ℕ → Work → ProcessTurn → Act
+act_of_turn q p w r =
     let t = settled_of r.served in
-    let to = run_queue_after_turn q p t in
+    let to = schedule_after_turn q p t in
     record {
       shared = r.shared;
-      queue = to;
-      own = own_work_after phase r.served r.own;
+      schedule = to;
+      own = own_work_after w t r.own;
       child = r.child;
       events = r.events;
-      verdict = queue_verdict to p t;
+      verdict = verdict_of_turn to p t;
     }
 
 -- a turn that was paid for: the stop is served, or a waiting call again
-unfoldable pub paid_act : Shared → Queue → ℕ → ℕ → Work → Act
-paid_act c q next p w = act_of_turn q p w.phase (turn_of_machine c next p (stop_of w.phase) w.machine)
+unfoldable pub paid_act : Shared → Schedule → ℕ → ℕ → Prepared → Act
+paid_act c q next p d = act_of_turn q p d.work (turn_of_machine c next p d.stop d.work.machine)
 
 -- the budget doesn't pay for the turn, and nothing of it happens
-abbrev pub unpaid_act : Shared → Queue → Work → Act
-unpaid_act c q w = record { shared = c; queue = q; own = Some w; child = None; events = []; verdict = Some verdict.Budget }
+abbrev pub unpaid_act : Shared → Schedule → Work → Act
+unpaid_act c q w = record { shared = c; schedule = q; own = Some w; child = None; events = []; verdict = Some verdict.Budget }
 
--- what a process does in its turn once its segment was run
-unfoldable pub act : Shared → Queue → ℕ → ℕ → Work → Act
-act c q next p w =
-    if nat_le (turn_cost w.phase) q.left then paid_act c (record q { left = q.left - turn_cost w.phase }) next p w
-    else unpaid_act c q w
+-- what a process does in its turn
+unfoldable pub act : Shared → Schedule → ℕ → ℕ → Prepared → Act
+act c q next p d =
+    if nat_le d.cost q.left then paid_act c (record q { left = q.left - d.cost }) next p d
+    else unpaid_act c q d.work
 
 -- whether all processes have ended
 abbrev pub is_ended_verdict : Option Verdict → Bool
@@ -103,22 +104,22 @@ turn_of_act s p a = record {
   next = record {
     shared = a.shared;
     works = works_after_act s.works p s.next a;
-    queue = a.queue;
+    schedule = a.schedule;
     next = next_after s.next a.child;
   };
   events = a.events;
   verdict = a.verdict;
 }
 
--- nobody stands in the queue, or the first of it has no work at home; no run comes here
+-- nobody stands in the order, or the first of it has no work at home; no run comes here, so that no verdict shows
 abbrev pub stuck_turn : State → Turn
 stuck_turn s = record { next = s; events = []; verdict = Some verdict.Deadlock }
 
--- the turn of a process whose work is at home: the segment that it owes is run, its cost is paid, and its stop is
--- served
+-- the turn of a process whose work is at home: the segment is run where it owes one and, if the budget pays for the cost,
+-- its stop is served
 abbrev pub turn_of_work : State → ℕ → Option Work → Turn
 turn_of_work s p None = stuck_turn s
-turn_of_work s p (Some w) = turn_of_act s p (act s.shared s.queue s.next p (with_segment w))
+turn_of_work s p (Some w) = turn_of_act s p (act s.shared s.schedule s.next p (prepared_of w))
 
 -- the turn of the process that stands first, if one does
 abbrev pub turn_of_head : State → Option ℕ → Turn
@@ -132,4 +133,4 @@ head_pid (p ∷ rest) = Some p
 
 -- a turn: that of the head of the queue
 unfoldable pub turn : State → Turn
-turn s = turn_of_head s (head_pid s.queue.order)
+turn s = turn_of_head s (head_pid s.schedule.order)

@@ -1,5 +1,11 @@
 // Laws of turns and runs: what the order in which segments are run cannot change.
 ghost use Rattle.dt_run.specs.Ahead.{TurnAhead, RanAhead, TurnAway, RunsAlike};
+ghost use Rattle.dt_run.specs.Run.{RunByTurns};
+
+/// A run is a turn and, unless that is the last one, the run from there.
+pub fn run_is_a_turn_and_the_run_from_there()
+    ensures { RunByTurns }
+{}
 
 /// A turn after segments ran ahead of it is the turn.
 pub fn turn_does_not_see_what_ran_ahead()

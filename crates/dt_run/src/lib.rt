@@ -7,7 +7,6 @@
 mod error;
 mod failure;
 mod laws;
-mod phase;
 mod run;
 mod state;
 pub mod status;
@@ -18,8 +17,9 @@ mod twice;
 pub use error::RunErr;
 pub use failure::Failure;
 pub use laws::{
-    running_ahead_again_changes_nothing, runs_do_not_see_what_ran_ahead,
-    turn_does_not_see_machines_that_are_away, turn_does_not_see_what_ran_ahead,
+    run_is_a_turn_and_the_run_from_there, running_ahead_again_changes_nothing,
+    runs_do_not_see_what_ran_ahead, turn_does_not_see_machines_that_are_away,
+    turn_does_not_see_what_ran_ahead,
 };
 pub use run::run_container;
 pub use top::{dettrace, write_failure};

@@ -1,51 +1,58 @@
 // A run between two turns, and the arrivals of segments that were run.
-ghost use Rattle.std.specs.Prelude.{◌≡◌, ◌<◌, length, IfOk, OnOk, IsErrOf};
-ghost use Rattle.std.specs.List.{slice_index_or};
-ghost use Rattle.std.specs.FinMap.{empty, get};
+ghost use Rattle.std.specs.Prelude.{◌≡◌, ◌<◌, length, Some, IsSome, IfOk, OnOk, IsErrOf};
+ghost use Rattle.std.specs.List.{Contains};
+ghost use Rattle.std.specs.FinMap.{empty, get, insert};
 ghost use Rattle.dt_host.specs.Cause.{HasCause};
 ghost use Rattle.dt_host.specs.World.{World};
-ghost use Rattle.dt_sched.specs.Core.{first_core, owing_vpids};
+ghost use Rattle.dt_procs.specs.declared.member.TheConstants.{FIRST_PID as FIRST};
+ghost use Rattle.dt_rv64.specs.declared.segments.Stop.TheVariants.{Slice};
+ghost use Rattle.dt_sched.specs.Core.{first_core, owing_vpids, IsCore};
 ghost use Rattle.dt_calls.specs.Sound.{IsSoundContainer};
 ghost use Rattle.dt_run.specs.Ahead.{with_all_segments, with_segment_of};
-ghost use Rattle.dt_run.specs.inner.InCode.{state_of, phase_in};
+ghost use Rattle.dt_run.specs.inner.InCode.{state_of};
 ghost use Rattle.dt_run.specs.inner.Good.{IsGood, steps_left};
 
-use crate::phase::Phase;
 use dt_base::NoMemory;
 use dt_calls::Container;
 use dt_host::{Host, HostErr};
+use dt_procs::FIRST_PID;
+use dt_rv64::Stop;
 use dt_sched::Core;
 use dt_tables::Numbered;
 use std::alloc::Global;
 
-/// A run between two turns: the container, the queue, and where each process stands that has run a segment.
+/// A run between two turns: the container, the queue, which knows where each process stands, and the stop of the last
+/// segment that each has run.
 #[derive(Drop)]
 pub struct State {
     pub container: Container,
     pub core: Core,
-    pub phases: Numbered<Phase>,
+    pub stops: Numbered<Stop>,
 }
 
 impl State {
     /// A run that begins, with a budget in steps.
     pub fn new(alloc: Global, container: Container, budget: u64) -> Result<Self, NoMemory>
-        ensures { IfOk result
-            (λ s. s ≡ record { container = container; core = first_core budget; phases = empty }) }
+        ensures { IfOk result (λ s. s
+            ≡ record { container = container; core = first_core budget; stops = insert empty FIRST Slice }) }
     {
+        let mut stops = Numbered::new(alloc);
+        stops.put(u64::from(FIRST_PID), Stop::Slice)?;
         Ok(State {
             container,
             core: Core::new(alloc, budget)?,
-            phases: Numbered::new(alloc),
+            stops,
         })
     }
 
-    /// Where a process stands.
-    pub fn phase(&self, vpid: u32) -> Phase
-        ensures { result ≡ phase_in (get self.now.phases vpid) }
+    /// The stop of the last segment that a process has run.
+    pub fn stop(&self, vpid: u32) -> Stop
+        requires { IsSome (get self.now.stops vpid) }
+        ensures { get self.now.stops vpid ≡ Some result }
     {
-        match self.phases.get(u64::from(vpid)) {
-            Some(phase) => *phase,
-            None => Phase::Owes,
+        match self.stops.get(u64::from(vpid)) {
+            Some(stop) => *stop,
+            None => unreachable!(),
         }
     }
 
@@ -62,26 +69,27 @@ impl State {
         ensures smaller { OnOk result (steps_left self.new.core < steps_left self.old.core) }
         ensures cause { HasCause (H.count host.old) (H.count host.new) (IsErrOf result HostErr.Failed) }
     {
-        let index = host.next_stop(self.core.owing())?;
-        Ok(self.arrive(index)?)
+        let owing = self.core.owing();
+        let index = host.next_stop(owing)?;
+        let vpid = owing[index];
+        Ok(self.arrive(vpid)?)
     }
 
-    // Runs a segment that is owed, by its process's index among those that owe one, and lets it arrive.
-    fn arrive(&mut self, index: usize) -> Result<(), NoMemory>
+    // Runs the segment that a process owes, and lets it arrive.
+    fn arrive(&mut self, vpid: u32) -> Result<(), NoMemory>
         requires good { IsGood self.old }
-        requires owing { index < length (owing_vpids self.old.core.queue) }
-        ensures ran { (w : World) → OnOk result (state_of self.new w
-            ≡ with_segment_of (slice_index_or (owing_vpids self.old.core.queue) index 0) (state_of self.old w)) }
+        requires core { IsCore self.old.core }
+        requires owing { Contains (owing_vpids self.old.core.queue) vpid }
+        ensures ran { (w : World) → OnOk result (state_of self.new w ≡ with_segment_of vpid (state_of self.old w)) }
         ensures good { OnOk result (IsGood self.new) }
         ensures sound { (w : World) → IsSoundContainer self.old.container w
             → OnOk result (IsSoundContainer self.new.container w) }
         ensures verdict { OnOk result (self.new.core.verdict ≡ self.old.core.verdict) }
         ensures smaller { OnOk result (steps_left self.new.core < steps_left self.old.core) }
     {
-        let vpid = self.core.owing()[index];
         let seg = self.container.run_segment(vpid)?;
-        self.phases.put(u64::from(vpid), Phase::Ran(seg))?;
-        self.core.arrived(index, seg.count);
+        self.stops.set(u64::from(vpid), seg.stop);
+        self.core.arrived(vpid, seg.count);
         Ok(())
     }
 }

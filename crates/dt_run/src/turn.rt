@@ -2,21 +2,18 @@
 ghost use Rattle.std.specs.Prelude.{◌≡◌, ◌<◌, Some, IsSome, IfOk, OnOk, IsErrOf};
 ghost use Rattle.std.specs.FinMap.{get};
 ghost use Rattle.dt_host.specs.Cause.{HasCause};
-ghost use Rattle.dt_sched.specs.Core.{head, IsCore};
+ghost use Rattle.dt_sched.specs.Core.{head, is_vpid_waiting, IsCore};
 ghost use Rattle.dt_sched.specs.declared.settled.Head.TheVariants.{Ready};
 ghost use Rattle.dt_calls.specs.InCode.{container_of, machines_at_home, container_turn_as};
 ghost use Rattle.dt_calls.specs.Settle.{turn_of_container};
 ghost use Rattle.dt_calls.specs.Sound.{IsSoundContainer};
-ghost use Rattle.dt_run.specs.Queue.{settled_of};
-ghost use Rattle.dt_run.specs.Turn.{turn};
-ghost use Rattle.dt_run.specs.Work.{stop_of};
-ghost use Rattle.dt_run.specs.inner.InCode.{state_of, turn_as, phase_in, phases_after};
+ghost use Rattle.dt_run.specs.Turn.{turn, settled_of};
+ghost use Rattle.dt_run.specs.inner.InCode.{state_of, turn_as, noted_stop, due_stop, stops_after};
 ghost use Rattle.dt_run.specs.inner.Good.{IsGood, steps_left};
 
-use crate::phase::Phase;
 use crate::state::State;
-use dt_base::Event;
-use dt_calls::{Container, Served};
+use dt_base::{Event, NoMemory};
+use dt_calls::Served;
 use dt_host::{Host, HostErr};
 use dt_rv64::Stop;
 use dt_sched::Settled;
@@ -36,49 +33,49 @@ impl State {
         ensures smaller { OnOk result (steps_left self.new.core < steps_left self.old.core) }
         ensures cause { HasCause (H.count host.old) (H.count host.new) (IsErrOf result HostErr.Failed) }
     {
-        let phase = self.phase(vpid);
-        let served = serve_phase(host, &mut self.container, vpid, phase)?;
-        note(&mut self.phases, vpid, served);
+        let served = self.serve(host, vpid)?;
+        note(&mut self.stops, vpid, served)?;
         self.core.settle(settled_of(served));
         Ok(self.container.take_events())
     }
-}
 
-// Serves the stop of the segment that a process ran, or again its call that waits or goes on.
-fn serve_phase<H: Host>(
-    host: &mut H,
-    container: &mut Container,
-    vpid: u32,
-    phase: Phase,
-) -> Result<Served, HostErr>
-    requires sound { IsSoundContainer container.old (H.view host.old) }
-    requires home { IsSome (get (machines_at_home container.old.places) vpid) }
-    ensures ok { IfOk result (λ served. turn_of_container (container_of container.old (H.view host.old)) vpid
-        (stop_of phase)
-        ≡ Some (container_turn_as (container_of container.new (H.view host.new)) served)) }
-    ensures sound { OnOk result (IsSoundContainer container.new (H.view host.new)) }
-    ensures cause { HasCause (H.count host.old) (H.count host.new) (IsErrOf result HostErr.Failed) }
-{
-    match phase {
-        Phase::Owes => container.serve(host, vpid, Stop::Slice),
-        Phase::Ran(seg) => container.serve(host, vpid, seg.stop),
-        Phase::Waits => container.retry(host, vpid),
+    // Serves the stop of the last segment that a process has run, or again its call that waits or goes on.
+    fn serve<H: Host>(&mut self, host: &mut H, vpid: u32) -> Result<Served, HostErr>
+        requires sound { IsSoundContainer self.old.container (H.view host.old) }
+        requires home { IsSome (get (machines_at_home self.old.container.places) vpid) }
+        requires noted { IsSome (get self.old.stops vpid) }
+        ensures ok { IfOk result (λ served.
+            turn_of_container (container_of self.old.container (H.view host.old)) vpid
+            (due_stop (is_vpid_waiting vpid self.old.core.queue) (noted_stop (get self.old.stops vpid)))
+            ≡ Some (container_turn_as (container_of self.new.container (H.view host.new)) served)) }
+        ensures rest { self.new ≡ record self.old { container = self.new.container } }
+        ensures sound { OnOk result (IsSoundContainer self.new.container (H.view host.new)) }
+        ensures cause { HasCause (H.count host.old) (H.count host.new) (IsErrOf result HostErr.Failed) }
+    {
+        if self.core.waits(vpid) {
+            return self.container.retry(host, vpid);
+        }
+        let stop = self.stop(vpid);
+        self.container.serve(host, vpid, stop)
     }
 }
 
-// Notes where a process stands after its stop was served.
-fn note(phases: &mut Numbered<Phase>, vpid: u32, served: Served)
-    requires { IsSome (get phases.old vpid) }
-    ensures { phases.new ≡ phases_after phases.old vpid served }
+// Notes what came of a process: a child has run no segment, and one that has ended runs none any more.
+fn note(stops: &mut Numbered<Stop>, vpid: u32, served: Served) -> Result<(), NoMemory>
+    ensures { OnOk result (stops.new ≡ stops_after stops.old vpid served) }
 {
     match served {
-        Served::Done | Served::Child(_) => phases.set(u64::from(vpid), Phase::Owes),
-        Served::Blocked | Served::Progress => phases.set(u64::from(vpid), Phase::Waits),
-        Served::LastChild(_) | Served::Ended => {
-            phases.take(u64::from(vpid));
+        Served::Child(child) => stops.put(u64::from(child), Stop::Slice)?,
+        Served::LastChild(child) => {
+            stops.take(u64::from(vpid));
+            stops.put(u64::from(child), Stop::Slice)?;
         }
-        Served::Unsupported(_) => {}
+        Served::Ended => {
+            stops.take(u64::from(vpid));
+        }
+        Served::Done | Served::Blocked | Served::Progress | Served::Unsupported(_) => {}
     }
+    Ok(())
 }
 
 // What the queue is told of a turn.

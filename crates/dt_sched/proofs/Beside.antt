@@ -6,8 +6,9 @@ use Rattle.dt_sched.specs.declared.process.Process.{Process}
 use Rattle.dt_sched.specs.declared.process.Phase.TheVariants.{Waits as PhaseWaits}
 use Rattle.dt_sched.specs.declared.settled.Settled.{Settled}
 use Rattle.dt_sched.specs.declared.settled.Settled.TheVariants.{Again, Child, LastChild, Waits as Blocked, Moved, Gone, Stopped}
-use Rattle.dt_sched.specs.Core.{CoreView, process_after_arrival, core_after_arrival, cost_of, owing_process, queue_after_turn_of, blocked_after, verdict_after, core_after_turn_of, core_after_turn}
+use Rattle.dt_sched.specs.Core.{CoreView, process_after_arrival, core_after_arrival, cost_of, owing_process, processes_after_turn, core_after_turn_of, core_after_turn}
 use Rattle.dt_sched.specs.Laws.{HasNoChild}
+use Rattle.dt_sched.specs.Order.{blocked_after, verdict_after}
 
 module _ (vpid cost : ℕ) where
   abbrev at : Process → Process
@@ -29,7 +30,7 @@ module _ (vpid cost : ℕ) where
   ended false xs ys is = is
 
   queue-beside : (p : Process) (rest : List Process) (turn : Settled) → p.vpid ≢ vpid → HasNoChild vpid turn
-      → map at (queue_after_turn_of p rest turn) ≡ queue_after_turn_of p (map at rest) turn
+      → map at (processes_after_turn p rest turn) ≡ processes_after_turn p (map at rest) turn
   queue-beside p rest Again apart none = one-behind rest (owing_process p.vpid) apart
   queue-beside p rest (Child child) apart none = two-behind rest (owing_process p.vpid) (owing_process child) apart none
   queue-beside p rest (LastChild child) apart none = ended (p.vpid == 1) _ _ (one-behind rest (owing_process child) none)
@@ -42,7 +43,7 @@ module _ (vpid cost : ℕ) where
       → core_after_arrival vpid cost (core_after_turn_of core (p ∷ ps) turn) ≡ core_after_turn_of (core_after_arrival vpid cost core) (map at (p ∷ ps)) turn
   settled-beside core p ps turn apart none =
       let queue = queue-beside p ps turn apart none in
-      let count = sym (length-map (queue_after_turn_of p ps turn) at) ∙ ap length queue in
+      let count = sym (length-map (processes_after_turn p ps turn) at) ∙ ap length queue in
       (λ i. record {
         queue = queue i;
         blocked = blocked_after core.blocked turn;

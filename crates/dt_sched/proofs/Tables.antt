@@ -7,12 +7,13 @@ use Rattle.std.specs.List.{filter}
 use Rattle.dt_sched.specs.declared.queue.TheConstants.{QUEUE_LIMIT}
 use Rattle.dt_sched.specs.declared.settled.Head.TheVariants.{Ready, Over}
 use Rattle.dt_base.specs.declared.event.Verdict.{Verdict}
-use Rattle.dt_sched.specs.inner.Queue.{IsQueue, owing_indices, indices_without_head, first_process, has_ready_head, queue_after_turn}
+use Rattle.dt_sched.specs.inner.Queue.{IsQueue, owing_indices, indices_without_head, first_process, has_ready_head, after_turn_of_head}
 use Rattle.dt_sched.specs.declared.process.Process.{Process}
-use Rattle.dt_sched.specs.declared.process.Phase.TheVariants.{Arrived}
+use Rattle.dt_sched.specs.declared.process.Phase.TheVariants.{Ran}
 use Rattle.dt_sched.specs.declared.settled.Settled.{Settled}
 use Rattle.dt_sched.specs.declared.settled.Settled.TheVariants.{Again, Child, LastChild, Waits as Blocked, Moved, Gone, Stopped}
-use Rattle.dt_sched.specs.Core.{is_queued, is_distinct, owing_vpids, is_owing, is_vpid_waiting, process_after_arrival, queue_after_turn_of, blocked_after, verdict_after, IsOngoing, CoreView, IsReady, head_unless_over, is_segment_count, have_segment_counts}
+use Rattle.dt_sched.specs.Core.{is_queued, is_distinct, owing_vpids, is_owing, is_vpid_waiting, process_after_arrival, processes_after_turn, IsOngoing, CoreView, IsReady, head_unless_over, is_segment_count, have_segment_counts}
+use Rattle.dt_sched.specs.Order.{blocked_after, verdict_after}
 
 -- two arrivals at one process
 pub arrived_at-twice : (p q first second : ℕ) (x : Process) → p ≢ q
@@ -83,7 +84,7 @@ holds-index vpid (suc k) (x ∷ xs) d within is = grind (arith, nat_tests, holds
 -- the process at an index gets its cost, and the others stay
 pub arrived-index : (vpid cost k : ℕ) (xs : List Process) (p q : Process) → k < length xs → IsTrue (is_distinct xs)
     → p ≡ get_or xs k p → q ≡ get_or xs k q → p.vpid ≡ vpid
-    → slice_set xs k (record { vpid = q.vpid; phase = Arrived cost }) ≡ map (process_after_arrival vpid cost) xs
+    → slice_set xs k (record { vpid = q.vpid; phase = Ran cost }) ≡ map (process_after_arrival vpid cost) xs
 arrived-index vpid cost k [] p q within each here there is = absurd (omega arith)
 arrived-index vpid cost zero (x ∷ xs) p q within each here there is = grind (arith, nat_tests, absent-arrived vpid cost xs)
 arrived-index vpid cost (suc k) (x ∷ xs) p q within each here there is =
@@ -181,8 +182,8 @@ stands first n (x ∷ xs) d e within = stands-by first n x xs d e (is_owing x.ph
 owing-held : (n : ℕ) (xs : List Process) (e : ℕ) → n < length (owing_vpids xs) → is_queued (get_or (owing_vpids xs) n e) xs ≡ true
 owing-held n xs e within =
     let h = stands 0 n xs 0 e within in
-    holds-index (get_or (owing_vpids xs) n e) h.behind xs (record { vpid = 0; phase = Arrived 0 }) h.within
-    (h.there (record { vpid = 0; phase = Arrived 0 }))
+    holds-index (get_or (owing_vpids xs) n e) h.behind xs (record { vpid = 0; phase = Ran 0 }) h.within
+    (h.there (record { vpid = 0; phase = Ran 0 }))
 
 removed-by : (first n cost e : ℕ) (x : Process) (xs : List Process) (b : Bool) → is_owing x.phase ≡ b
     → is_queued x.vpid xs ≡ false → n < length (cond b (x.vpid ∷ owing_vpids xs) (owing_vpids xs))
@@ -229,7 +230,7 @@ place-there n place xs queue owed indices table same within is =
 pub arrived-there : (n place cost : ℕ) (xs queue : List Process) (owed indices : List ℕ) (q : Process)
     → IsQueue xs owed indices → xs ≡ queue → n < length (owing_vpids queue) → place ≡ get_or indices n place
     → q ≡ get_or xs place q
-    → slice_set xs place (record { vpid = q.vpid; phase = Arrived cost }) ≡ map (process_after_arrival (get_or (owing_vpids xs) n 0) cost) xs
+    → slice_set xs place (record { vpid = q.vpid; phase = Ran cost }) ≡ map (process_after_arrival (get_or (owing_vpids xs) n 0) cost) xs
 arrived-there n place cost xs queue owed indices q table same within is here =
     let h = place-there n place xs queue owed indices table same within is in
     let at : place ≡ h.behind = omega (arith, h.is) in
@@ -306,8 +307,8 @@ table-push xs queue ys x index owed more indices others table same new fits last
 
 -- process 1 lives on where there is no verdict
 pub first-after : (p : Process) (rest : List Process) (blocked : ℕ) (turn : Settled) → IsTrue (is_queued 1 (p ∷ rest))
-    → verdict_after p.vpid (blocked_after blocked turn) (length (queue_after_turn_of p rest turn)) turn ≡ None
-    → IsTrue (is_queued 1 (queue_after_turn_of p rest turn))
+    → verdict_after p.vpid (blocked_after blocked turn) (length (processes_after_turn p rest turn)) turn ≡ None
+    → IsTrue (is_queued 1 (processes_after_turn p rest turn))
 first-after p rest blocked Again first none = grind (arith, nat_tests, holds-append)
 first-after p rest blocked (Child child) first none = grind (arith, nat_tests, holds-append)
 first-after p rest blocked (LastChild child) first none = grind (arith, nat_tests, holds-append)
@@ -324,8 +325,8 @@ some vpid (x ∷ xs) held = grind arith
 -- fewer turns in a row were blocked than there are processes where there is no verdict
 pub fewer-after : (p : Process) (rest : List Process) (blocked : ℕ) (turn : Settled)
     → IsTrue (is_queued 1 (p ∷ rest)) → blocked < length (p ∷ rest)
-    → verdict_after p.vpid (blocked_after blocked turn) (length (queue_after_turn_of p rest turn)) turn ≡ None
-    → blocked_after blocked turn < length (queue_after_turn_of p rest turn)
+    → verdict_after p.vpid (blocked_after blocked turn) (length (processes_after_turn p rest turn)) turn ≡ None
+    → blocked_after blocked turn < length (processes_after_turn p rest turn)
 fewer-after p rest blocked Again first below none = grind (arith, nat_tests, length-append {A = Process}, some)
 fewer-after p rest blocked (Child child) first below none = grind (
   arith,
@@ -360,12 +361,12 @@ none-ready (Some v) left queue ready = let e : Over v ≡ Ready ready.0 = ready.
 
 going-at : (xs : List Process) (before : ℕ) (new : CoreView) (p : Process) (turn : Settled)
     → first_process xs ≡ Some p → IsTrue (is_queued 1 xs)
-    → before < length xs → new.queue ≡ queue_after_turn xs turn → new.blocked ≡ blocked_after before turn
+    → before < length xs → new.queue ≡ after_turn_of_head xs turn → new.blocked ≡ blocked_after before turn
     → verdict_after p.vpid new.blocked (length new.queue) turn ≡ None → IsOngoing new
 going-at [] before new p turn first held below queue blocked none = absurd (omega arith)
 going-at (x ∷ rest) before new p turn first held below queue blocked none =
     let same : x ≡ p = cc in
-    let ended : verdict_after x.vpid (blocked_after before turn) (length (queue_after_turn_of x rest turn)) turn ≡ None = rw (← blocked, ← queue, same) none in
+    let ended : verdict_after x.vpid (blocked_after before turn) (length (processes_after_turn x rest turn)) turn ≡ None = rw (← blocked, ← queue, same) none in
     record {
       first = rw queue (first-after x rest before turn held ended);
       blocked = rw (blocked, queue) (fewer-after x rest before turn held below ended);
@@ -373,7 +374,7 @@ going-at (x ∷ rest) before new p turn first held below queue blocked none =
 
 -- the run goes on where there is no verdict
 pub going-after : (old new : CoreView) (p : Process) (turn : Settled) → first_process old.queue ≡ Some p → IsOngoing old
-    → new.queue ≡ queue_after_turn old.queue turn → new.blocked ≡ blocked_after old.blocked turn
+    → new.queue ≡ after_turn_of_head old.queue turn → new.blocked ≡ blocked_after old.blocked turn
     → new.verdict ≡ verdict_after p.vpid new.blocked (length new.queue) turn → new.verdict ≡ None → IsOngoing new
 going-after old new p turn first going queue blocked verdict none =
     going-at old.queue old.blocked new p turn first going.first going.blocked queue blocked (sym verdict ∙ none)
@@ -389,7 +390,7 @@ counted-append [] ys = refl
 counted-append (x ∷ xs) ys = grind (arith, counted-append xs ys)
 
 pub counted-after : (p : Process) (rest : List Process) (turn : Settled) → IsTrue (have_segment_counts (p ∷ rest))
-    → IsTrue (have_segment_counts (queue_after_turn_of p rest turn))
+    → IsTrue (have_segment_counts (processes_after_turn p rest turn))
 counted-after p rest Again all = grind (arith, nat_tests, counted-append)
 counted-after p rest (Child child) all = grind (arith, nat_tests, counted-append)
 counted-after p rest (LastChild child) all = grind (arith, nat_tests, counted-append)
@@ -399,6 +400,6 @@ counted-after p rest Gone all = grind (arith, nat_tests, counted-append)
 counted-after p rest (Stopped number) all = grind (arith, nat_tests, counted-append)
 
 pub counted-settled : (xs new : List Process) (turn : Settled) → IsTrue (have_segment_counts xs)
-    → new ≡ queue_after_turn xs turn → IsTrue (have_segment_counts new)
+    → new ≡ after_turn_of_head xs turn → IsTrue (have_segment_counts new)
 counted-settled [] new turn all same = rw same all
 counted-settled (x ∷ rest) new turn all same = rw same (counted-after x rest turn all)

@@ -1,16 +1,17 @@
 -- The queue of live processes, and what each call makes of it.
-use Rattle.std.specs.Prelude.{ℕ, ◌≡◌, ◌+◌, ◌-◌, ◌<◌, ◌≤◌, ◌==◌, Bool, true, false, not, ◌&&◌, ◌||◌, List, [], ◌∷◌, ◌++◌, map, length, nat_le, nat_lt, Option, Some, None, IsTrue, if◌then◌else◌}
+use Rattle.std.specs.Prelude.{ℕ, ◌≡◌, ◌-◌, ◌<◌, ◌≤◌, ◌==◌, Bool, true, false, not, ◌&&◌, ◌||◌, List, [], ◌∷◌, map, length, nat_le, nat_lt, Option, Some, None, IsTrue, if◌then◌else◌}
 use Rattle.dt_base.specs.declared.event.Verdict.{Verdict}
-use Rattle.dt_base.specs.declared.event.Verdict.TheVariants.{Ended, Deadlock, Budget, Unsupported}
+use Rattle.dt_base.specs.declared.event.Verdict.TheVariants.{Ended, Budget}
 use Rattle.dt_base.specs.declared.limits.TheConstants.{SEGMENT_LIMIT}
 use Rattle.dt_sched.specs.declared.queue.TheConstants.{QUEUE_LIMIT}
 use Rattle.dt_sched.specs.declared.process.Process.{Process}
 use Rattle.dt_sched.specs.declared.process.Phase.{Phase}
-use Rattle.dt_sched.specs.declared.process.Phase.TheVariants.{Owes, Arrived, Waits}
+use Rattle.dt_sched.specs.declared.process.Phase.TheVariants.{Owes, Ran, Waits}
 use Rattle.dt_sched.specs.declared.settled.Head.{Head}
 use Rattle.dt_sched.specs.declared.settled.Head.TheVariants.{NotArrived, Ready, Over}
 use Rattle.dt_sched.specs.declared.settled.Settled.{Settled}
 use Rattle.dt_sched.specs.declared.settled.Settled.TheVariants.{Again, Child, LastChild, Waits as Blocked, Moved, Gone, Stopped}
+use Rattle.dt_sched.specs.Order.{order_after_turn, blocked_after, verdict_after}
 
 -- the live processes in the order of their turns, the blocked turns in a row, the budget left, and the verdict with
 -- which a turn ended the run, if one did
@@ -43,15 +44,15 @@ is_distinct [] = true
 is_distinct (p ∷ ps) = not (is_queued p.vpid ps) && is_distinct ps
 
 -- the segment has not arrived
-abbrev pub is_owing : Phase → Bool
+abbrev pub is_owing : {S : Type 0} → Phase S → Bool
 is_owing Owes = true
-is_owing (Arrived cost) = false
+is_owing (Ran count) = false
 is_owing Waits = false
 
 -- the call is tried again without a segment
-abbrev pub is_waiting : Phase → Bool
+abbrev pub is_waiting : {S : Type 0} → Phase S → Bool
 is_waiting Owes = false
-is_waiting (Arrived cost) = false
+is_waiting (Ran count) = false
 is_waiting Waits = true
 
 -- the processes whose segment has not arrived, in queue order
@@ -66,7 +67,7 @@ is_vpid_waiting vpid (p ∷ ps) = ((p.vpid == vpid) && is_waiting p.phase) || is
 
 -- a process with its cost, if it is the one whose segment arrives
 abbrev pub process_after_arrival : ℕ → ℕ → Process → Process
-process_after_arrival vpid cost p = if p.vpid == vpid then record p { phase = Arrived cost } else p
+process_after_arrival vpid cost p = if p.vpid == vpid then record p { phase = Ran cost } else p
 
 -- an arrival gives the process its cost, and charges nothing
 abbrev pub core_after_arrival : ℕ → ℕ → CoreView → CoreView
@@ -74,19 +75,19 @@ core_after_arrival vpid cost core = record core { queue = map (process_after_arr
 
 -- what a turn costs: the count of its segment, or 1 where a call is tried again; 0 stands for a cost that is not
 -- known yet
-abbrev pub cost_of : Phase → ℕ
+abbrev pub cost_of : Phase ℕ → ℕ
 cost_of Owes = 0
-cost_of (Arrived cost) = cost
+cost_of (Ran count) = count
 cost_of Waits = 1
 
 -- the count of a segment is 1 to 65,536
 abbrev pub is_segment_count : ℕ → Bool
-is_segment_count cost = nat_le 1 cost && nat_le cost SEGMENT_LIMIT
+is_segment_count count = nat_le 1 count && nat_le count SEGMENT_LIMIT
 
 -- a segment that has arrived has such a count
-abbrev pub has_segment_count : Phase → Bool
+abbrev pub has_segment_count : Phase ℕ → Bool
 has_segment_count Owes = true
-has_segment_count (Arrived cost) = is_segment_count cost
+has_segment_count (Ran count) = is_segment_count count
 has_segment_count Waits = true
 
 -- likewise all segments of the queue
@@ -116,48 +117,30 @@ head core = head_unless_over core.verdict core.left core.queue
 abbrev pub IsReady : Head → Type 0
 IsReady head = (vpid : ℕ) × (head ≡ Ready vpid)
 
--- at the end of process 1 no process lives any more, at the end of another one these do
-abbrev pub queue_after_end : Process → List Process → List Process
-queue_after_end p others = if p.vpid == 1 then [] else others
+-- where a process stands after its turn, by how it stood once the turn's cost was known: at an unsupported call it stays so.
+-- Of one that has ended this is never asked
+abbrev pub phase_after_turn : {S : Type 0} → Phase S → Settled → Phase S
+phase_after_turn phase Again = Owes
+phase_after_turn phase (Child child) = Owes
+phase_after_turn phase (LastChild child) = phase
+phase_after_turn phase Blocked = Waits
+phase_after_turn phase Moved = Waits
+phase_after_turn phase Gone = phase
+phase_after_turn phase (Stopped number) = phase
 
--- a process that lives goes to the tail; then a child goes to the tail, also where its parent has ended but for
--- process 1; at an unsupported call all stays
-abbrev pub queue_after_turn_of : Process → List Process → Settled → List Process
-queue_after_turn_of p rest Again = rest ++ owing_process p.vpid ∷ []
-queue_after_turn_of p rest (Child child) = rest ++ owing_process p.vpid ∷ owing_process child ∷ []
-queue_after_turn_of p rest (LastChild child) = queue_after_end p (rest ++ owing_process child ∷ [])
-queue_after_turn_of p rest Blocked = rest ++ record p { phase = Waits } ∷ []
-queue_after_turn_of p rest Moved = rest ++ record p { phase = Waits } ∷ []
-queue_after_turn_of p rest Gone = queue_after_end p rest
-queue_after_turn_of p rest (Stopped number) = p ∷ rest
+-- a process after its turn
+abbrev pub process_after_turn : Process → Settled → Process
+process_after_turn p turn = record p { phase = phase_after_turn p.phase turn }
 
--- a blocked turn is one more in a row; any other turn sets the count to 0, and where the run ends at an unsupported
--- call it stays
-abbrev pub blocked_after : ℕ → Settled → ℕ
-blocked_after blocked Again = 0
-blocked_after blocked (Child child) = 0
-blocked_after blocked (LastChild child) = 0
-blocked_after blocked Blocked = blocked + 1
-blocked_after blocked Moved = 0
-blocked_after blocked Gone = 0
-blocked_after blocked (Stopped number) = blocked
-
--- the verdict is Ended at the end of process 1, Deadlock where the blocked turns in a row are as many as the live
--- processes, and Unsupported at a call that is not there
-abbrev pub verdict_after : ℕ → ℕ → ℕ → Settled → Option Verdict
-verdict_after vpid blocked count Again = None
-verdict_after vpid blocked count (Child child) = None
-verdict_after vpid blocked count (LastChild child) = if vpid == 1 then Some Ended else None
-verdict_after vpid blocked count Blocked = if blocked == count then Some Deadlock else None
-verdict_after vpid blocked count Moved = None
-verdict_after vpid blocked count Gone = if vpid == 1 then Some Ended else None
-verdict_after vpid blocked count (Stopped number) = Some (Unsupported vpid number)
+-- the processes after a turn of the first of them
+abbrev pub processes_after_turn : Process → List Process → Settled → List Process
+processes_after_turn p rest turn = order_after_turn p.vpid p (process_after_turn p turn) owing_process rest turn
 
 -- with no head nothing changes, and no turn is ready
 abbrev pub core_after_turn_of : CoreView → List Process → Settled → CoreView
 core_after_turn_of core [] turn = core
 core_after_turn_of core (p ∷ rest) turn =
-    let queue = queue_after_turn_of p rest turn in
+    let queue = processes_after_turn p rest turn in
     let blocked = blocked_after core.blocked turn in
     record {
       queue = queue;

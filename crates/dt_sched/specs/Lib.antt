@@ -1,3 +1,4 @@
+pub mod Order
 pub mod Core
 pub mod Laws
 pub mod inner

@@ -1,12 +1,13 @@
 // A process as the queue knows it.
 
-/// What a process's next turn waits for, or begins with.
+/// Where a live process stands between its turns, with what is known of a segment that was run. The queue knows its
+/// count of steps; the definition of a run also knows why it stopped.
 #[derive(Clone, Copy, Debug)]
-pub enum Phase {
+pub enum Phase<S> {
     /// It owes a segment.
     Owes,
-    /// Its segment has arrived, with its cost in instructions.
-    Arrived(u32),
+    /// Its segment was run.
+    Ran(S),
     /// Its call is tried again, without a segment.
     Waits,
 }
@@ -15,5 +16,5 @@ pub enum Phase {
 #[derive(Clone, Copy, Debug)]
 pub struct Process {
     pub vpid: u32,
-    pub phase: Phase,
+    pub phase: Phase<u32>,
 }

@@ -1,11 +1,11 @@
 // The live processes in the order of their turns, in a table that is made once.
 ghost use Rattle.std.specs.Prelude.{◌≡◌, ◌<◌, ◌≤◌, ◌++◌, ◌∷◌, [], IfOk, IsTrue, false, length, vec_len, vec_capacity};
 ghost use Rattle.std.specs.Prelude.{map, if◌then◌else◌, ◌==◌};
-ghost use Rattle.std.specs.List.{slice_index_or};
+ghost use Rattle.std.specs.List.{Contains, slice_index_or};
 ghost use Rattle.dt_sched.specs.Core.{owing_process, is_queued, is_distinct, owing_vpids, is_vpid_waiting};
 ghost use Rattle.dt_sched.specs.Core.{process_after_arrival, is_owing, is_waiting, has_room};
 ghost use Rattle.dt_sched.specs.declared.queue.TheConstants.{QUEUE_LIMIT};
-ghost use Rattle.dt_sched.specs.inner.Queue.{first_process, has_ready_head, queue_after_turn, indices_without_head};
+ghost use Rattle.dt_sched.specs.inner.Queue.{first_process, has_ready_head, after_turn_of_head, indices_without_head};
 ghost use Rattle.dt_sched.specs.inner.Queue.{owing_indices};
 
 use crate::process::{Phase, Process};
@@ -18,7 +18,7 @@ use std::marker::Model;
 /// How many processes a queue has room for.
 pub const QUEUE_LIMIT: usize = 64;
 
-impl Phase {
+impl Phase<u32> {
     /// Whether its process owes a segment that has not arrived.
     pub fn is_owing(self) -> bool
         ensures { result ≡ is_owing self }
@@ -69,6 +69,18 @@ fn waits(processes: &[Process], vpid: u32) -> bool
         }
     }
     false
+}
+
+// Where a virtual pid stands first among these, one of which it is.
+fn index_of(vpids: &[u32], vpid: u32) -> usize
+    requires { Contains vpids.now vpid }
+    ensures within { result < length vpids.now }
+    ensures there { slice_index_or vpids.now result 0 ≡ vpid }
+{
+    match vpids.iter().position(|other| *other == vpid) {
+        Some(index) => index,
+        None => unreachable!(),
+    }
 }
 
 // Takes one off each index, as the head goes.
@@ -161,14 +173,23 @@ impl Queue {
         waits(first, vpid) || waits(second, vpid)
     }
 
-    /// Lets the segment of the process at an index of `owing` arrive, with its cost in instructions.
-    pub fn arrived(&mut self, index: usize, cost: u32)
+    /// Lets the segment of a process arrive, which owes one, with its cost in instructions.
+    pub fn arrived(&mut self, vpid: u32, cost: u32)
+        requires { Contains (owing_vpids self.old) vpid }
+        ensures { self.new ≡ map (process_after_arrival vpid cost) self.old }
+    {
+        let index = index_of(self.owing(), vpid);
+        self.arrived_at(index, cost);
+    }
+
+    // Lets the segment of the process at an index of `owing` arrive.
+    fn arrived_at(&mut self, index: usize, cost: u32)
         requires { index < length (owing_vpids self.old) }
         ensures { self.new ≡ map (process_after_arrival (slice_index_or (owing_vpids self.old) index 0) cost) self.old }
     {
         let at = self.indices.remove(index);
         self.owed.remove(index);
-        self.processes[at].phase = Phase::Arrived(cost);
+        self.processes[at].phase = Phase::Ran(cost);
     }
 
     // Takes the head away, whose segment has arrived.
@@ -187,7 +208,7 @@ impl Queue {
 
     // Puts a process at the tail.
     #[tactic(auto, using(crate::proofs::Tables::at_the_tail))]
-    fn add(&mut self, vpid: u32, phase: Phase)
+    fn add(&mut self, vpid: u32, phase: Phase<u32>)
         requires apart { is_queued vpid self.old ≡ false }
         requires room { length self.old < QUEUE_LIMIT }
         ensures { self.new ≡ self.old ++ record { vpid = vpid; phase = phase } ∷ [] }
@@ -224,7 +245,7 @@ impl Queue {
     pub fn settle(&mut self, turn: Settled)
         requires ready { IsTrue (has_ready_head self.old) }
         requires room { IsTrue (has_room self.old turn) }
-        ensures { self.new ≡ queue_after_turn self.old turn }
+        ensures { self.new ≡ after_turn_of_head self.old turn }
     {
         if matches!(turn, Settled::Stopped(_)) {
             return;

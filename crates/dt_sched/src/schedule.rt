@@ -1,10 +1,11 @@
 // The queue with the budget, the blocked turns in a row and the verdict.
 ghost use Rattle.std.specs.Prelude.{◌≡◌, ◌<◌, ◌≤◌, IfOk, IsTrue, true, length};
-ghost use Rattle.std.specs.List.{slice_index_or};
+ghost use Rattle.std.specs.List.{Contains};
 ghost use Rattle.dt_sched.specs.declared.queue.TheConstants.{QUEUE_LIMIT};
 ghost use Rattle.dt_sched.specs.Core.{first_core, owing_vpids, is_vpid_waiting, core_after_arrival, cost_of, head};
 ghost use Rattle.dt_sched.specs.Core.{IsReady, core_after_turn, has_room};
-ghost use Rattle.dt_sched.specs.Core.{is_segment_count, blocked_after, verdict_after, IsCore};
+ghost use Rattle.dt_sched.specs.Core.{is_segment_count, IsCore};
+ghost use Rattle.dt_sched.specs.Order.{blocked_after, verdict_after};
 ghost use Rattle.dt_sched.specs.Laws.{ArrivalsCommute, ArrivalBesideTurn, HeadStays};
 
 use crate::process::{Phase, Process};
@@ -33,14 +34,14 @@ impl Model for Core {
     ghost invariant = { λ c. IsCore (core_of c.queue c.blocked c.left c.verdict) };
 }
 
-impl Phase {
+impl Phase<u32> {
     // What a turn costs, in instructions.
     fn cost(self) -> u64
         ensures { result ≡ cost_of self }
     {
         match self {
             Phase::Owes => 0,
-            Phase::Arrived(cost) => u64::from(cost),
+            Phase::Ran(count) => u64::from(count),
             Phase::Waits => 1,
         }
     }
@@ -101,14 +102,13 @@ impl Core {
         self.queue.owing()
     }
 
-    /// The segment of the process at this index of `owing` arrives, with its cost of 1 to 65,536 instructions; nothing
-    /// is charged.
-    pub fn arrived(&mut self, index: usize, cost: u32)
-        requires owing { index < length (owing_vpids self.old.queue) }
+    /// The segment of a process arrives, which owes one, with its cost of 1 to 65,536 instructions; nothing is charged.
+    pub fn arrived(&mut self, vpid: u32, cost: u32)
+        requires owing { Contains (owing_vpids self.old.queue) vpid }
         requires count { IsTrue (is_segment_count cost) }
-        ensures { self.new ≡ core_after_arrival (slice_index_or (owing_vpids self.old.queue) index 0) cost self.old }
+        ensures { self.new ≡ core_after_arrival vpid cost self.old }
     {
-        self.queue.arrived(index, cost);
+        self.queue.arrived(vpid, cost);
     }
 
     /// What can be done next: over where there is a verdict, or where the head's turn costs more than is left of the

@@ -1,6 +1,6 @@
 //! Images, the texts of a report and the words of the command line.
 
-mod folder;
+pub mod folder;
 mod images;
 mod limits;
 mod reports;

@@ -5,7 +5,7 @@ use Rattle.std.proofs.lemmas.List.{length-map}
 use Rattle.dt_sched.specs.declared.process.Process.{Process}
 use Rattle.dt_sched.specs.declared.settled.Settled.{Settled}
 use Rattle.dt_sched.specs.declared.settled.Settled.TheVariants.{Again, Child, LastChild, Waits, Moved, Gone, Stopped}
-use Rattle.dt_sched.specs.Core.{is_queued, process_after_arrival, has_room, queue_after_turn_of, CoreView, core_after_turn, core_after_turn_of, core_after_arrival}
+use Rattle.dt_sched.specs.Core.{is_queued, process_after_arrival, has_room, processes_after_turn, CoreView, core_after_turn, core_after_turn_of, core_after_arrival}
 use Rattle.dt_tests_parts.specs.Below.{Below, all_below, gives, next_after}
 
 pub holds-below : (next : ℕ) (xs : List Process) → IsTrue (all_below next xs) → is_queued next xs ≡ false
@@ -39,7 +39,7 @@ room-below next xs (Stopped number) below given = grind (arith, nat_tests, holds
 
 pub all-after : (next : ℕ) (p : Process) (rest : List Process) (turn : Settled)
     → IsTrue (all_below next (p ∷ rest)) → IsTrue (gives next turn)
-    → IsTrue (all_below (next_after next turn) (queue_after_turn_of p rest turn))
+    → IsTrue (all_below (next_after next turn) (processes_after_turn p rest turn))
 all-after next p rest Again below given = grind (arith, nat_tests, below-append, below-next)
 all-after next p rest (Child child) below given = grind (arith, nat_tests, below-append, below-next)
 all-after next p rest (LastChild child) below given = grind (arith, nat_tests, below-append, below-next)
@@ -49,7 +49,7 @@ all-after next p rest Gone below given = grind (arith, nat_tests, below-append, 
 all-after next p rest (Stopped number) below given = grind (arith, nat_tests, below-append, below-next)
 
 pub fewer-after : (next : ℕ) (p : Process) (rest : List Process) (turn : Settled) → length (p ∷ rest) < next
-    → length (queue_after_turn_of p rest turn) < next_after next turn
+    → length (processes_after_turn p rest turn) < next_after next turn
 fewer-after next p rest Again few = grind (arith, nat_tests, length-append {A = Process})
 fewer-after next p rest (Child child) few = grind (arith, nat_tests, length-append {A = Process})
 fewer-after next p rest (LastChild child) few = grind (arith, nat_tests, length-append {A = Process})

@@ -104,7 +104,7 @@ impl Driver {
             Some(cost) => (*cost).clamp(1, SEGMENT_LIMIT),
             None => 1,
         };
-        self.core.arrived(index, cost);
+        self.core.arrived(vpid, cost);
         Some(vpid)
     }
 

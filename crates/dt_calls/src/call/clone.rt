@@ -5,19 +5,19 @@ ghost use Rattle.dt_procs.specs.declared.error.ProcErr.TheVariants.{Host as host
 ghost use Rattle.dt_procs.specs.Members.{is_full};
 ghost use Rattle.dt_host.specs.Cause.{HasCause};
 ghost use Rattle.dt_calls.specs.Clone.{clone_call, is_supported, with_pid, with_stack, child_machine, parent_machine};
-ghost use Rattle.dt_calls.specs.Clone.{child_process, with_child_of};
-ghost use Rattle.dt_calls.specs.Container.{signals_in};
-ghost use Rattle.dt_signals.specs.Signals.{after_fork};
+ghost use Rattle.dt_calls.specs.Clone.{child_task, with_child_of};
+ghost use Rattle.dt_calls.specs.Container.{task_in};
 ghost use Rattle.dt_calls.specs.InCode.{shared_of};
-ghost use Rattle.dt_calls.specs.Sound.{IsSoundHand, HasEffect, hand};
+ghost use Rattle.dt_calls.specs.Sound.{IsSound, HasEffect, left};
 
-use super::{Effect, Outcome};
-use crate::shared::{Process, Shared};
+use super::Effect;
+use crate::container::Served;
+use crate::shared::Shared;
 use dt_base::abi::{
     A0, A1, A2, A4, CLONE, CLONE_CHILD_CLEARTID, CLONE_CHILD_SETTID, CLONE_PARENT_SETTID, CSIGNAL,
     SIGCHLD, SP,
 };
-use dt_base::{Caller, Errno, NoMemory};
+use dt_base::{Errno, NoMemory};
 use dt_host::{Host, HostErr};
 use dt_procs::ProcErr;
 use dt_rv64::Machine;
@@ -29,20 +29,21 @@ pub fn clone<H: Host>(
     alloc: Global,
     host: &mut H,
     shared: &mut Shared,
-    own: &mut Process,
+    vpid: u32,
     machine: &mut Machine,
 ) -> Result<Effect, HostErr>
-    requires { IsSoundHand (hand shared.old own.old (H.view host.old)) }
-    ensures { HasEffect (clone_call (shared_of shared.old (H.view host.old)) shared.old.pids.next own.old machine.old)
-        (hand shared.old own.old (H.view host.old)) (hand shared.new own.new (H.view host.new)) machine.new result
+    requires sound { IsSound shared.old (H.view host.old) }
+    requires lives { IsSome (get shared.old.tasks vpid) }
+    ensures { HasEffect vpid (clone_call (shared_of shared.old (H.view host.old)) shared.old.pids.next vpid machine.old)
+        shared.old (left shared.new (H.view host.new) machine.new) result
         (H.count host.old) (H.count host.new) }
 {
     let _before = host.faults();
     if !is_supported(machine.reg(A0)) {
-        return Ok(Effect::quiet(alloc, Outcome::Unsupported(CLONE)));
+        return Ok(Effect::quiet(alloc, Served::Unsupported(CLONE)));
     }
-    match shared.add_child(host, own) {
-        Ok(vpid) => Ok(copy_machine(alloc, machine, vpid)?),
+    match shared.add_child(host, vpid) {
+        Ok(child) => Ok(copy_machine(alloc, machine, child)?),
         Err(ProcErr::Full) => Ok(Effect::refused(alloc, machine, Errno::Again)),
         Err(ProcErr::Host(error)) => Err(error),
     }
@@ -80,7 +81,7 @@ fn copy_machine(alloc: Global, machine: &mut Machine, vpid: u32) -> Result<Effec
     ensures child { IfOk result (λ e. e.child ≡ Some (child_machine machine.old vpid)) }
     ensures parent { OnOk result (machine.new ≡ parent_machine machine.old vpid) }
     ensures events { IfOk result (λ e. e.events.items ≡ []) }
-    ensures outcome { IfOk result (λ e. e.outcome ≡ Outcome.Done) }
+    ensures served { IfOk result (λ e. e.served ≡ Served.Child vpid) }
 {
     let flags = machine.reg(A0);
     let mut child = Machine {
@@ -107,62 +108,49 @@ fn copy_machine(alloc: Global, machine: &mut Machine, vpid: u32) -> Result<Effec
     Ok(Effect {
         child: Some(child),
         events: Vec::new(alloc),
-        outcome: Outcome::Done,
+        served: Served::Child(vpid),
     })
 }
 
 impl Shared {
     // Enters a child: it holds its working directory, and has its parent's descriptors, actions and mask. Full exactly
     // where 64 processes and zombies are there.
-    fn add_child<H: Host>(&mut self, host: &mut H, own: &Process) -> Result<u32, ProcErr>
-        requires sound { IsSoundHand (hand self.old own.now (H.view host.old)) }
+    fn add_child<H: Host>(&mut self, host: &mut H, parent: u32) -> Result<u32, ProcErr>
+        requires sound { IsSound self.old (H.view host.old) }
+        requires lives { IsSome (get self.old.tasks parent) }
         ensures full { (IsErrOf result ProcErr.Full)
             ↔ IsTrue (is_full (shared_of self.old (H.view host.old)).members) }
         ensures kept { IsErrOf result ProcErr.Full → (self.new ≡ self.old) × (H.view host.new ≡ H.view host.old) }
         ensures vpid { IfOk result (λ vpid. vpid ≡ self.old.pids.next) }
         ensures made { IfOk result (λ vpid. shared_of self.new (H.view host.new)
-            ≡ with_child_of (shared_of self.old (H.view host.old)) own.now vpid) }
+            ≡ with_child_of (shared_of self.old (H.view host.old)) parent vpid) }
         ensures next { OnOk result (self.new.pids.next ≡ self.old.pids.next + 1) }
-        ensures sound { OnOk result (IsSoundHand (hand self.new own.now (H.view host.new))) }
+        ensures sound { OnOk result (IsSound self.new (H.view host.new)) }
         ensures cause { HasCause (H.count host.old) (H.count host.new)
             (IsErrOf result (host_failed HostErr.Failed)) }
     {
-        let parent = own.caller.vpid;
+        let cwd = self.cwd(parent);
         let vpid = self.pids.child(host, parent)?;
-        self.fs.tree.hold(host, own.caller.cwd)?;
+        self.fs.tree.hold(host, cwd)?;
         self.fs.files.share_all(parent, vpid)?;
-        match self.enter(own, vpid) {
+        match self.enter(parent, vpid) {
             Ok(()) => Ok(vpid),
             Err(_) => Err(ProcErr::Host(HostErr::NoMemory)),
         }
     }
 
-    // Enters a child's part and its signal state.
-    fn enter(&mut self, own: &Process, vpid: u32) -> Result<(), NoMemory>
-        requires { IsSome (get self.old.signals own.now.caller.vpid) }
+    // Enters a child's task.
+    fn enter(&mut self, parent: u32, vpid: u32) -> Result<(), NoMemory>
+        requires { IsSome (get self.old.tasks parent) }
         ensures { OnOk result (self.new ≡ record self.old {
-          processes = insert self.old.processes vpid (child_process own.now vpid);
-          signals = insert self.old.signals vpid (after_fork (signals_in self.old.signals own.now.caller.vpid));
+          tasks = insert self.old.tasks vpid (child_task (task_in self.old.tasks parent) vpid);
         }) }
     {
-        let signals = self.signals_of(own.caller.vpid).fork();
-        self.processes.put(u64::from(vpid), own.copy_as(vpid))?;
-        self.signals.put(u64::from(vpid), signals)?;
+        let Some(task) = self.tasks.get(u64::from(parent)) else {
+            unreachable!()
+        };
+        let child = task.fork(vpid);
+        self.tasks.put(u64::from(vpid), child)?;
         Ok(())
-    }
-}
-
-impl Process {
-    // A copy under another pid.
-    fn copy_as(&self, vpid: u32) -> Process
-        ensures { result ≡ child_process self.now vpid }
-    {
-        Process {
-            caller: Caller {
-                vpid,
-                ..self.caller
-            },
-            ..*self
-        }
     }
 }

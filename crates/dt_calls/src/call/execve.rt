@@ -1,15 +1,17 @@
 // Another program for a process.
-ghost use Rattle.std.specs.Prelude.{◌≡◌, Ok};
+ghost use Rattle.std.specs.Prelude.{IsSome, Ok};
+ghost use Rattle.std.specs.FinMap.{get};
 ghost use Rattle.dt_calls.specs.Execve.{execve_call, effect_of_program};
 ghost use Rattle.dt_calls.specs.InCode.{shared_of};
-ghost use Rattle.dt_calls.specs.Sound.{IsSoundHand, HasEffect, hand};
+ghost use Rattle.dt_calls.specs.Sound.{IsSound, HasEffect, left};
 
-use super::{Effect, Outcome};
-use crate::shared::{Process, Shared};
+use super::Effect;
+use crate::container::Served;
+use crate::shared::Shared;
+use crate::task::exec_task;
 use dt_base::abi::{A0, A1, A2};
 use dt_exec::{Program, execve_program};
 use dt_host::{Host, HostErr};
-use dt_mcalls::Break;
 use dt_rv64::Machine;
 use std::alloc::Global;
 
@@ -19,21 +21,22 @@ pub fn execve<H: Host>(
     alloc: Global,
     host: &mut H,
     shared: &mut Shared,
-    own: &mut Process,
+    vpid: u32,
     machine: &mut Machine,
 ) -> Result<Effect, HostErr>
-    requires { IsSoundHand (hand shared.old own.old (H.view host.old)) }
-    ensures { HasEffect (execve_call (shared_of shared.old (H.view host.old)) own.old machine.old)
-        (hand shared.old own.old (H.view host.old)) (hand shared.new own.new (H.view host.new)) machine.new result
+    requires sound { IsSound shared.old (H.view host.old) }
+    requires lives { IsSome (get shared.old.tasks vpid) }
+    ensures { HasEffect vpid (execve_call (shared_of shared.old (H.view host.old)) vpid machine.old)
+        shared.old (left shared.new (H.view host.new) machine.new) result
         (H.count host.old) (H.count host.new) }
 {
-    let random = shared.fs.rand.start16();
+    let (cwd, random) = (shared.cwd(vpid), shared.fs.rand.start16());
     let (path, argv, envp) = (machine.reg(A0), machine.reg(A1), machine.reg(A2));
     let found = execve_program(
         alloc,
         host,
         &shared.fs.tree,
-        own.caller.cwd,
+        cwd,
         &machine.space,
         path,
         argv,
@@ -41,7 +44,7 @@ pub fn execve<H: Host>(
         &random,
     )?;
     match found {
-        Ok(program) => replace_program(alloc, host, shared, own, machine, program),
+        Ok(program) => replace_program(alloc, host, shared, vpid, machine, program),
         Err(errno) => Ok(Effect::refused(alloc, machine, errno)),
     }
 }
@@ -51,34 +54,20 @@ fn replace_program<H: Host>(
     alloc: Global,
     host: &mut H,
     shared: &mut Shared,
-    own: &mut Process,
+    vpid: u32,
     machine: &mut Machine,
     program: Program,
 ) -> Result<Effect, HostErr>
-    requires { IsSoundHand (hand shared.old own.old (H.view host.old)) }
-    ensures { HasEffect (effect_of_program (shared_of shared.old (H.view host.old)) own.old machine.old (Ok program))
-        (hand shared.old own.old (H.view host.old)) (hand shared.new own.new (H.view host.new)) machine.new result
+    requires sound { IsSound shared.old (H.view host.old) }
+    requires lives { IsSome (get shared.old.tasks vpid) }
+    ensures { HasEffect vpid (effect_of_program (shared_of shared.old (H.view host.old)) vpid machine.old (Ok program))
+        shared.old (left shared.new (H.view host.new) machine.new) result
         (H.count host.old) (H.count host.new) }
 {
     let _before = host.faults();
-    shared
-        .fs
-        .files
-        .close_exec(host, &mut shared.fs.tree, own.caller.vpid)?;
-    shared.reset_handlers(own.caller.vpid);
-    own.start(program.break_start);
+    let fs = &mut shared.fs;
+    fs.files.close_exec(host, &mut fs.tree, vpid)?;
+    exec_task(&mut shared.tasks, vpid, program.break_start);
     *machine = program.machine;
-    Ok(Effect::quiet(alloc, Outcome::Done))
-}
-
-impl Process {
-    /// Lets the break start where a program's does.
-    pub fn start(&mut self, break_start: u64)
-        ensures { self.new ≡ record self.old { program_break = record { start = break_start; end = break_start } } }
-    {
-        self.program_break = Break {
-            start: break_start,
-            end: break_start,
-        };
-    }
+    Ok(Effect::quiet(alloc, Served::Done))
 }

@@ -8,7 +8,7 @@ ghost use Rattle.dt_calls.specs.declared.numbers.TheConstants.{UTSNAME_FIELD as 
 
 use super::Effect;
 use crate::numbers::UTSNAME_FIELD;
-use crate::shared::{Process, Shared};
+use crate::shared::Shared;
 use dt_base::abi::{A0, A1, ROBUST_LIST_SIZE};
 use dt_base::{Errno, NoMemory};
 use dt_rv64::Machine;
@@ -16,21 +16,21 @@ use std::alloc::Global;
 
 /// Tells the process's pid, which is also the id of its one thread (getpid(2), gettid(2), set_tid_address(2)).
 #[tactic(auto, unfolding(crate::specs::Identity::getpid_call))]
-pub fn getpid(alloc: Global, own: &Process, machine: &mut Machine) -> Effect
-    ensures served { (c : _) → getpid_call c own.now machine.old ≡ effect_as c own.now machine.new result }
+pub fn getpid(alloc: Global, vpid: u32, machine: &mut Machine) -> Effect
+    ensures served { (c : _) → getpid_call c vpid machine.old ≡ effect_as c machine.new result }
     ensures child { result.child ≡ None }
 {
-    Effect::done(alloc, machine, u64::from(own.caller.vpid))
+    Effect::done(alloc, machine, u64::from(vpid))
 }
 
 /// Tells the pid of the process's parent, and 0 to the first process (getppid(2)).
 #[tactic(auto, unfolding(crate::specs::Identity::getppid_call))]
-pub fn getppid(alloc: Global, shared: &Shared, own: &Process, machine: &mut Machine) -> Effect
-    ensures served { (w : World) → getppid_call (shared_of shared.now w) own.now machine.old
-        ≡ effect_as (shared_of shared.now w) own.now machine.new result }
+pub fn getppid(alloc: Global, shared: &Shared, vpid: u32, machine: &mut Machine) -> Effect
+    ensures served { (w : World) → getppid_call (shared_of shared.now w) vpid machine.old
+        ≡ effect_as (shared_of shared.now w) machine.new result }
     ensures child { result.child ≡ None }
 {
-    let parent = shared.pids.parent(own.caller.vpid).unwrap_or(0);
+    let parent = shared.pids.parent(vpid).unwrap_or(0);
     Effect::done(alloc, machine, u64::from(parent))
 }
 
@@ -38,8 +38,8 @@ pub fn getppid(alloc: Global, shared: &Shared, own: &Process, machine: &mut Mach
 /// (set_robust_list(2)).
 #[tactic(auto, unfolding(crate::specs::Identity::set_robust_list_call))]
 pub fn set_robust_list(alloc: Global, machine: &mut Machine) -> Effect
-    ensures served { (c : _) → (own : _) → set_robust_list_call c own machine.old
-        ≡ effect_as c own machine.new result }
+    ensures served { (c : _) → set_robust_list_call c machine.old
+        ≡ effect_as c machine.new result }
     ensures child { result.child ≡ None }
 {
     if machine.reg(A1) == ROBUST_LIST_SIZE {
@@ -52,8 +52,8 @@ pub fn set_robust_list(alloc: Global, machine: &mut Machine) -> Effect
 /// Puts the names of the system into a buffer. EFAULT where a byte of it can't be written (uname(2)).
 #[tactic(auto, unfolding(crate::specs::Identity::uname_call))]
 pub fn uname(alloc: Global, machine: &mut Machine) -> Result<Effect, NoMemory>
-    ensures served { (c : _) → (own : _) → IfOk result
-        (λ e. uname_call c own machine.old ≡ effect_as c own machine.new e) }
+    ensures served { (c : _) → IfOk result
+        (λ e. uname_call c machine.old ≡ effect_as c machine.new e) }
     ensures child { IfOk result (λ e. e.child ≡ None) }
 {
     let name = utsname(alloc)?;

@@ -1,16 +1,20 @@
 // The wait for a child that ends.
-ghost use Rattle.std.specs.Prelude.{◌≡◌, ◌&&◌};
+ghost use Rattle.std.specs.Prelude.{◌≡◌, ◌&&◌, IsSome};
+ghost use Rattle.std.specs.FinMap.{get};
+ghost use Rattle.dt_base.specs.Abi.{low_word};
+ghost use Rattle.dt_rv64.specs.Effects.{register};
 ghost use Rattle.dt_space.specs.Argument.{is_writable_or_null};
 ghost use Rattle.dt_calls.specs.declared.numbers.TheConstants.{RUSAGE_SIZE as RUSAGE};
 ghost use Rattle.dt_procs.specs.declared.member.Reaped.{Reaped as Found};
 ghost use Rattle.dt_procs.specs.Members.{look_for};
 ghost use Rattle.dt_calls.specs.Wait.{wait4_call, effect_of_reaped, which_child, is_group, status_of};
 ghost use Rattle.dt_calls.specs.InCode.{shared_of};
-ghost use Rattle.dt_calls.specs.Sound.{IsSoundHand, HasEffect, hand};
+ghost use Rattle.dt_calls.specs.Sound.{IsSound, HasEffect, left};
 
-use super::{Effect, Outcome};
+use super::Effect;
+use crate::container::Served;
 use crate::numbers::RUSAGE_SIZE;
-use crate::shared::{Process, Shared};
+use crate::shared::Shared;
 use dt_base::abi::{
     A0, A1, A2, A3, ANY_CHILD, GREATEST_PID, WAIT_OPTIONS, WAIT4, WNOHANG, has_flag, low_word,
 };
@@ -27,27 +31,28 @@ pub fn wait4<H: Host>(
     alloc: Global,
     host: &mut H,
     shared: &mut Shared,
-    own: &mut Process,
+    vpid: u32,
     machine: &mut Machine,
 ) -> Result<Effect, HostErr>
-    requires { IsSoundHand (hand shared.old own.old (H.view host.old)) }
-    ensures { HasEffect (wait4_call (shared_of shared.old (H.view host.old)) own.old machine.old)
-        (hand shared.old own.old (H.view host.old)) (hand shared.new own.new (H.view host.new)) machine.new result
+    requires sound { IsSound shared.old (H.view host.old) }
+    requires lives { IsSome (get shared.old.tasks vpid) }
+    ensures { HasEffect vpid (wait4_call (shared_of shared.old (H.view host.old)) vpid machine.old)
+        shared.old (left shared.new (H.view host.new) machine.new) result
         (H.count host.old) (H.count host.new) }
 {
     let _before = host.faults();
     let (pid, options) = (low_word(machine.reg(A0)), low_word(machine.reg(A2)));
     if is_group(pid) {
-        return Ok(Effect::quiet(alloc, Outcome::Unsupported(WAIT4)));
+        return Ok(Effect::quiet(alloc, Served::Unsupported(WAIT4)));
     }
     if options | WAIT_OPTIONS != WAIT_OPTIONS {
         return Ok(Effect::refused(alloc, machine, Errno::Inval));
     }
     let which = which_child(pid);
-    match shared.pids.look_for(own.caller.vpid, which) {
-        Reaped::Got(vpid, end) => reap(alloc, host, shared, own, machine, which, vpid, end),
+    match shared.pids.look_for(vpid, which) {
+        Reaped::Got(child, end) => reap(alloc, host, shared, vpid, machine, child, end),
         Reaped::NoneReady if has_flag(options, WNOHANG) => Ok(Effect::done(alloc, machine, 0)),
-        Reaped::NoneReady => Ok(Effect::quiet(alloc, Outcome::Blocked)),
+        Reaped::NoneReady => Ok(Effect::quiet(alloc, Served::Blocked)),
         Reaped::NoChild => Ok(Effect::refused(alloc, machine, Errno::Child)),
     }
 }
@@ -91,18 +96,17 @@ fn reap<H: Host>(
     alloc: Global,
     host: &mut H,
     shared: &mut Shared,
-    own: &Process,
-    machine: &mut Machine,
-    which: Option<u32>,
     vpid: u32,
+    machine: &mut Machine,
+    child: u32,
     end: End,
 ) -> Result<Effect, HostErr>
-    requires sound { IsSoundHand (hand shared.old own.now (H.view host.old)) }
-    requires found { look_for (shared_of shared.old (H.view host.old)).members own.now.caller.vpid which
-        ≡ Found.Got vpid end }
-    ensures { HasEffect (effect_of_reaped (shared_of shared.old (H.view host.old)) own.now machine.old
-        (Found.Got vpid end))
-        (hand shared.old own.now (H.view host.old)) (hand shared.new own.now (H.view host.new)) machine.new result
+    requires sound { IsSound shared.old (H.view host.old) }
+    requires found { look_for (shared_of shared.old (H.view host.old)).members vpid
+        (which_child (low_word (register machine.old A0))) ≡ Found.Got child end }
+    ensures { HasEffect vpid (effect_of_reaped (shared_of shared.old (H.view host.old)) machine.old
+        (Found.Got child end))
+        shared.old (left shared.new (H.view host.new) machine.new) result
         (H.count host.old) (H.count host.new) }
 {
     let _before = host.faults();
@@ -111,8 +115,9 @@ fn reap<H: Host>(
         return Ok(Effect::refused(alloc, machine, Errno::Fault));
     }
     let _next = shared.pids.next();
-    shared.pids.wait_for(host, own.caller.vpid, which)?;
+    let which = which_child(low_word(machine.reg(A0)));
+    shared.pids.wait_for(host, vpid, which)?;
     fill_unless_null(&mut machine.space, status, &status_of(end).to_le_bytes());
     fill_unless_null(&mut machine.space, usage, &[0; RUSAGE_SIZE]);
-    Ok(Effect::done(alloc, machine, u64::from(vpid)))
+    Ok(Effect::done(alloc, machine, u64::from(child)))
 }

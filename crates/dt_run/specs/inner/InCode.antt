@@ -1,5 +1,5 @@
 -- Inner words: what the code has in hand, as the definitions see it with what its host keeps.
-use Rattle.std.specs.Prelude.{ℕ, List, [], map, Option, None, Some}
+use Rattle.std.specs.Prelude.{ℕ, ◌==◌, Bool, List, [], ◌∷◌, map, Option, None, Some, if◌then◌else◌}
 use Rattle.std.specs.Ordering.{nat_cmp}
 use Rattle.std.specs.FinMap.{FinMap, entries, from_entries, get, insert, remove}
 use Rattle.dt_base.specs.declared.event.Event.{Event}
@@ -8,47 +8,63 @@ use Rattle.dt_host.specs.World.{World}
 use Rattle.dt_rv64.specs.declared.machine.Machine.{Machine}
 use Rattle.dt_sched.specs.Core.{CoreView}
 use Rattle.dt_sched.specs.declared.process.Process.{Process}
-use Rattle.dt_sched.specs.declared.process.Phase as queue
-use Rattle.dt_sched.specs.declared.process.Phase.TheVariants as as_queued
+use Rattle.dt_sched.specs.declared.process.Phase.{Phase}
+use Rattle.dt_sched.specs.declared.process.Phase.TheVariants.{Owes, Ran, Waits}
+use Rattle.dt_sched.specs.Order.{Schedule}
+use Rattle.dt_rv64.specs.declared.segments.Seg.{Seg}
+use Rattle.dt_rv64.specs.declared.segments.Stop.{Stop}
+use Rattle.dt_rv64.specs.declared.segments.Stop.TheVariants.{Call, Slice}
 use Rattle.dt_calls.specs.Container.{Machines}
 use Rattle.dt_calls.specs.InCode.{shared_of, machines_at_home}
 use Rattle.dt_calls.specs.declared.container.Served.{Served}
 use Rattle.dt_calls.specs.declared.container.Served.TheVariants.{Done, Child, LastChild, Blocked, Progress, Ended, Unsupported}
-use Rattle.dt_run.specs.declared.phase.Phase.{Phase}
-use Rattle.dt_run.specs.declared.phase.Phase.TheVariants.{Owes, Ran, Waits}
 use Rattle.dt_run.specs.declared.run.Run.{Run as RunInCode}
 use Rattle.dt_run.specs.declared.state.State.{State as StateInCode}
 use Rattle.dt_run.specs.Work.{Work, Works}
-use Rattle.dt_run.specs.Queue.{Queue}
 use Rattle.dt_run.specs.Turn.{State, Turn}
 use Rattle.dt_run.specs.Run.{Run, run_of_turns}
 
--- where the processes stand; of one that has run no segment yet nothing may be noted
-abbrev pub Phases : Type 0
-Phases = FinMap nat_cmp Phase
+-- the stop of the last segment that each process has run
+abbrev pub Stops : Type 0
+Stops = FinMap nat_cmp Stop
 
--- where a process stands: it owes where nothing else is noted
-abbrev pub phase_in : Option Phase → Phase
-phase_in None = Owes
-phase_in (Some phase) = phase
+-- where the process of a pid stands in a queue; one that isn't there owes
+abbrev pub phase_at : ℕ → List Process → Phase ℕ
+phase_at p [] = Owes
+phase_at p (x ∷ xs) = if x.vpid == p then x.phase else phase_at p xs
+
+-- the stop that is noted of a process
+abbrev pub noted_stop : Option Stop → Stop
+noted_stop None = Slice
+noted_stop (Some stop) = stop
+
+-- where a process stands, with the stop of its segment where it has run one
+abbrev pub with_stop : Phase ℕ → Stop → Phase Seg
+with_stop Owes stop = Owes
+with_stop (Ran count) stop = Ran (record { count = count; stop = stop })
+with_stop Waits stop = Waits
+
+-- where a process stands, by the queue and by the stop that is noted
+abbrev pub phase_in : List Process → Stops → ℕ → Phase Seg
+phase_in queue stops p = with_stop (phase_at p queue) (noted_stop (get stops p))
 
 -- the work of a process whose machine is at home
-abbrev pub work_in : Phases → ℕ → Machine → Work
-work_in phases p m = record { machine = m; phase = phase_in (get phases p) }
+abbrev pub work_in : Phase Seg → Machine → Work
+work_in phase m = record { machine = m; phase = phase }
 
 -- the works at home: each machine with where its process stands
-unfoldable pub works_in : Machines → Phases → Works
-works_in machines phases = from_entries (map (λ e. (e.0, work_in phases e.0 e.1)) (entries machines))
+unfoldable pub works_in : Machines → (ℕ → Phase Seg) → Works
+works_in machines phases = from_entries (map (λ e. (e.0, work_in (phases e.0) e.1)) (entries machines))
 
-abbrev pub queue_of : CoreView → Queue
-queue_of core = record { order = map (λ (p : Process). p.vpid) core.queue; blocked = core.blocked; left = core.left }
+abbrev pub schedule_of : CoreView → Schedule
+schedule_of core = record { order = map (λ (p : Process). p.vpid) core.queue; blocked = core.blocked; left = core.left }
 
 -- a run between two turns
 abbrev pub state_of : StateInCode → World → State
 state_of s w = record {
   shared = shared_of s.container.shared w;
-  works = works_in (machines_at_home s.container.places) s.phases;
-  queue = queue_of s.core;
+  works = works_in (machines_at_home s.container.places) (phase_in s.core.queue s.stops);
+  schedule = schedule_of s.core;
   next = s.container.shared.pids.next;
 }
 
@@ -63,18 +79,16 @@ abbrev pub rest_of : State → Option Verdict → Run
 rest_of s None = run_of_turns s
 rest_of s (Some verdict) = record { events = []; verdict = verdict; last = s.shared }
 
--- a process that stands so, as the queue knows it
-abbrev pub queue_phase : Phase → queue.Phase
-queue_phase Owes = as_queued.Owes
-queue_phase (Ran seg) = as_queued.Arrived seg.count
-queue_phase Waits = as_queued.Waits
+-- the stop that is to be served in a process's turn: that of its last segment, or its call again where it waits
+abbrev pub due_stop : Bool → Stop → Stop
+due_stop waits stop = if waits then Call else stop
 
--- what is noted once the stop of a process was served
-abbrev pub phases_after : Phases → ℕ → Served → Phases
-phases_after phases p Done = insert phases p Owes
-phases_after phases p (Child vpid) = insert phases p Owes
-phases_after phases p (LastChild vpid) = remove phases p
-phases_after phases p Blocked = insert phases p Waits
-phases_after phases p Progress = insert phases p Waits
-phases_after phases p Ended = remove phases p
-phases_after phases p (Unsupported number) = phases
+-- what is noted once the stop of a process was served: a child has run no segment
+abbrev pub stops_after : Stops → ℕ → Served → Stops
+stops_after stops p Done = stops
+stops_after stops p (Child vpid) = insert stops vpid Slice
+stops_after stops p (LastChild vpid) = insert (remove stops p) vpid Slice
+stops_after stops p Blocked = stops
+stops_after stops p Progress = stops
+stops_after stops p Ended = remove stops p
+stops_after stops p (Unsupported number) = stops

@@ -3,7 +3,7 @@ use Rattle.std.specs.Prelude.{ℕ, ◌≡◌, ◌+◌, ◌-◌, ◌≤◌, Bool,
 use Rattle.dt_sched.specs.declared.queue.TheConstants.{QUEUE_LIMIT}
 use Rattle.dt_sched.specs.declared.process.Process.{Process}
 use Rattle.dt_sched.specs.declared.settled.Settled.{Settled}
-use Rattle.dt_sched.specs.Core.{is_distinct, owing_vpids, is_owing, queue_after_turn_of}
+use Rattle.dt_sched.specs.Core.{is_distinct, owing_vpids, is_owing, processes_after_turn}
 
 -- the indices of those that owe a segment, where the first of all has this index
 abbrev pub owing_indices : ℕ → List Process → List ℕ
@@ -34,10 +34,10 @@ abbrev pub has_ready_head : List Process → Bool
 has_ready_head [] = false
 has_ready_head (p ∷ ps) = not (is_owing p.phase)
 
--- the queue after a turn of its head
-abbrev pub queue_after_turn : List Process → Settled → List Process
-queue_after_turn [] turn = []
-queue_after_turn (p ∷ rest) turn = queue_after_turn_of p rest turn
+-- the processes after a turn of the head
+abbrev pub after_turn_of_head : List Process → Settled → List Process
+after_turn_of_head [] turn = []
+after_turn_of_head (p ∷ rest) turn = processes_after_turn p rest turn
 
 -- the indices once the head is gone
 abbrev pub indices_without_head : List ℕ → List ℕ

@@ -1,6 +1,6 @@
 // Which descriptors calls give and take.
 use super::image::NEXT;
-use super::play::expect_at;
+use super::play::{Table, expect_all};
 use super::step::Call::{Close, Dup, Dup3, Exit, Fill, Fork, OpenInput};
 use super::step::Outcome::{Absent, Bool, Count, Description, Done, Fd, Refused};
 use super::step::Query::{CloexecOf, DescriptionOf, IsFull};
@@ -79,8 +79,7 @@ const SHARED: &[Row] = &[
     Check(DescriptionOf(62), Description(DescKind::Input, RDWR)),
 ];
 
-// What each table shows, its rows, and the number that the host gives after them.
-const TABLES: [(&str, &[Row], u64); 5] = [
+const TABLES: &[Table] = &[
     ("the lowest free descriptor is given", LOWEST, NEXT),
     ("a 65th descriptor is refused", FULL, NEXT),
     ("descriptors that are not open are refused", NOT_OPEN, NEXT),
@@ -94,8 +93,5 @@ const TABLES: [(&str, &[Row], u64); 5] = [
 
 #[test]
 fn descriptors_are_given_and_taken(rt: HostRuntime) -> Result<(), HostErr> {
-    for (what, rows, number) in TABLES {
-        expect_at(&rt, rt.alloc(), what, rows, number)?;
-    }
-    Ok(())
+    expect_all(&rt, rt.alloc(), TABLES)
 }

@@ -1,7 +1,6 @@
 // A small image: an empty directory and a file.
-ghost use Rattle.std.specs.Prelude.{◌≡◌, IfOk};
-
-use dt_base::{Blob, Entry, Image, NoMemory, What};
+use crate::image::folder::good_image;
+use dt_base::{Image, NoMemory};
 use std::alloc::Global;
 
 /// The inode of the directory `/d`, which is also the number that the host gives it.
@@ -15,25 +14,6 @@ pub const NEXT: u64 = 4;
 
 /// An empty directory `/d`, and a file `/f` of the five bytes `hello`.
 pub fn image(alloc: Global) -> Result<Image, NoMemory> {
-    let mut entries = Vec::new(alloc);
-    entries.push(entry(alloc, b"/d", 0o755, What::Dir)?)?;
-    let file = What::File(blob(alloc, b"hello")?);
-    entries.push(entry(alloc, b"/f", 0o644, file)?)?;
-    Ok(Image::new(entries))
-}
-
-fn entry(alloc: Global, path: &[u8], mode: u32, what: What) -> Result<Entry, NoMemory>
-    ensures { IfOk result (λ e. e ≡ record { path = path.now; mode = mode; what = what }) }
-{
-    Ok(Entry {
-        path: blob(alloc, path)?,
-        mode,
-        what,
-    })
-}
-
-fn blob(alloc: Global, bytes: &[u8]) -> Result<Blob, NoMemory>
-    ensures { IfOk result (λ blob. blob ≡ bytes.now) }
-{
-    Ok(Blob::new(Vec::from_slice(alloc, bytes)?))
+    let blobs = [("img/f", b"hello".as_slice())];
+    good_image(alloc, "dir:/d:493:,file:/f:420:f", &blobs)
 }

@@ -1,6 +1,6 @@
 // What open descriptions keep in the tree.
 use super::image::{DIR, FILE, NEXT};
-use super::play::{expect_at, play_to_two};
+use super::play::{Table, expect_all, play};
 use super::step::Call::{
     Close, Dup, Dup3, DupCloexec, Exec, Exit, Fork, Open, OpenInput, SetCloexec, Stat, Unlink,
 };
@@ -68,7 +68,7 @@ const PROCESS_ENDS: &[Row] = &[
 
 #[test]
 fn all_nodes_go_with_their_process(rt: HostRuntime) -> Result<(), HostErr> {
-    same(&rt, play_to_two(rt.alloc(), PROCESS_ENDS)?, Ok((DIR, FILE)));
+    same(&rt, play(rt.alloc(), PROCESS_ENDS)?, (None, DIR, FILE));
     Ok(())
 }
 
@@ -108,8 +108,7 @@ const MARKED: &[Row] = &[
     Check(IsDir(DIR), Bool(false)),
 ];
 
-// What each table shows, its rows, and the number that the host gives after them.
-const TABLES: [(&str, &[Row], u64); 7] = [
+const TABLES: &[Table] = &[
     (
         "a file without a name stays until its last descriptor is closed",
         FILE_WITHOUT_A_NAME,
@@ -145,8 +144,5 @@ const TABLES: [(&str, &[Row], u64); 7] = [
 
 #[test]
 fn nodes_stay_as_long_as_they_are_open(rt: HostRuntime) -> Result<(), HostErr> {
-    for (what, rows, number) in TABLES {
-        expect_at(&rt, rt.alloc(), what, rows, number)?;
-    }
-    Ok(())
+    expect_all(&rt, rt.alloc(), TABLES)
 }

@@ -1,6 +1,6 @@
 // Pipes: what reads and writes of them come to, and how long they stay.
 use super::image::NEXT;
-use super::play::{differing, expect_at};
+use super::play::{Table, expect, expect_all, expect_at};
 use super::step::Call::{
     Close, CloseEach, Dup, Dup3, Exec, Exit, Fill, Fork, Pipe, Read, ReadLong, SetFlags, Write,
     WriteLong, WriteRest,
@@ -11,7 +11,6 @@ use super::step::Outcome::{
 use super::step::Query::{CloexecOf, DescriptionOf, FlagsOf, Held, TwoFree};
 use super::step::Row::{self, Check, Do, DoInChild};
 use super::step::{RDONLY, WRONLY};
-use crate::expect::{same, same_at};
 use dt_base::Errno;
 use dt_base::abi::{O_CLOEXEC, O_NONBLOCK};
 use dt_fds::{DescKind, Flow};
@@ -59,7 +58,7 @@ const WRITE_TWICE: Row = Do(
 const HELD: [usize; 6] = [0, 61_439, 61_440, 61_441, 65_535, 65_536];
 
 // How many of so many bytes a write moves, for each of these.
-const MOVED: [(usize, [usize; 6]); 7] = [
+const MOVED: &[(usize, [usize; 6])] = &[
     (0, [0, 0, 0, 0, 0, 0]),
     (1, [1, 1, 1, 1, 1, 0]),
     (4_096, [4_096, 4_096, 4_096, 0, 0, 0]),
@@ -122,8 +121,7 @@ fn answer(count: usize, moved: usize, nonblock: bool) -> Outcome {
 // Ends the test unless a write comes to that.
 fn expect_written(rt: &impl Abort, alloc: Global, written: Written) -> Result<(), HostErr> {
     let at = (written.flags, written.held, written.count, written.done);
-    same_at(rt, at, differing(alloc, &written.rows())?, None);
-    Ok(())
+    expect(rt, alloc, at, &written.rows())
 }
 
 // Ends the test unless a write of so many bytes moves so many, at each count of bytes that a pipe may hold before it.
@@ -131,34 +129,45 @@ fn expect_moved(
     rt: &impl Abort,
     alloc: Global,
     count: usize,
-    moves: [usize; 6],
+    moves: &[usize],
     nonblock: bool,
 ) -> Result<(), HostErr> {
-    for (held, moved) in HELD.into_iter().zip(moves) {
+    for (held, moved) in HELD.iter().zip(moves) {
         let written = Written {
             flags: if nonblock { O_NONBLOCK } else { 0 },
-            held,
+            held: *held,
             count,
             done: 0,
-            outcome: answer(count, moved, nonblock),
-            moved,
+            outcome: answer(count, *moved, nonblock),
+            moved: *moved,
         };
         expect_written(rt, alloc, written)?;
     }
     Ok(())
 }
 
-#[test]
-fn a_write_moves_what_has_room_and_few_bytes_at_once(rt: HostRuntime) -> Result<(), HostErr> {
-    for (count, moves) in MOVED {
-        expect_moved(&rt, rt.alloc(), count, moves, false)?;
-        expect_moved(&rt, rt.alloc(), count, moves, true)?;
+// The same of a write that may wait and of one that may not, for each row of such a table.
+fn expect_all_moved(
+    rt: &impl Abort,
+    alloc: Global,
+    table: &[(usize, [usize; 6])],
+) -> Result<(), HostErr> {
+    for (count, moves) in table {
+        expect_moved(rt, alloc, *count, moves, false)?;
+        expect_moved(rt, alloc, *count, moves, true)?;
     }
     Ok(())
 }
 
+#[test]
+fn a_write_moves_what_has_room_and_few_bytes_at_once(rt: HostRuntime) -> Result<(), HostErr> {
+    expect_all_moved(&rt, rt.alloc(), MOVED)
+}
+
 // A write of 200,000 bytes: the flags, what is held, how many bytes are done, what it comes to, and how many it moves.
-const GOES_ON: [(u32, usize, u64, Flow, usize); 8] = [
+type WriteRow = (u32, usize, u64, Flow, usize);
+
+const GOES_ON: &[WriteRow] = &[
     (0, 65_536, 65_536, Flow::Wait, 0),
     (0, 65_535, 65_536, Flow::Part(65_537), 1),
     (0, 0, 65_536, Flow::Part(131_072), 65_536),
@@ -169,54 +178,90 @@ const GOES_ON: [(u32, usize, u64, Flow, usize); 8] = [
     (O_NONBLOCK, 65_535, 65_536, Flow::Moved(65_537), 1),
 ];
 
-#[test]
-fn a_write_goes_on_from_what_is_done(rt: HostRuntime) -> Result<(), HostErr> {
-    for (flags, held, done, flow, moved) in GOES_ON {
+// Ends the test unless each such write comes to what its row says.
+fn expect_all_written(rt: &impl Abort, alloc: Global, table: &[WriteRow]) -> Result<(), HostErr> {
+    for (flags, held, done, flow, moved) in table {
         let written = Written {
-            flags,
-            held,
+            flags: *flags,
+            held: *held,
             count: 200_000,
-            done,
-            outcome: Flowed(flow),
-            moved,
+            done: *done,
+            outcome: Flowed(*flow),
+            moved: *moved,
         };
-        expect_written(&rt, rt.alloc(), written)?;
+        expect_written(rt, alloc, written)?;
     }
     Ok(())
 }
 
-// So many of 200,000 bytes are done, and a write of the others comes to this.
-fn writes_on(done: u64, flow: Flow) -> Row {
-    let long = WriteLong {
-        fd: WRITE,
-        count: 200_000,
-        done,
-    };
-    Do(long, Flowed(flow))
+#[test]
+fn a_write_goes_on_from_what_is_done(rt: HostRuntime) -> Result<(), HostErr> {
+    expect_all_written(&rt, rt.alloc(), GOES_ON)
 }
 
-// All that is held is read: so many of those bytes, from one of them on.
-fn reads_on(from: usize, moved: u64) -> Row {
-    Do(ReadLong { fd: READ, from }, Flowed(Flow::Moved(moved)))
-}
+// As much of 200,000 bytes is written each time as has room, and all that is held is read.
+const LONG_WRITE: &[Row] = &[
+    PIPED,
+    Do(
+        WriteLong {
+            fd: WRITE,
+            count: 200_000,
+            done: 0,
+        },
+        Flowed(Flow::Part(65_536)),
+    ),
+    Do(ReadLong { fd: READ, from: 0 }, Flowed(Flow::Moved(65_536))),
+    Do(
+        WriteLong {
+            fd: WRITE,
+            count: 200_000,
+            done: 65_536,
+        },
+        Flowed(Flow::Part(131_072)),
+    ),
+    Do(
+        ReadLong {
+            fd: READ,
+            from: 65_536,
+        },
+        Flowed(Flow::Moved(65_536)),
+    ),
+    Do(
+        WriteLong {
+            fd: WRITE,
+            count: 200_000,
+            done: 131_072,
+        },
+        Flowed(Flow::Part(196_608)),
+    ),
+    Do(
+        ReadLong {
+            fd: READ,
+            from: 131_072,
+        },
+        Flowed(Flow::Moved(65_536)),
+    ),
+    Do(
+        WriteLong {
+            fd: WRITE,
+            count: 200_000,
+            done: 196_608,
+        },
+        Flowed(Flow::Moved(200_000)),
+    ),
+    Do(
+        ReadLong {
+            fd: READ,
+            from: 196_608,
+        },
+        Flowed(Flow::Moved(3_392)),
+    ),
+    Check(Held(READ), Count(0)),
+];
 
-// As much is written each time as has room, and all that is held is read.
 #[test]
 fn a_long_write_comes_out_whole(rt: HostRuntime) -> Result<(), HostErr> {
-    let rows = [
-        PIPED,
-        writes_on(0, Flow::Part(65_536)),
-        reads_on(0, 65_536),
-        writes_on(65_536, Flow::Part(131_072)),
-        reads_on(65_536, 65_536),
-        writes_on(131_072, Flow::Part(196_608)),
-        reads_on(131_072, 65_536),
-        writes_on(196_608, Flow::Moved(200_000)),
-        reads_on(196_608, 3_392),
-        Check(Held(READ), Count(0)),
-    ];
-    same(&rt, differing(rt.alloc(), &rows)?, None);
-    Ok(())
+    expect(&rt, rt.alloc(), "a long write", LONG_WRITE)
 }
 
 // What is written, the descriptors that are closed then, a buffer, what a read into it comes to that may wait and one
@@ -230,7 +275,7 @@ type ReadRow = (
     &'static [u8],
 );
 
-const READS: [ReadRow; 7] = [
+const READS: &[ReadRow] = &[
     (
         b"abc",
         &[],
@@ -294,10 +339,10 @@ fn expect_read(
     rt: &impl Abort,
     alloc: Global,
     flags: u32,
-    row: ReadRow,
+    row: &ReadRow,
     outcome: Outcome,
 ) -> Result<(), HostErr> {
-    let (written, closes, before, _, _, after) = row;
+    let (written, closes, before, _, _, after) = *row;
     let rows = [
         Do(Pipe(flags), Ends(READ, WRITE)),
         Do(
@@ -316,13 +361,18 @@ fn expect_read(
     )
 }
 
-#[test]
-fn a_read_brings_what_is_held_or_fits(rt: HostRuntime) -> Result<(), HostErr> {
-    for row in READS {
-        expect_read(&rt, rt.alloc(), 0, row, row.3)?;
-        expect_read(&rt, rt.alloc(), O_NONBLOCK, row, row.4)?;
+// The same of a read that may wait and of one that may not, for each of these rows.
+fn expect_all_read(rt: &impl Abort, alloc: Global, table: &[ReadRow]) -> Result<(), HostErr> {
+    for row in table {
+        expect_read(rt, alloc, 0, row, row.3)?;
+        expect_read(rt, alloc, O_NONBLOCK, row, row.4)?;
     }
     Ok(())
+}
+
+#[test]
+fn a_read_brings_what_is_held_or_fits(rt: HostRuntime) -> Result<(), HostErr> {
+    expect_all_read(&rt, rt.alloc(), READS)
 }
 
 const WITHOUT_A_WRITER: &[Row] = &[
@@ -345,7 +395,9 @@ const DIRECTIONS: &[Row] = &[
 ];
 
 // The descriptors that are closed of two of each end, and the number that the host gives then.
-const CLOSES: [(&[u32], u64); 9] = [
+type CloseRow = (&'static [u32], u64);
+
+const CLOSES: &[CloseRow] = &[
     (&[], AFTER_ONE_PIPE),
     (&[READ, WRITE], AFTER_ONE_PIPE),
     (&[READ_TOO, WRITE_TOO], AFTER_ONE_PIPE),
@@ -357,18 +409,25 @@ const CLOSES: [(&[u32], u64); 9] = [
     (&[WRITE_TOO, READ_TOO, WRITE, READ], NEXT),
 ];
 
-#[test]
-fn a_pipe_goes_with_its_last_descriptor(rt: HostRuntime) -> Result<(), HostErr> {
-    for (closes, number) in CLOSES {
-        let rows = [PIPED, READ_TWICE, WRITE_TWICE, Do(CloseEach(closes), Done)];
-        expect_at(&rt, rt.alloc(), closes, &rows, number)?;
+// Ends the test unless the host gives its number after each of these rows.
+fn expect_all_closed(rt: &impl Abort, alloc: Global, table: &[CloseRow]) -> Result<(), HostErr> {
+    for (closes, number) in table {
+        let rows = [PIPED, READ_TWICE, WRITE_TWICE, Do(CloseEach(*closes), Done)];
+        expect_at(rt, alloc, *closes, &rows, *number)?;
     }
     Ok(())
 }
 
+#[test]
+fn a_pipe_goes_with_its_last_descriptor(rt: HostRuntime) -> Result<(), HostErr> {
+    expect_all_closed(&rt, rt.alloc(), CLOSES)
+}
+
 // The descriptors that are closed of two of each end, and what a write of two bytes, the first of which is done, and a
 // read come to then.
-const HALVES: [(&[u32], Outcome, &[u8], Outcome); 5] = [
+type HalfRow = (&'static [u32], Outcome, &'static [u8], Outcome);
+
+const HALVES: &[HalfRow] = &[
     (&[], Flowed(Flow::Moved(2)), b"b", Flowed(Flow::Moved(1))),
     (
         &[READ, WRITE],
@@ -391,27 +450,30 @@ const HALVES: [(&[u32], Outcome, &[u8], Outcome); 5] = [
     ),
 ];
 
-#[test]
-fn an_end_is_closed_with_its_last_descriptor(rt: HostRuntime) -> Result<(), HostErr> {
-    for (closes, write, after, read) in HALVES {
+// Ends the test unless such a write and such a read come to what each of these rows says.
+fn expect_all_halves(rt: &impl Abort, alloc: Global, table: &[HalfRow]) -> Result<(), HostErr> {
+    for (closes, write, after, read) in table {
+        let rest = WriteRest {
+            fd: WRITE_TOO,
+            bytes: b"ab",
+            done: 1,
+        };
         let rows = [
             PIPED,
             READ_TWICE,
             WRITE_TWICE,
-            Do(CloseEach(closes), Done),
-            Do(
-                WriteRest {
-                    fd: WRITE_TOO,
-                    bytes: b"ab",
-                    done: 1,
-                },
-                write,
-            ),
-            Do(Read(READ_TOO, b"-", after), read),
+            Do(CloseEach(*closes), Done),
+            Do(rest, *write),
+            Do(Read(READ_TOO, b"-", *after), *read),
         ];
-        expect_at(&rt, rt.alloc(), closes, &rows, AFTER_ONE_PIPE)?;
+        expect_at(rt, alloc, *closes, &rows, AFTER_ONE_PIPE)?;
     }
     Ok(())
+}
+
+#[test]
+fn an_end_is_closed_with_its_last_descriptor(rt: HostRuntime) -> Result<(), HostErr> {
+    expect_all_halves(&rt, rt.alloc(), HALVES)
 }
 
 const DUPLICATED_OVER: &[Row] = &[
@@ -429,27 +491,34 @@ const BOTH_END: &[Row] = &[PIPED, Do(Fork, Done), Do(Exit, Done), DoInChild(Exit
 
 // The flags that a pipe is made with, the bit and the flags of both ends, and the number that the host gives after an
 // execve.
-const FLAGS: [(u32, bool, u32, u64); 4] = [
+type FlagRow = (u32, bool, u32, u64);
+
+const FLAGS: &[FlagRow] = &[
     (0, false, 0, AFTER_ONE_PIPE),
     (O_NONBLOCK, false, O_NONBLOCK, AFTER_ONE_PIPE),
     (O_CLOEXEC, true, 0, NEXT),
     (O_CLOEXEC | O_NONBLOCK, true, O_NONBLOCK, NEXT),
 ];
 
-#[test]
-fn both_ends_have_the_flags(rt: HostRuntime) -> Result<(), HostErr> {
-    for (flags, cloexec, status, number) in FLAGS {
+// Ends the test unless both ends have what each of these rows says.
+fn expect_all_flags(rt: &impl Abort, alloc: Global, table: &[FlagRow]) -> Result<(), HostErr> {
+    for (flags, cloexec, status, number) in table {
         let rows = [
-            Do(Pipe(flags), Ends(READ, WRITE)),
-            Check(CloexecOf(READ), Bool(cloexec)),
-            Check(FlagsOf(READ), StatusFlags(status)),
-            Check(CloexecOf(WRITE), Bool(cloexec)),
-            Check(FlagsOf(WRITE), StatusFlags(status)),
+            Do(Pipe(*flags), Ends(READ, WRITE)),
+            Check(CloexecOf(READ), Bool(*cloexec)),
+            Check(FlagsOf(READ), StatusFlags(*status)),
+            Check(CloexecOf(WRITE), Bool(*cloexec)),
+            Check(FlagsOf(WRITE), StatusFlags(*status)),
             Do(Exec, Done),
         ];
-        expect_at(&rt, rt.alloc(), flags, &rows, number)?;
+        expect_at(rt, alloc, *flags, &rows, *number)?;
     }
     Ok(())
+}
+
+#[test]
+fn both_ends_have_the_flags(rt: HostRuntime) -> Result<(), HostErr> {
+    expect_all_flags(&rt, rt.alloc(), FLAGS)
 }
 
 const ONLY_THE_READ_END: &[Row] = &[
@@ -469,8 +538,7 @@ const ONLY_THE_READ_END: &[Row] = &[
 
 #[test]
 fn only_the_end_whose_flag_is_set_does_not_wait(rt: HostRuntime) -> Result<(), HostErr> {
-    same(&rt, differing(rt.alloc(), ONLY_THE_READ_END)?, None);
-    Ok(())
+    expect(&rt, rt.alloc(), "only the read end", ONLY_THE_READ_END)
 }
 
 const TWO_PIPES: &[Row] = &[
@@ -524,8 +592,7 @@ const NO_ROOM: &[Row] = &[
     ),
 ];
 
-// What each table shows, its rows, and the number that the host gives after them.
-const TABLES: [(&str, &[Row], u64); 8] = [
+const TABLES: &[Table] = &[
     (
         "what was written stays without a writer",
         WITHOUT_A_WRITER,
@@ -558,8 +625,5 @@ const TABLES: [(&str, &[Row], u64); 8] = [
 
 #[test]
 fn pipes_are_made_used_and_closed(rt: HostRuntime) -> Result<(), HostErr> {
-    for (what, rows, number) in TABLES {
-        expect_at(&rt, rt.alloc(), what, rows, number)?;
-    }
-    Ok(())
+    expect_all(&rt, rt.alloc(), TABLES)
 }

@@ -15,29 +15,49 @@ use std::process::Abort;
 /// The first row of a test that came to something else than it wants: its index, and what it came to.
 pub type Mismatch = (usize, Outcome);
 
-/// Does these rows at a new scene, up to the first that comes to something else than it wants.
-pub fn differing(alloc: Global, rows: &[Row]) -> Result<Option<Mismatch>, HostErr> {
+/// Does these rows at a new scene, up to the first that comes to something else than it wants. Gives that one, if there
+/// is one, and the numbers that the host gives its next two nodes: the least that no node and no pipe has, as long as it
+/// has chosen no more than a thousand times.
+pub fn play(alloc: Global, rows: &[Row]) -> Result<(Option<Mismatch>, u64, u64), HostErr> {
     let mut scene = Scene::new(alloc)?;
-    first_mismatch(&mut scene, alloc, rows)
+    play_at(&mut scene, alloc, rows)
 }
 
-/// The same, and where each comes to what it wants, the number that the host gives its next node: the least that no
-/// node and no pipe has, as long as it has chosen no more than a thousand times.
-pub fn play(alloc: Global, rows: &[Row]) -> Result<Result<u64, Mismatch>, HostErr> {
-    let mut scene = Scene::new(alloc)?;
-    match first_mismatch(&mut scene, alloc, rows)? {
-        Some(mismatch) => Ok(Err(mismatch)),
-        None => Ok(Ok(scene.make_node()?)),
-    }
+// The same at this scene.
+fn play_at(
+    scene: &mut Scene,
+    alloc: Global,
+    rows: &[Row],
+) -> Result<(Option<Mismatch>, u64, u64), HostErr>
+    requires { IsBacked (at scene.old.files scene.old.tree scene.old.host.view) }
+{
+    let mismatch = first_mismatch(scene, alloc, rows)?;
+    let (first, second) = (scene.make_node()?, scene.make_node()?);
+    Ok((mismatch, first, second))
 }
 
-/// The same with the numbers that the host gives its next two nodes.
-pub fn play_to_two(alloc: Global, rows: &[Row]) -> Result<Result<(u64, u64), Mismatch>, HostErr> {
-    let mut scene = Scene::new(alloc)?;
-    match first_mismatch(&mut scene, alloc, rows)? {
-        Some(mismatch) => Ok(Err(mismatch)),
-        None => Ok(Ok((scene.make_node()?, scene.make_node()?))),
+/// Ends the test unless these rows come to what they want at a new scene, whatever numbers the host gives then; says
+/// where.
+pub fn expect<A: Debug + Drop>(
+    rt: &impl Abort,
+    alloc: Global,
+    place: A,
+    rows: &[Row],
+) -> Result<(), HostErr> {
+    let (mismatch, _, _) = play(alloc, rows)?;
+    same_at(rt, place, mismatch, None);
+    Ok(())
+}
+
+/// What rows show, the rows, and the number that the host gives after them.
+pub type Table = (&'static str, &'static [Row], u64);
+
+/// Ends the test unless the rows of each table come to what they want, and the host then gives the number.
+pub fn expect_all(rt: &impl Abort, alloc: Global, tables: &[Table]) -> Result<(), HostErr> {
+    for (what, rows, number) in tables {
+        expect_at(rt, alloc, *what, rows, *number)?;
     }
+    Ok(())
 }
 
 /// Ends the test unless these rows come to what they want at a new scene, and the host then gives this number; says
@@ -45,11 +65,12 @@ pub fn play_to_two(alloc: Global, rows: &[Row]) -> Result<Result<(u64, u64), Mis
 pub fn expect_at<A: Debug + Drop>(
     rt: &impl Abort,
     alloc: Global,
-    at: A,
+    place: A,
     rows: &[Row],
     number: u64,
 ) -> Result<(), HostErr> {
-    same_at(rt, at, play(alloc, rows)?, Ok(number));
+    let (mismatch, first, _) = play(alloc, rows)?;
+    same_at(rt, place, (mismatch, first), (None, number));
     Ok(())
 }
 
@@ -74,11 +95,30 @@ fn otherwise(scene: &mut Scene, alloc: Global, row: Row) -> Result<Option<Outcom
     requires { IsBacked (at scene.old.files scene.old.tree scene.old.host.view) }
     ensures { OnOk result (IsBacked (at scene.new.files scene.new.tree scene.new.host.view)) }
 {
+    let found = found_by(scene, alloc, row)?;
+    Ok(unlike(found, wanted_by(row)))
+}
+
+// What a row comes to.
+fn found_by(scene: &mut Scene, alloc: Global, row: Row) -> Result<Outcome, HostErr>
+    requires { IsBacked (at scene.old.files scene.old.tree scene.old.host.view) }
+    ensures { OnOk result (IsBacked (at scene.new.files scene.new.tree scene.new.host.view)) }
+{
     match row {
-        Row::Do(call, want) => Ok(unlike(make(scene, alloc, PID, call)?, want)),
-        Row::DoInChild(call, want) => Ok(unlike(make(scene, alloc, CHILD, call)?, want)),
-        Row::Check(query, want) => Ok(unlike(answer(scene, PID, query), want)),
-        Row::CheckInChild(query, want) => Ok(unlike(answer(scene, CHILD, query), want)),
+        Row::Do(call, _) => make(scene, alloc, PID, call),
+        Row::DoInChild(call, _) => make(scene, alloc, CHILD, call),
+        Row::Check(query, _) => Ok(answer(scene, PID, query)),
+        Row::CheckInChild(query, _) => Ok(answer(scene, CHILD, query)),
+    }
+}
+
+// What it is to come to.
+fn wanted_by(row: Row) -> Outcome {
+    match row {
+        Row::Do(_, want)
+        | Row::DoInChild(_, want)
+        | Row::Check(_, want)
+        | Row::CheckInChild(_, want) => want,
     }
 }
 

@@ -1,6 +1,6 @@
 // What descriptors of one description share.
 use super::image::NEXT;
-use super::play::expect_at;
+use super::play::{Table, expect_all};
 use super::step::Call::{
     Close, Dup, Dup3, DupCloexec, Exec, Fork, Open, OpenInput, Seek, SetCloexec, SetFlags,
 };
@@ -80,8 +80,7 @@ const TABLE_OF_A_CHILD: &[Row] = &[
     CheckInChild(CloexecOf(3), Bool(false)),
 ];
 
-// What each table shows, its rows, and the number that the host gives after them.
-const TABLES: [(&str, &[Row], u64); 5] = [
+const TABLES: &[Table] = &[
     ("a duplicate shares the offset", OFFSETS, NEXT),
     ("a duplicate shares the flags", FLAGS, NEXT),
     ("a duplicate has a close on exec bit of its own", BITS, NEXT),
@@ -95,8 +94,5 @@ const TABLES: [(&str, &[Row], u64); 5] = [
 
 #[test]
 fn descriptors_of_one_description_share_what_is_its(rt: HostRuntime) -> Result<(), HostErr> {
-    for (what, rows, number) in TABLES {
-        expect_at(&rt, rt.alloc(), what, rows, number)?;
-    }
-    Ok(())
+    expect_all(&rt, rt.alloc(), TABLES)
 }

@@ -2,7 +2,7 @@
 ghost use Rattle.std.specs.Prelude.{IfOk};
 ghost use Rattle.dt_host.specs.World.{IsFile, IsEmptyStart};
 
-use super::play::expect;
+use super::play::{Table, expect_all};
 use super::scene::{At, Script};
 use super::step::Ask::{Clock, Cycles, NextStop, Random};
 use super::step::DirCall::{self, BindItself, Names, SortedNames, Unbind};
@@ -40,10 +40,15 @@ fn times(alloc: Global) -> Result<Vec<u64>, HostErr> {
     };
     let mut host = script.host(alloc)?;
     let mut times = Vec::new(alloc);
+    add_times(&mut host, &mut times)?;
+    Ok(times)
+}
+
+fn add_times(host: &mut MemHost, times: &mut Vec<u64>) -> Result<(), HostErr> {
     for _ in 0..10 {
         times.push(host.clock()?)?;
     }
-    Ok(times)
+    Ok(())
 }
 
 #[test]
@@ -85,8 +90,15 @@ fn kept(alloc: Global) -> Result<(u64, Option<u64>, Vec<u8>), HostErr> {
         fails: &[],
     };
     let mut host = script.host(alloc)?;
-    let (file, found) = make_named(&mut host, b"hello")?;
-    let bytes = write_and_read(&mut host, alloc, file)?;
+    kept_by(&mut host, alloc)
+}
+
+// The same at a host that has nothing but a root.
+fn kept_by(host: &mut MemHost, alloc: Global) -> Result<(u64, Option<u64>, Vec<u8>), HostErr>
+    requires { IsEmptyStart host.old.view }
+{
+    let (file, found) = make_named(host, b"hello")?;
+    let bytes = write_and_read(host, alloc, file)?;
     Ok((file, found, bytes))
 }
 
@@ -205,7 +217,14 @@ fn made_after(alloc: Global, fails: &[u64]) -> Result<(Option<HostErr>, u64), Ho
         fails,
     };
     let mut host = script.host(alloc)?;
-    let error = forget_new(&mut host).err();
+    made_then(&mut host)
+}
+
+// The same at a host that has nothing but a root.
+fn made_then(host: &mut MemHost) -> Result<(Option<HostErr>, u64), HostErr>
+    requires { IsEmptyStart host.old.view }
+{
+    let error = forget_new(host).err();
     Ok((error, host.make(NodeKind::File)?))
 }
 
@@ -228,8 +247,7 @@ const SIZES: &[Row] = &[
     InFile(Read(8, b"some\0\0"), Done),
 ];
 
-// What each table shows, what its rows are about, what the host goes by, and the rows.
-const TABLES: [(&str, At, Script<'static>, &[Row]); 6] = [
+const TABLES: &[Table] = &[
     (
         "names come in the order of words",
         At::Root,
@@ -294,8 +312,5 @@ const TABLES: [(&str, At, Script<'static>, &[Row]); 6] = [
 
 #[test]
 fn words_choose_and_listed_calls_fail(rt: HostRuntime) -> Result<(), HostErr> {
-    for (what, at, script, rows) in TABLES {
-        expect(&rt, rt.alloc(), what, at, &script, rows)?;
-    }
-    Ok(())
+    expect_all(&rt, rt.alloc(), TABLES)
 }

@@ -28,15 +28,14 @@ enum PidCall {
 // A call, and what it is to come to.
 type PidRow = (PidCall, Outcome);
 
-// Ends the test unless these calls of a new host come to what they are to come to; says what they show.
-fn expect(
-    rt: &impl Abort,
-    alloc: Global,
-    what: &str,
-    script: &Script<'_>,
-    rows: &[PidRow],
-) -> Result<(), HostErr> {
-    same_at(rt, what, first_mismatch(alloc, script, rows)?, None);
+// What calls show, what the host goes by, and the calls.
+type Table = (&'static str, Script<'static>, &'static [PidRow]);
+
+// Ends the test unless the calls of each table come to what they are to come to at a new host; says what they show.
+fn expect_all(rt: &impl Abort, alloc: Global, tables: &[Table]) -> Result<(), HostErr> {
+    for (what, script, rows) in tables {
+        same_at(rt, *what, first_mismatch(alloc, script, rows)?, None);
+    }
     Ok(())
 }
 
@@ -48,8 +47,12 @@ fn first_mismatch(
     rows: &[PidRow],
 ) -> Result<Option<(usize, Outcome)>, HostErr> {
     let mut host = script.host(alloc)?;
+    mismatch_at(&mut host, rows)
+}
+
+fn mismatch_at(host: &mut MemHost, rows: &[PidRow]) -> Result<Option<(usize, Outcome)>, HostErr> {
     for (index, (call, want)) in rows.iter().enumerate() {
-        let found = make(&mut host, *call)?;
+        let found = make(host, *call)?;
         if found != *want {
             return Ok(Some((index, found)));
         }
@@ -123,8 +126,7 @@ const LISTED: &[PidRow] = &[
     (New, Number(7)),
 ];
 
-// What each table shows, what the host goes by, and the rows.
-const TABLES: [(&str, Script<'static>, &[PidRow]); 4] = [
+const TABLES: &[Table] = &[
     (
         "a word chooses among 128 pids",
         Script {
@@ -165,8 +167,5 @@ const TABLES: [(&str, Script<'static>, &[PidRow]); 4] = [
 
 #[test]
 fn words_choose_pids(rt: HostRuntime) -> Result<(), HostErr> {
-    for (what, script, rows) in TABLES {
-        expect(&rt, rt.alloc(), what, &script, rows)?;
-    }
-    Ok(())
+    expect_all(&rt, rt.alloc(), TABLES)
 }

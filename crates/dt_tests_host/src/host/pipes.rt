@@ -1,5 +1,7 @@
 // The pipes of a host in memory: how much a word moves and in which order, and whose numbers are taken.
-use super::play::expect;
+ghost use Rattle.std.specs.Prelude.{◌<◌, ◌≤◌};
+
+use super::play::{Table, expect, expect_all};
 use super::scene::{At, Script};
 use super::step::Ask::Clock;
 use super::step::Outcome::{Count, Done, Failed, Number};
@@ -8,43 +10,60 @@ use super::step::Query::Faults;
 use super::step::Row::{self, Ask, Check, InPipe};
 use crate::expect::same;
 use dt_host::{Host, HostErr, NodeKind};
-use dt_memhost::{MemHost, Picker};
+use dt_memhost::MemHost;
 use std::alloc::Global;
+use std::process::Abort;
+
+// Ends the test unless a word has so many of ten bytes put, which come then.
+fn expect_put(rt: &impl Abort, alloc: Global, count: u32) -> Result<(), HostErr>
+    requires some { 0 < count }
+    requires at_most { count ≤ 10 }
+{
+    let (first, _) = b"some bytes".split_at(count as usize);
+    // The first word chooses the number, the second how much is put, and the third that all of it comes.
+    let script = Script {
+        words: &[4, count - 1, count - 1],
+        stream: 1,
+        fails: &[],
+    };
+    let rows = [
+        InPipe(Put(b"some bytes"), Count(count as usize)),
+        InPipe(Take(16, first), Done),
+    ];
+    expect(rt, alloc, count, At::Pipe, &script, &rows)
+}
 
 #[test]
 fn a_word_chooses_how_much_is_put(rt: HostRuntime) -> Result<(), HostErr> {
     for count in 1..11 {
-        let (first, _) = b"some bytes".split_at(count as usize);
-        // The first word chooses the number, the second how much is put, and the third that all of it comes.
-        let script = Script {
-            words: &[4, count - 1, count - 1],
-            stream: 1,
-            fails: &[],
-        };
-        let rows = [
-            InPipe(Put(b"some bytes"), Count(count as usize)),
-            InPipe(Take(16, first), Done),
-        ];
-        expect(&rt, rt.alloc(), count, At::Pipe, &script, &rows)?;
+        expect_put(&rt, rt.alloc(), count)?;
     }
     Ok(())
+}
+
+// Ends the test unless a word has so many of ten bytes taken, and the others come then.
+fn expect_taken(rt: &impl Abort, alloc: Global, count: u32) -> Result<(), HostErr>
+    requires some { 0 < count }
+    requires at_most { count ≤ 10 }
+{
+    let (first, last) = b"some bytes".split_at(count as usize);
+    let script = Script {
+        words: &[4, 9, count - 1],
+        stream: 1,
+        fails: &[],
+    };
+    let rows = [
+        InPipe(Put(b"some bytes"), Count(10)),
+        InPipe(Take(16, first), Done),
+        InPipe(TakeAll(16, last), Done),
+    ];
+    expect(rt, alloc, count, At::Pipe, &script, &rows)
 }
 
 #[test]
 fn a_word_chooses_how_much_is_taken(rt: HostRuntime) -> Result<(), HostErr> {
     for count in 1..11 {
-        let (first, last) = b"some bytes".split_at(count as usize);
-        let script = Script {
-            words: &[4, 9, count - 1],
-            stream: 1,
-            fails: &[],
-        };
-        let rows = [
-            InPipe(Put(b"some bytes"), Count(10)),
-            InPipe(Take(16, first), Done),
-            InPipe(TakeAll(16, last), Done),
-        ];
-        expect(&rt, rt.alloc(), count, At::Pipe, &script, &rows)?;
+        expect_taken(&rt, rt.alloc(), count)?;
     }
     Ok(())
 }
@@ -79,21 +98,28 @@ const CUT_SHORT: &[Row] = &[
     Check(Faults, Number(2)),
 ];
 
+// The numbers of a file, a pipe, a directory and two pipes that are made.
+fn made(host: &mut MemHost) -> Result<[u64; 5], HostErr> {
+    Ok([
+        host.make(NodeKind::File)?,
+        host.make(NodeKind::Pipe)?,
+        host.make(NodeKind::Dir)?,
+        host.make(NodeKind::Pipe)?,
+        host.make(NodeKind::Pipe)?,
+    ])
+}
+
 #[test]
 fn a_number_is_one_of_a_node_or_of_a_pipe(rt: HostRuntime) -> Result<(), HostErr> {
-    let alloc = rt.alloc();
-    let picker = Picker::new(vec![in alloc; 4, 4, 4, 4, 16_384]?, 1);
-    let mut host = MemHost::new(alloc, picker, Vec::new(alloc))?;
-    for (kind, number) in [
-        (NodeKind::File, 5),
-        (NodeKind::Pipe, 6),
-        (NodeKind::Dir, 7),
-        (NodeKind::Pipe, 8),
-        // The root has 1.
-        (NodeKind::Pipe, 2),
-    ] {
-        same(&rt, host.make(kind)?, number);
-    }
+    let script = Script {
+        words: &[4, 4, 4, 4, 16_384],
+        stream: 1,
+        fails: &[],
+    };
+    let mut host = script.host(rt.alloc())?;
+    let numbers = made(&mut host)?;
+    // The root has 1.
+    same(&rt, numbers.as_slice(), [5, 6, 7, 8, 2].as_slice());
     Ok(())
 }
 
@@ -111,7 +137,12 @@ fn made_after(alloc: Global, fails: &[u64]) -> Result<(Option<HostErr>, u64, u64
         fails,
     };
     let mut host = script.host(alloc)?;
-    let error = forget_new(&mut host).err();
+    made_then(&mut host)
+}
+
+// The same at a host that has made nothing.
+fn made_then(host: &mut MemHost) -> Result<(Option<HostErr>, u64, u64), HostErr> {
+    let error = forget_new(host).err();
     Ok((
         error,
         host.make(NodeKind::File)?,
@@ -138,8 +169,7 @@ const LISTED: &[Row] = &[
     Check(Faults, Number(2)),
 ];
 
-// What each table shows, what its rows are about, what the host goes by, and the rows.
-const TABLES: [(&str, At, Script<'static>, &[Row]); 5] = [
+const TABLES: &[Table] = &[
     (
         "oldest bytes come first",
         At::Pipe,
@@ -198,8 +228,5 @@ const TABLES: [(&str, At, Script<'static>, &[Row]); 5] = [
 
 #[test]
 fn pipes_move_what_words_choose(rt: HostRuntime) -> Result<(), HostErr> {
-    for (what, at, script, rows) in TABLES {
-        expect(&rt, rt.alloc(), what, at, &script, rows)?;
-    }
-    Ok(())
+    expect_all(&rt, rt.alloc(), TABLES)
 }

@@ -9,6 +9,17 @@ use std::alloc::Global;
 use std::fmt::Debug;
 use std::process::Abort;
 
+/// What rows show, what they are about, what the host goes by, and the rows.
+pub type Table = (&'static str, At, Script<'static>, &'static [Row]);
+
+/// Ends the test unless the rows of each table come to what they want.
+pub fn expect_all(rt: &impl Abort, alloc: Global, tables: &[Table]) -> Result<(), HostErr> {
+    for (what, at, script, rows) in tables {
+        expect(rt, alloc, *what, *at, script, rows)?;
+    }
+    Ok(())
+}
+
 /// Ends the test unless these rows come to what they want at a new scene; says where.
 pub fn expect<A: Debug + Drop>(
     rt: &impl Abort,
@@ -18,10 +29,19 @@ pub fn expect<A: Debug + Drop>(
     script: &Script<'_>,
     rows: &[Row],
 ) -> Result<(), HostErr> {
-    let mut scene = Scene::new(alloc, at, script)?;
-    let mismatch = first_mismatch(&mut scene, alloc, rows)?;
-    same_at(rt, place, mismatch, None);
+    same_at(rt, place, play(alloc, at, script, rows)?, None);
     Ok(())
+}
+
+// Does these rows at a new scene: the first that comes to something else than it wants.
+fn play(
+    alloc: Global,
+    at: At,
+    script: &Script<'_>,
+    rows: &[Row],
+) -> Result<Option<(usize, Outcome)>, HostErr> {
+    let mut scene = Scene::new(alloc, at, script)?;
+    first_mismatch(&mut scene, alloc, rows)
 }
 
 // Does these rows, up to the first that comes to something else than it wants: its index, and what it came to.
@@ -45,12 +65,32 @@ fn otherwise(scene: &mut Scene, alloc: Global, row: Row) -> Result<Option<Outcom
     requires { IsOf scene.old.host.view scene.old.kind scene.old.number scene.old.most }
     ensures { IsOf scene.new.host.view scene.new.kind scene.new.number scene.new.most }
 {
+    let found = found_by(scene, alloc, row)?;
+    Ok(unlike(found, wanted_by(row)))
+}
+
+// What a row comes to.
+fn found_by(scene: &mut Scene, alloc: Global, row: Row) -> Result<Outcome, HostErr>
+    requires { IsOf scene.old.host.view scene.old.kind scene.old.number scene.old.most }
+    ensures { IsOf scene.new.host.view scene.new.kind scene.new.number scene.new.most }
+{
     match row {
-        Row::Ask(call, want) => Ok(unlike(scene.ask(alloc, call)?, want)),
-        Row::InDir(call, want) => Ok(unlike(scene.in_dir(call)?, want)),
-        Row::InFile(call, want) => Ok(unlike(scene.in_file(alloc, call)?, want)),
-        Row::InPipe(call, want) => Ok(unlike(scene.in_pipe(alloc, call)?, want)),
-        Row::Check(query, want) => Ok(unlike(looked_up(scene, query), want)),
+        Row::Ask(call, _) => scene.ask(alloc, call),
+        Row::InDir(call, _) => scene.in_dir(call),
+        Row::InFile(call, _) => scene.in_file(alloc, call),
+        Row::InPipe(call, _) => scene.in_pipe(alloc, call),
+        Row::Check(query, _) => Ok(looked_up(scene, query)),
+    }
+}
+
+// What it is to come to.
+fn wanted_by(row: Row) -> Outcome {
+    match row {
+        Row::Ask(_, want)
+        | Row::InDir(_, want)
+        | Row::InFile(_, want)
+        | Row::InPipe(_, want)
+        | Row::Check(_, want) => want,
     }
 }
 

@@ -3,6 +3,7 @@ use super::folder::{index, many, refusal};
 use crate::expect::same_at;
 use dt_base::{ImageErr, Refusal};
 use std::alloc::{AllocError, Global};
+use std::process::Abort;
 
 // An image of one entry, but for one number: how many files there are, the bytes of the index, of a file's blob, of its
 // name, of a path that leads through directories, of the blob's name or of a link's target, or the mode.
@@ -19,7 +20,9 @@ enum With {
 }
 
 // A good path that leads through directories is refused since they are not listed.
-const LIMITS: [(With, Option<Refusal>); 18] = [
+type LimitRow = (With, Option<Refusal>);
+
+const LIMITS: &[LimitRow] = &[
     (With::Entries(4_095), None),
     (With::Entries(4_096), Some(Refusal::TooMany)),
     (With::Index(4_194_304), None),
@@ -40,63 +43,76 @@ const LIMITS: [(With, Option<Refusal>); 18] = [
     (With::Mode(4_096), Some(Refusal::BadIndex)),
 ];
 
-#[test]
-fn images_at_each_limit_and_one_past_it(rt: HostRuntime) -> Result<(), ImageErr> {
-    for (index, (with, want)) in LIMITS.into_iter().enumerate() {
-        same_at(&rt, index, refusal_with(rt.alloc(), with)?, want);
+// Ends the test unless that is said of the image of each row.
+fn expect_limits(rt: &impl Abort, alloc: Global, rows: &[LimitRow]) -> Result<(), ImageErr> {
+    for (index, (with, want)) in rows.iter().enumerate() {
+        same_at(rt, index, refusal_with(alloc, *with)?, *want);
     }
     Ok(())
 }
 
+#[test]
+fn images_at_each_limit_and_one_past_it(rt: HostRuntime) -> Result<(), ImageErr> {
+    expect_limits(&rt, rt.alloc(), LIMITS)
+}
+
+// What is said of the image of that number.
 fn refusal_with(alloc: Global, with: With) -> Result<Option<Refusal>, ImageErr> {
+    let text = text_with(alloc, with)?;
+    let (length, size) = match with {
+        With::BlobName(length) => (length, 1),
+        With::Blob(size) => (1, size),
+        _ => (1, 1),
+    };
+    let name = "b".repeat(alloc, length)?;
+    refusal(alloc, Some(text.as_bytes()), &[(name.as_str(), size)])
+}
+
+// Its index.
+fn text_with(alloc: Global, with: With) -> Result<String, AllocError> {
     match with {
-        With::Entries(count) => refusal(alloc, Some(many(alloc, count)?.as_bytes()), &[("b", 1)]),
-        With::Index(len) => {
-            let mut text = index(alloc, "file:/a:420:b")?;
-            let blanks = " ".repeat(alloc, len.saturating_sub(text.len()))?;
-            text.push_str(blanks.as_str())?;
-            refusal(alloc, Some(text.as_bytes()), &[("b", 1)])
-        }
-        With::Blob(size) => of_file(alloc, "/a", 0o644, "b", size),
-        With::Name(len) => of_file(alloc, named(alloc, len)?.as_str(), 0o644, "b", 1),
-        With::Path(len) => of_file(alloc, through(alloc, len)?.as_str(), 0o644, "b", 1),
-        With::BlobName(len) => {
-            let name = "b".repeat(alloc, len)?;
-            of_file(alloc, "/a", 0o644, name.as_str(), 1)
-        }
-        With::Target(len) => {
-            let target = "t".repeat(alloc, len)?;
-            let text = index(alloc, format!(in alloc; "link:/l:0:{target}")?.as_str())?;
-            refusal(alloc, Some(text.as_bytes()), &[])
-        }
-        With::Mode(mode) => of_file(alloc, "/a", mode, "b", 1),
+        With::Entries(count) => many(alloc, count),
+        With::Index(length) => of_length(alloc, length),
+        With::Blob(_) => index(alloc, "file:/a:420:b"),
+        With::Name(length) => of_path(alloc, "/", "n", length),
+        With::Path(length) => through(alloc, length),
+        With::BlobName(length) => of_blob(alloc, length),
+        With::Target(length) => of_link(alloc, length),
+        With::Mode(mode) => index(alloc, format!(in alloc; "file:/a:{mode}:b")?.as_str()),
     }
 }
 
-fn of_file(
-    alloc: Global,
-    path: &str,
-    mode: u32,
-    blob: &str,
-    size: usize,
-) -> Result<Option<Refusal>, ImageErr> {
-    let text = index(
+// An index of so many bytes, of which the last are blanks.
+fn of_length(alloc: Global, length: usize) -> Result<String, AllocError> {
+    let mut text = index(alloc, "file:/a:420:b")?;
+    let blanks = " ".repeat(alloc, length.saturating_sub(text.len()))?;
+    text.push_str(blanks.as_str())?;
+    Ok(text)
+}
+
+// That of a file whose path ends in a letter so many times.
+fn of_path(alloc: Global, start: &str, letter: &str, times: usize) -> Result<String, AllocError> {
+    let end = letter.repeat(alloc, times)?;
+    index(
         alloc,
-        format!(in alloc; "file:{path}:{mode}:{blob}")?.as_str(),
-    )?;
-    refusal(alloc, Some(text.as_bytes()), &[(blob, size)])
+        format!(in alloc; "file:{start}{end}:420:b")?.as_str(),
+    )
 }
 
-// A path in the root with a name of so many bytes.
-fn named(alloc: Global, len: usize) -> Result<String, AllocError> {
-    let mut path = String::from_str(alloc, "/")?;
-    path.push_str("n".repeat(alloc, len)?.as_str())?;
-    Ok(path)
+// That of a file whose path has so many bytes, and leads through directories of one letter.
+fn through(alloc: Global, length: usize) -> Result<String, AllocError> {
+    let start = "/d".repeat(alloc, length / 2)?;
+    of_path(alloc, start.as_str(), "f", length % 2)
 }
 
-// A path of so many bytes through directories of one letter.
-fn through(alloc: Global, len: usize) -> Result<String, AllocError> {
-    let mut path = "/d".repeat(alloc, len / 2)?;
-    path.push_str("f".repeat(alloc, len % 2)?.as_str())?;
-    Ok(path)
+// That of a file whose blob has a name of so many bytes.
+fn of_blob(alloc: Global, length: usize) -> Result<String, AllocError> {
+    let name = "b".repeat(alloc, length)?;
+    index(alloc, format!(in alloc; "file:/a:420:{name}")?.as_str())
+}
+
+// That of a link with a target of so many bytes.
+fn of_link(alloc: Global, length: usize) -> Result<String, AllocError> {
+    let target = "t".repeat(alloc, length)?;
+    index(alloc, format!(in alloc; "link:/l:0:{target}")?.as_str())
 }

@@ -1,11 +1,14 @@
 // The texts of a report.
-use super::folder::{folder, index};
+ghost use Rattle.dt_host.specs.World.{IsEmptyStart};
+
+use super::folder::{BlobBytes, image_of, image_of_sizes};
 use crate::expect::{same, same_at};
-use dt_base::{Blob, End, Errno, Event, Image, Verdict};
-use dt_image::{event_text, events_text, header, read_image, tree_lines, verdict_text};
-use dt_memhost::{MemHost, MemStore, Picker};
+use dt_base::{Blob, End, Errno, Event, Image, NoMemory, Verdict};
+use dt_image::{event_text, events_text, header, tree_lines, verdict_text};
+use dt_memhost::{MemHost, Picker};
 use dt_tree::Tree;
-use std::alloc::Global;
+use std::alloc::{AllocError, Global};
+use std::process::Abort;
 use std::test::Fail;
 
 #[test]
@@ -30,48 +33,56 @@ fn events_as_text(rt: HostRuntime) -> Result<(), Fail> {
     Ok(())
 }
 
-#[test]
-fn verdicts_as_text(rt: HostRuntime) -> Result<(), Fail> {
-    let rows: [(Verdict, &[u8]); 5] = [
-        (Verdict::Ended, b"verdict ended\n"),
-        (Verdict::Deadlock, b"verdict deadlock\n"),
-        (Verdict::Budget, b"verdict budget\n"),
-        (Verdict::Unsupported(2, 198), b"verdict unsupported 2 198\n"),
-        (Verdict::NoStart(Errno::NoEnt), b"verdict nostart 2\n"),
-    ];
-    for (verdict, want) in &rows {
-        same(&rt, verdict_text(rt.alloc(), verdict)?.as_slice(), *want);
+const VERDICTS: &[(Verdict, &[u8])] = &[
+    (Verdict::Ended, b"verdict ended\n"),
+    (Verdict::Deadlock, b"verdict deadlock\n"),
+    (Verdict::Budget, b"verdict budget\n"),
+    (Verdict::Unsupported(2, 198), b"verdict unsupported 2 198\n"),
+    (Verdict::NoStart(Errno::NoEnt), b"verdict nostart 2\n"),
+];
+
+// Ends the test unless each verdict has that text.
+fn expect_verdicts(
+    rt: &impl Abort,
+    alloc: Global,
+    rows: &[(Verdict, &[u8])],
+) -> Result<(), NoMemory> {
+    for (verdict, want) in rows {
+        same(rt, verdict_text(alloc, verdict)?.as_slice(), *want);
     }
     Ok(())
 }
 
-// The words of the stream of a number.
-fn stream(alloc: Global, number: u64) -> Picker {
-    Picker::new(Vec::new(alloc), number)
+#[test]
+fn verdicts_as_text(rt: HostRuntime) -> Result<(), NoMemory> {
+    expect_verdicts(&rt, rt.alloc(), VERDICTS)
 }
 
-// Words of 0, more than a host takes for a small tree.
-fn zeros(alloc: Global) -> Result<Picker, Fail> {
-    Ok(Picker::new(vec![in alloc; 0; 1_000]?, 1))
-}
+// How many words of 0 a host takes first, and the number of the stream whose words come after those.
+type Words = (usize, u64);
 
-// The lines of the tree of an index, whose host chooses by that picker. Blobs are `abc`, `empty` and `big`.
-fn lines_of(alloc: Global, line: &str, picker: Picker) -> Result<Blob, Fail> {
-    let mut store = MemStore::new(alloc, Picker::new(Vec::new(alloc), 1), Vec::new(alloc))?;
-    store.put("img/image.json", index(alloc, line)?.as_bytes())?;
-    store.put("img/abc", b"abc")?;
-    store.put("img/empty", b"")?;
-    store.put("img/big", &vec![in alloc; b'x'; 16_777_216]?)?;
-    let image = read_image(alloc, &mut store, "img")?;
-    lines_of_image(alloc, &image, picker)
-}
+const STREAM: Words = (0, 1);
 
-// The lines of the tree of this image, whose host chooses by that picker.
-fn lines_of_image(alloc: Global, image: &Image, picker: Picker) -> Result<Blob, Fail> {
+// Of the first host each word is 0, since it takes fewer for a small tree.
+const SIX_HOSTS: &[Words] = &[(1_000, 1), (0, 0), (0, 1), (0, 2), (0, 3), (0, u64::MAX)];
+
+// The blobs of images.
+const BLOBS: &[BlobBytes<'static>] = &[("img/abc", b"abc"), ("img/empty", b"")];
+
+// The lines of the tree of this image, whose host chooses by these words.
+fn lines_of(alloc: Global, image: &Image, words: Words) -> Result<Blob, Fail> {
+    let picker = Picker::new(vec![in alloc; 0; words.0]?, words.1);
     let mut host = MemHost::new(alloc, picker, Vec::new(alloc))?;
-    let mut tree = Tree::new(alloc, &mut host)?;
-    tree.install(&mut host, image)?;
-    Ok(tree_lines(alloc, &mut host, &tree)?)
+    lines_at(alloc, &mut host, image)
+}
+
+// The lines of the tree of this image, over a host that is new.
+fn lines_at(alloc: Global, host: &mut MemHost, image: &Image) -> Result<Blob, Fail>
+    requires { IsEmptyStart host.old.view }
+{
+    let mut tree = Tree::new(alloc, host)?;
+    tree.install(host, image)?;
+    Ok(tree_lines(alloc, host, &tree)?)
 }
 
 #[test]
@@ -85,11 +96,21 @@ fn lines_stand_in_order_of_whole_paths_whatever_the_host_chooses(
         file 4 0644 0 3 ba7816bf8f01cfea414140de5dae2223b00361a396177a9cb410ff61f20015ad /a.b\n\
         file 5 0644 0 0 e3b0c44298fc1c149afbf4c8996fb92427ae41e4649b934ca495991b7852b855 /a/b\n\
         link 6 0 /l a/b\n";
-    let alloc = rt.alloc();
-    same(&rt, lines_of(alloc, line, zeros(alloc)?)?.as_slice(), want);
-    for number in [0, 1, 2, 3, u64::MAX] {
-        let lines = lines_of(alloc, line, stream(alloc, number))?;
-        same_at(&rt, number, lines.as_slice(), want);
+    let image = image_of(rt.alloc(), line, BLOBS)?;
+    expect_lines(&rt, rt.alloc(), &image, SIX_HOSTS, want)
+}
+
+// Ends the test unless an image has these lines, by whichever of these words the host chooses.
+fn expect_lines(
+    rt: &impl Abort,
+    alloc: Global,
+    image: &Image,
+    hosts: &[Words],
+    want: &[u8],
+) -> Result<(), Fail> {
+    for words in hosts {
+        let lines = lines_of(alloc, image, *words)?;
+        same_at(rt, *words, lines.as_slice(), want);
     }
     Ok(())
 }
@@ -101,33 +122,45 @@ fn paths_and_targets_are_escaped(rt: HostRuntime) -> Result<(), Fail> {
         dir 2 0007 0 /%25~\n\
         dir 3 7777 0 /%25~/%C3%A9\n\
         link 4 0 /%25~/%C3%A9/%7F a%20b%25%C3%A9\n";
-    let alloc = rt.alloc();
-    same(
-        &rt,
-        lines_of(alloc, line, stream(alloc, 1))?.as_slice(),
-        want,
-    );
+    let image = image_of(rt.alloc(), line, BLOBS)?;
+    expect_lines(&rt, rt.alloc(), &image, &[STREAM], want)
+}
+
+// The entries of a thousand directories, each in the one before, and the lines that a report has of them.
+fn levels(alloc: Global) -> Result<(String, String), AllocError> {
+    let mut line = String::from_str(alloc, "dir:/d:493:")?;
+    let mut want = String::from_str(alloc, "tree 1000\ndir 2 0755 0 /d\n")?;
+    add_levels(alloc, &mut line, &mut want)?;
+    Ok((line, want))
+}
+
+// Adds those of all directories below the first.
+fn add_levels(alloc: Global, line: &mut String, want: &mut String) -> Result<(), AllocError> {
+    for inode in 3..1_002u32 {
+        let path = "/d".repeat(alloc, inode as usize - 1)?;
+        add_level(alloc, line, want, inode, path.as_str())?;
+    }
     Ok(())
+}
+
+fn add_level(
+    alloc: Global,
+    line: &mut String,
+    want: &mut String,
+    inode: u32,
+    path: &str,
+) -> Result<(), AllocError> {
+    let entry = format!(in alloc; ",dir:{path}:493:")?;
+    line.push_str(entry.as_str())?;
+    let wanted = format!(in alloc; "dir {inode} 0755 0 {path}\n")?;
+    want.push_str(wanted.as_str())
 }
 
 #[test]
 fn a_tree_of_a_thousand_levels_has_a_line_for_each(rt: HostRuntime) -> Result<(), Fail> {
-    let alloc = rt.alloc();
-    let mut path = String::from_str(alloc, "/d")?;
-    let mut line = String::from_str(alloc, "dir:/d:493:")?;
-    let mut want = String::from_str(alloc, "tree 1000\ndir 2 0755 0 /d\n")?;
-    for inode in 3..1_002u32 {
-        path.push_str("/d")?;
-        let entry = format!(in alloc; ",dir:{path}:493:")?;
-        line.push_str(entry.as_str())?;
-        let wanted = format!(in alloc; "dir {inode} 0755 0 {path}\n")?;
-        want.push_str(wanted.as_str())?;
-    }
-    let text = index(alloc, line.as_str())?;
-    let bytes = Some(text.as_bytes());
-    let mut store = folder(alloc, stream(alloc, 1), Vec::new(alloc), bytes, &[])?;
-    let image = read_image(alloc, &mut store, "img")?;
-    let lines = lines_of_image(alloc, &image, stream(alloc, 1))?;
+    let (line, want) = levels(rt.alloc())?;
+    let image = image_of(rt.alloc(), line.as_str(), &[])?;
+    let lines = lines_of(rt.alloc(), &image, STREAM)?;
     same(&rt, lines.as_slice() == want.as_bytes(), true);
     Ok(())
 }
@@ -136,8 +169,7 @@ fn a_tree_of_a_thousand_levels_has_a_line_for_each(rt: HostRuntime) -> Result<()
 fn the_longest_file_has_its_line(rt: HostRuntime) -> Result<(), Fail> {
     let want: &[u8] = b"tree 1\nfile 2 0644 0 16777216 \
         a06c26cbac8b80704f420222dae5658b88ff2da96702d12ef7a4223e9361f7c1 /big\n";
-    let alloc = rt.alloc();
-    let lines = lines_of(alloc, "file:/big:420:big", stream(alloc, 1))?;
-    same(&rt, lines.as_slice(), want);
-    Ok(())
+    let blobs = [("big", 16_777_216)];
+    let image = image_of_sizes(rt.alloc(), "file:/big:420:big", &blobs)?;
+    expect_lines(&rt, rt.alloc(), &image, &[STREAM], want)
 }

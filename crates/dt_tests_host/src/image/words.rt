@@ -1,7 +1,8 @@
 // The words of the command line.
 use crate::expect::{same, same_at};
-use dt_options::{UsageErr, read_options};
+use dt_options::{Options, UsageErr, read_options};
 use std::alloc::{AllocError, Global};
+use std::process::Abort;
 
 // The words of a line, of which each two have one blank between them.
 fn words(alloc: Global, line: &str) -> Result<Vec<String>, AllocError> {
@@ -13,7 +14,7 @@ fn words(alloc: Global, line: &str) -> Result<Vec<String>, AllocError> {
 }
 
 // Each line, and whether it is taken.
-const LINES: [(&str, bool); 15] = [
+const LINES: &[(&str, bool)] = &[
     ("run img --seed 18446744073709551615 --budget=1 -- /p", true),
     (
         "run --budget 1000000000 --host +7 - -- A=1 _b= /p A=3 --",
@@ -34,26 +35,46 @@ const LINES: [(&str, bool); 15] = [
     ("run --help -- /p", false),
 ];
 
-#[test]
-fn lines_are_taken_or_refused(rt: HostRuntime) -> Result<(), UsageErr> {
-    for (line, taken) in LINES {
-        let words = words(rt.alloc(), line)?;
-        let refused = read_options(rt.alloc(), &words).err();
-        let want = if taken { None } else { Some(UsageErr::Refused) };
-        same_at(&rt, line, refused, want);
+// Why the words of a line are refused; None where they are taken.
+fn refused(alloc: Global, line: &str) -> Result<Option<UsageErr>, UsageErr> {
+    let words = words(alloc, line)?;
+    Ok(read_options(alloc, &words).err())
+}
+
+// Ends the test unless each line is taken or refused as its row says.
+fn expect_lines(rt: &impl Abort, alloc: Global, rows: &[(&str, bool)]) -> Result<(), UsageErr> {
+    for (line, taken) in rows {
+        let want = if *taken {
+            None
+        } else {
+            Some(UsageErr::Refused)
+        };
+        same_at(rt, *line, refused(alloc, line)?, want);
     }
     Ok(())
 }
 
 #[test]
+fn lines_are_taken_or_refused(rt: HostRuntime) -> Result<(), UsageErr> {
+    expect_lines(&rt, rt.alloc(), LINES)
+}
+
+// What the words of a line say.
+fn options(alloc: Global, line: &str) -> Result<Options, UsageErr> {
+    read_options(alloc, &words(alloc, line)?)
+}
+
+// The seed, the budget and the number of the host.
+fn numbers(options: &Options) -> (u64, u64, Option<u64>) {
+    (options.seed, options.budget, options.host)
+}
+
+#[test]
 fn words_are_read(rt: HostRuntime) -> Result<(), UsageErr> {
     let line = "run img --seed 7 --host +9 -- A=1 A=2 /p -x A=3";
-    let words = words(rt.alloc(), line)?;
-    let options = read_options(rt.alloc(), &words)?;
+    let options = options(rt.alloc(), line)?;
+    same(&rt, numbers(&options), (7, 100_000_000, Some(9)));
     same(&rt, options.image.as_str(), "img");
-    same(&rt, options.seed, 7);
-    same(&rt, options.budget, 100_000_000);
-    same(&rt, options.host, Some(9));
     let args = options.command.args();
     assert_eq!(rt; args.len(), 3);
     same(&rt, args[0].as_slice(), b"/p".as_slice());
@@ -63,10 +84,7 @@ fn words_are_read(rt: HostRuntime) -> Result<(), UsageErr> {
 
 #[test]
 fn numbers_that_are_not_given_have_defaults(rt: HostRuntime) -> Result<(), UsageErr> {
-    let words = words(rt.alloc(), "run img -- /p")?;
-    let options = read_options(rt.alloc(), &words)?;
-    same(&rt, options.seed, 0);
-    same(&rt, options.budget, 100_000_000);
-    same(&rt, options.host, None);
+    let options = options(rt.alloc(), "run img -- /p")?;
+    same(&rt, numbers(&options), (0, 100_000_000, None));
     Ok(())
 }

@@ -51,14 +51,23 @@ fn a_file_has_16777216_bytes_at_most(rt: HostRuntime) -> Result<(), HostErr> {
     expect(&rt, rt.alloc(), "lengths of a file", 1, LENGTHS)
 }
 
+// What it comes to that `new` is made, made again, and then `d`.
+type Made = (Result<u64, Errno>, Result<u64, Errno>, Result<u64, Errno>);
+
+fn made(host: &mut MemHost, tree: &mut Tree) -> Result<Made, HostErr>
+    requires { Stands tree.old host.old.view.forest }
+{
+    let new = make(host, tree, b"new")?;
+    let again = make(host, tree, b"new")?;
+    let there = make(host, tree, b"d")?;
+    Ok((new, again, there))
+}
+
 #[test]
 fn a_directory_is_made_once(rt: HostRuntime) -> Result<(), HostErr> {
-    let alloc = rt.alloc();
-    let mut host = host(alloc, 2, 0)?;
-    let mut tree = load(alloc, &mut host)?;
-    let (h, t) = (&mut host, &mut tree);
-    same(&rt, make(h, t, b"new")?, Ok(10));
-    same(&rt, make(h, t, b"new")?, Err(Errno::Exist));
-    same(&rt, make(h, t, b"d")?, Err(Errno::Exist));
+    let mut host = host(rt.alloc(), 2, 0)?;
+    let mut tree = load(rt.alloc(), &mut host)?;
+    let exists = Err(Errno::Exist);
+    same(&rt, made(&mut host, &mut tree)?, (Ok(10), exists, exists));
     Ok(())
 }

@@ -45,15 +45,20 @@ fn install_and_use(alloc: Global, host: &mut MemHost) -> Result<(), HostErr>
     Ok(())
 }
 
+// How that ends over a host that fails at these calls, and how many of them it made.
+fn ended(alloc: Global, fails: Vec<u64>) -> Result<(Result<(), HostErr>, u64), HostErr> {
+    let mut host = bytewise(alloc, fails)?;
+    let ended = install_and_use(alloc, &mut host);
+    Ok((ended, host.faults()))
+}
+
 #[test]
 fn a_call_that_fails_is_the_last_one(rt: HostRuntime) -> Result<(), HostErr> {
     let alloc = rt.alloc();
     for call in 1..=INSTALL_CALLS + USE_CALLS {
         // The next call would fail as well, and be counted.
-        let mut host = bytewise(alloc, vec![in alloc; call, call.saturating_add(1)]?)?;
-        let ended = install_and_use(alloc, &mut host);
-        same_at(&rt, call, ended, Err(HostErr::Failed));
-        same_at(&rt, call, host.faults(), 1);
+        let fails = vec![in alloc; call, call.saturating_add(1)]?;
+        same_at(&rt, call, ended(alloc, fails)?, (Err(HostErr::Failed), 1));
     }
     Ok(())
 }
@@ -62,8 +67,6 @@ fn a_call_that_fails_is_the_last_one(rt: HostRuntime) -> Result<(), HostErr> {
 fn no_more_calls_are_made(rt: HostRuntime) -> Result<(), HostErr> {
     let alloc = rt.alloc();
     let next = INSTALL_CALLS.saturating_add(USE_CALLS).saturating_add(1);
-    let mut host = bytewise(alloc, vec![in alloc; next]?)?;
-    same(&rt, install_and_use(alloc, &mut host), Ok(()));
-    same(&rt, host.faults(), 0);
+    same(&rt, ended(alloc, vec![in alloc; next]?)?, (Ok(()), 0));
     Ok(())
 }

@@ -4,7 +4,8 @@ ghost use Rattle.dt_host.specs.World.{IsEmptyStart, IsFile, entry};
 ghost use Rattle.dt_tree.specs.declared.limits.TheConstants.{ROOT};
 ghost use Rattle.dt_tree.specs.Table.{Stands, shape_of};
 
-use dt_base::{Blob, Entry, Image, NoMemory, What};
+use crate::image::folder::{BlobBytes, good_image};
+use dt_base::NoMemory;
 use dt_host::HostErr;
 use dt_memhost::{MemHost, Picker};
 use dt_tree::{ROOT, Tree};
@@ -36,7 +37,7 @@ pub fn load(alloc: Global, host: &mut MemHost) -> Result<Tree, HostErr>
     requires { IsEmptyStart host.old.view }
     ensures { IfOk result (λ tree. Stands tree host.new.view.forest) }
 {
-    let image = image(alloc)?;
+    let image = good_image(alloc, ENTRIES, BLOBS)?;
     let mut tree = Tree::new(alloc, host)?;
     tree.install(host, &image)?;
     Ok(tree)
@@ -59,44 +60,8 @@ pub fn file_in_root(host: &mut MemHost, tree: &Tree, name: &[u8]) -> Result<Opti
     Ok(Some(inode))
 }
 
-// The image: a directory `/d` with a file and a link, a file, and links.
-fn image(alloc: Global) -> Result<Image, NoMemory> {
-    let mut entries = Vec::new(alloc);
-    entries.push(entry(alloc, b"/d", 0o755, What::Dir)?)?;
-    entries.push(entry(alloc, b"/d/f", 0o600, file(alloc, b"deep")?)?)?;
-    entries.push(entry(alloc, b"/d/up", 0o777, link(alloc, b"..")?)?)?;
-    entries.push(entry(alloc, b"/hello", 0o4711, file(alloc, b"hello")?)?)?;
-    entries.push(entry(alloc, b"/l", 0o777, link(alloc, b"hello")?)?)?;
-    entries.push(entry(alloc, b"/m", 0o777, link(alloc, b"/m")?)?)?;
-    entries.push(entry(alloc, b"/s", 0o777, link(alloc, b"//")?)?)?;
-    entries.push(entry(alloc, b"/t", 0o777, link(alloc, b"d/")?)?)?;
-    Ok(Image::new(entries))
-}
+// A directory `/d` with a file and a link, a file, and links.
+const ENTRIES: &str = "dir:/d:493:,file:/d/f:384:f,link:/d/up:511:..,file:/hello:2505:hello,\
+    link:/l:511:hello,link:/m:511:/m,link:/s:511://,link:/t:511:d/";
 
-fn entry(alloc: Global, path: &[u8], mode: u32, what: What) -> Result<Entry, NoMemory>
-    ensures { IfOk result (λ e. e ≡ record { path = path.now; mode = mode; what = what }) }
-{
-    Ok(Entry {
-        path: blob(alloc, path)?,
-        mode,
-        what,
-    })
-}
-
-fn file(alloc: Global, bytes: &[u8]) -> Result<What, NoMemory>
-    ensures { IfOk result (λ what. what ≡ What.File bytes.now) }
-{
-    Ok(What::File(blob(alloc, bytes)?))
-}
-
-fn link(alloc: Global, target: &[u8]) -> Result<What, NoMemory>
-    ensures { IfOk result (λ what. what ≡ What.Link target.now) }
-{
-    Ok(What::Link(blob(alloc, target)?))
-}
-
-fn blob(alloc: Global, bytes: &[u8]) -> Result<Blob, NoMemory>
-    ensures { IfOk result (λ blob. blob ≡ bytes.now) }
-{
-    Ok(Blob::new(Vec::from_slice(alloc, bytes)?))
-}
+const BLOBS: &[BlobBytes<'static>] = &[("img/f", b"deep"), ("img/hello", b"hello")];

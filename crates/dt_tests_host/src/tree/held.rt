@@ -5,27 +5,34 @@ ghost use Rattle.dt_host.specs.World.{IsDir, IsFile, IsLink, IsLive};
 ghost use Rattle.dt_tree.specs.declared.limits.TheConstants.{ROOT};
 ghost use Rattle.dt_tree.specs.Table.{Stands, real_of, shape_of};
 
-use super::play::expect;
+use super::play::{Table, expect_all};
 use super::row::Call::{Cut, Drop, Held, Link, Make, Move, Write};
 use super::row::Outcome::{Done, Text};
 use super::row::{Found, NewNode, Row};
 use dt_base::Blob;
-use dt_host::{Host, HostErr, read_whole, sorted_names};
+use dt_host::{Host, HostEntry, HostErr, read_whole, sorted_names};
 use dt_memhost::MemHost;
 use dt_tree::{ROOT, Tree};
-use std::alloc::Global;
+use std::alloc::{AllocError, Global};
 
 // A directory of the host: the names of its entries.
 fn dir_text(alloc: Global, host: &mut MemHost, real: u64) -> Result<Vec<u8>, HostErr>
     requires { IsDir host.old.view.forest real }
     ensures { host.new.view ≡ host.old.view }
 {
+    let entries = sorted_names(host, real)?;
     let mut text = Vec::from_slice(alloc, b"dir")?;
-    for entry in sorted_names(host, real)? {
+    add_names(&mut text, &entries)?;
+    Ok(text)
+}
+
+// Adds the names of entries, each behind a blank.
+fn add_names(text: &mut Vec<u8>, entries: &[HostEntry]) -> Result<(), AllocError> {
+    for entry in entries {
         text.push(b' ')?;
         text.extend_from_slice(entry.name.as_slice())?;
     }
-    Ok(text)
+    Ok(())
 }
 
 // A link of the host: its target.
@@ -182,18 +189,17 @@ const CHANGES: &[Row] = &[
     Row(Held(&[]), Text(b"dir d m moved new s t")),
 ];
 
+const TABLES: &[Table<'static>] = &[
+    ("an image once it is installed", 1, IMAGE),
+    ("an image once it is installed", 2, IMAGE),
+    ("an image once it is installed", 3, IMAGE),
+    ("changes", 1, CHANGES),
+    ("changes", 2, CHANGES),
+    ("changes", 3, CHANGES),
+];
+
 // A tree that keeps files in a map of its own, and brings them to the host at the end of a run, fails here.
 #[test]
 fn the_host_holds_an_image_and_each_change_right_after_it(rt: HostRuntime) -> Result<(), HostErr> {
-    for stream in [1, 2, 3] {
-        expect(
-            &rt,
-            rt.alloc(),
-            "an image once it is installed",
-            stream,
-            IMAGE,
-        )?;
-        expect(&rt, rt.alloc(), "changes", stream, CHANGES)?;
-    }
-    Ok(())
+    expect_all(&rt, rt.alloc(), TABLES)
 }

@@ -1,5 +1,5 @@
 // Listings of directories, by pieces.
-use super::play::expect;
+use super::play::{Table, expect_all};
 use super::row::Call::List;
 use super::row::Outcome::Lists;
 use super::row::Row;
@@ -37,16 +37,12 @@ const DOTS: &[Row] = &[
     Row(List(2, Some(b"!"), 9), Lists(&[("f", 3, 8), ("up", 4, 10)])),
 ];
 
-// What each table shows, the stream that the host chooses by, and its rows.
-const TABLES: [(&str, u64, &[Row]); 2] = [
+const TABLES: &[Table<'static>] = &[
     ("directories are listed by pieces", 1, PIECES),
     ("dots come first", 2, DOTS),
 ];
 
 #[test]
 fn directories_are_listed_by_pieces(rt: HostRuntime) -> Result<(), HostErr> {
-    for (what, stream, rows) in TABLES {
-        expect(&rt, rt.alloc(), what, stream, rows)?;
-    }
-    Ok(())
+    expect_all(&rt, rt.alloc(), TABLES)
 }

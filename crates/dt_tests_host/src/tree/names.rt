@@ -39,13 +39,22 @@ pub fn make_new(
     requires { Stands tree.old host.old.view.forest }
     ensures { OnOk result (Stands tree.new host.new.view.forest) }
 {
-    let Some((what, mode)) = what_of(alloc, node)? else {
-        return Ok(Found::Absent);
-    };
+    match what_of(alloc, node)? {
+        Some((what, mode)) => make_of(host, tree, &what, mode),
+        None => Ok(Found::Absent),
+    }
+}
+
+// The same of what is good for an image.
+fn make_of(host: &mut MemHost, tree: &mut Tree, what: &What, mode: u32) -> Result<Found, HostErr>
+    requires stands { Stands tree.old host.old.view.forest }
+    requires good { IsTrue (is_good_what what.now mode) }
+    ensures { OnOk result (Stands tree.new host.new.view.forest) }
+{
     if tree.find(host, ROOT, b"new")?.is_some() {
         return Ok(Found::Absent);
     }
-    match tree.make_node(host, ROOT, b"new", &what, mode, 3_000) {
+    match tree.make_node(host, ROOT, b"new", what, mode, 3_000) {
         Ok(_) => Ok(Found::Done),
         Err(CallErr::Errno(errno)) => Ok(Found::Refused(errno)),
         Err(CallErr::Host(error)) => Err(error),

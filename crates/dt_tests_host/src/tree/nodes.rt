@@ -1,5 +1,5 @@
 // What is told of nodes, and what comes from the host.
-use super::play::expect;
+use super::play::{Table, expect_all};
 use super::row::Call::{DotDot, PathOf, Target, Tell};
 use super::row::Outcome::{Dir, Text, Told};
 use super::row::Row;
@@ -21,16 +21,12 @@ const TEXTS: &[Row] = &[
     Row(DotDot(1), Dir(1)),
 ];
 
-// What each table shows, the stream that the host chooses by, and its rows.
-const TABLES: [(&str, u64, &[Row]); 2] = [
+const TABLES: &[Table<'static>] = &[
     ("nodes are told of", 1, NODES),
     ("targets and paths come from the host", 2, TEXTS),
 ];
 
 #[test]
 fn nodes_are_told_of_and_targets_come_from_the_host(rt: HostRuntime) -> Result<(), HostErr> {
-    for (what, stream, rows) in TABLES {
-        expect(&rt, rt.alloc(), what, stream, rows)?;
-    }
-    Ok(())
+    expect_all(&rt, rt.alloc(), TABLES)
 }

@@ -7,15 +7,26 @@ use super::fixture::{host, load};
 use super::held::held;
 use super::names::{add_other, drop_node, make_new, move_away};
 use super::row::{Call, Found, Row, is_met};
+use crate::expect::same_at;
 use dt_host::HostErr;
 use dt_memhost::MemHost;
 use dt_tree::Tree;
 use std::alloc::Global;
 use std::process::Abort;
 
+/// What rows show, the stream that the host chooses by, and the rows.
+pub type Table<'a> = (&'a str, u64, &'a [Row<'a>]);
+
+/// Ends the test unless the rows of each table come to what they want.
+pub fn expect_all(rt: &impl Abort, alloc: Global, tables: &[Table<'_>]) -> Result<(), HostErr> {
+    for (what, stream, rows) in tables {
+        expect(rt, alloc, what, *stream, rows)?;
+    }
+    Ok(())
+}
+
 /// Ends the test unless these rows come to what they want, over a host that chooses by the stream of a number; says
-/// what
-/// they show.
+/// what they show.
 pub fn expect(
     rt: &impl Abort,
     alloc: Global,
@@ -24,10 +35,8 @@ pub fn expect(
     rows: &[Row],
 ) -> Result<(), HostErr> {
     let mismatch = play(alloc, stream, rows)?;
-    assert!(rt;
-        mismatch.is_none(),
-        "{what}, over stream {stream}: {mismatch:?}"
-    );
+    let is_met = mismatch.is_none();
+    same_at(rt, (what, stream, mismatch), is_met, true);
     Ok(())
 }
 

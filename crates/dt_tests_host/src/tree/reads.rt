@@ -1,4 +1,5 @@
 // Reads of a file, over hosts that move the bytes in pieces of their own choice.
+ghost use Rattle.dt_host.specs.World.{IsEmptyStart};
 ghost use Rattle.dt_tree.specs.Table.{Stands};
 
 use super::fixture::{bytewise, file_in_root, host, load};
@@ -28,7 +29,7 @@ fn read(
 }
 
 // An offset in `hello`, the size of the buffer, how many bytes come, and what the buffer then holds.
-const ROWS: [(u64, usize, usize, &[u8]); 11] = [
+const ROWS: &[(u64, usize, usize, &[u8])] = &[
     (0, 5, 5, b"hello"),
     (0, 4, 4, b"hell"),
     (0, 8, 5, b"hello---"),
@@ -47,30 +48,39 @@ fn reads_as_listed(alloc: Global, host: &mut MemHost, tree: &Tree) -> Result<boo
     requires { Stands tree.now host.old.view.forest }
 {
     for (off, size, count, bytes) in ROWS {
-        match read(alloc, host, tree, off, size)? {
-            Some((came, buf)) if came == count && buf.as_slice() == bytes => {}
+        match read(alloc, host, tree, *off, *size)? {
+            Some((came, buf)) if came == *count && buf.as_slice() == *bytes => {}
             _ => return Ok(false),
         }
     }
     Ok(true)
 }
 
+// The same over a host that is new.
+fn load_and_read(alloc: Global, host: &mut MemHost) -> Result<bool, HostErr>
+    requires { IsEmptyStart host.old.view }
+{
+    let tree = load(alloc, host)?;
+    reads_as_listed(alloc, host, &tree)
+}
+
+// The same over one that chooses by the stream of a number.
+fn reads_over(alloc: Global, stream: u64) -> Result<bool, HostErr> {
+    let mut host = host(alloc, stream, 0)?;
+    load_and_read(alloc, &mut host)
+}
+
 #[test]
 fn reads_end_at_the_buffer_or_at_the_file(rt: HostRuntime) -> Result<(), HostErr> {
-    let alloc = rt.alloc();
-    let mut host = bytewise(alloc, Vec::new(alloc))?;
-    let tree = load(alloc, &mut host)?;
-    same(&rt, reads_as_listed(alloc, &mut host, &tree)?, true);
+    let mut host = bytewise(rt.alloc(), Vec::new(rt.alloc()))?;
+    same(&rt, load_and_read(rt.alloc(), &mut host)?, true);
     Ok(())
 }
 
 #[test]
 fn reads_are_the_same_in_pieces_of_other_sizes(rt: HostRuntime) -> Result<(), HostErr> {
-    let alloc = rt.alloc();
     for stream in [1, 2, 3] {
-        let mut host = host(alloc, stream, 0)?;
-        let tree = load(alloc, &mut host)?;
-        same_at(&rt, stream, reads_as_listed(alloc, &mut host, &tree)?, true);
+        same_at(&rt, stream, reads_over(rt.alloc(), stream)?, true);
     }
     Ok(())
 }

@@ -1,21 +1,45 @@
 // Where paths lead, and how they are refused.
-use super::play::expect;
+use super::play::{Table, expect, expect_all};
 use super::row::Call::Walk;
-use super::row::Outcome::{Leads, Refused};
+use super::row::Outcome::{self, Leads, Refused};
 use super::row::Row;
 use dt_base::{Blob, Errno};
 use dt_host::HostErr;
 use dt_walk::Last::{Follow, Keep};
-use std::alloc::Global;
+use std::alloc::{AllocError, Global};
+use std::process::Abort;
 
-// A text again and again, and one behind it.
-fn repeated(alloc: Global, text: &[u8], times: usize, end: &[u8]) -> Result<Blob, HostErr> {
-    let mut all = Vec::new(alloc);
-    for _i in 0..times {
-        all.extend_from_slice(text)?;
+// A path: how it starts, a text that comes so many times then, and how it ends.
+type Long = (&'static [u8], &'static [u8], usize, &'static [u8]);
+
+fn path_of(alloc: Global, long: Long) -> Result<Blob, HostErr> {
+    let (start, text, times, end) = long;
+    let mut path = Vec::from_slice(alloc, start)?;
+    repeat(&mut path, text, times)?;
+    path.extend_from_slice(end)?;
+    Ok(Blob::new(path))
+}
+
+// Adds a text so many times.
+fn repeat(path: &mut Vec<u8>, text: &[u8], times: usize) -> Result<(), AllocError> {
+    for _ in 0..times {
+        path.extend_from_slice(text)?;
     }
-    all.extend_from_slice(end)?;
-    Ok(Blob::new(all))
+    Ok(())
+}
+
+// Ends the test unless a walk on this path, where a link that is its last name is kept, comes to that.
+fn expect_walk(
+    rt: &impl Abort,
+    alloc: Global,
+    what: &str,
+    stream: u64,
+    long: Long,
+    outcome: Outcome<'_>,
+) -> Result<(), HostErr> {
+    let path = path_of(alloc, long)?;
+    let rows = [Row(Walk(path.as_slice(), Keep), outcome)];
+    expect(rt, alloc, what, stream, &rows)
 }
 
 const PLACES: &[Row] = &[
@@ -58,8 +82,7 @@ const REFUSALS: &[Row] = &[
     Row(Walk(b"/m/x", Keep), Refused(Errno::Loop)),
 ];
 
-// What each table shows, the stream that the host chooses by, and its rows.
-const TABLES: [(&str, u64, &[Row]); 3] = [
+const TABLES: &[Table<'static>] = &[
     ("paths lead to places", 1, PLACES),
     ("links are followed or kept", 2, LINKS),
     ("refusals come in their order", 3, REFUSALS),
@@ -67,48 +90,36 @@ const TABLES: [(&str, u64, &[Row]); 3] = [
 
 #[test]
 fn paths_lead_to_places_or_are_refused(rt: HostRuntime) -> Result<(), HostErr> {
-    for (what, stream, rows) in TABLES {
-        expect(&rt, rt.alloc(), what, stream, rows)?;
-    }
-    Ok(())
+    expect_all(&rt, rt.alloc(), TABLES)
 }
 
 #[test]
 fn forty_links_are_followed(rt: HostRuntime) -> Result<(), HostErr> {
-    let most = repeated(rt.alloc(), b"/d/up", 40, b"/hello")?;
-    let more = repeated(rt.alloc(), b"/d/up", 41, b"/hello")?;
-    let rows = [
-        Row(
-            Walk(most.as_slice(), Keep),
-            Leads(1, b"hello", Some(5), false),
-        ),
-        Row(Walk(more.as_slice(), Keep), Refused(Errno::Loop)),
-    ];
-    expect(&rt, rt.alloc(), "forty links are followed", 4, &rows)
+    let what = "forty links are followed";
+    let most: Long = (b"", b"/d/up", 40, b"/hello");
+    let file = Leads(1, b"hello", Some(5), false);
+    expect_walk(&rt, rt.alloc(), what, 4, most, file)?;
+    let more: Long = (b"", b"/d/up", 41, b"/hello");
+    expect_walk(&rt, rt.alloc(), what, 4, more, Refused(Errno::Loop))
 }
 
 #[test]
 fn names_end_at_255_bytes(rt: HostRuntime) -> Result<(), HostErr> {
-    let most = repeated(rt.alloc(), b"a", 255, b"")?;
-    let more = repeated(rt.alloc(), b"a", 256, b"")?;
-    let in_file = repeated(rt.alloc(), b"/hello/", 1, more.as_slice())?;
-    let rows = [
-        Row(
-            Walk(most.as_slice(), Keep),
-            Leads(1, most.as_slice(), None, false),
-        ),
-        Row(Walk(more.as_slice(), Keep), Refused(Errno::NameTooLong)),
-        Row(Walk(in_file.as_slice(), Keep), Refused(Errno::NotDir)),
-    ];
-    expect(&rt, rt.alloc(), "names end at 255 bytes", 5, &rows)
+    let what = "names end at 255 bytes";
+    let most: Long = (b"", b"a", 255, b"");
+    let name = path_of(rt.alloc(), most)?;
+    let new = Leads(1, name.as_slice(), None, false);
+    expect_walk(&rt, rt.alloc(), what, 5, most, new)?;
+    let more: Long = (b"", b"a", 256, b"");
+    expect_walk(&rt, rt.alloc(), what, 5, more, Refused(Errno::NameTooLong))?;
+    let in_file: Long = (b"/hello/", b"a", 256, b"");
+    expect_walk(&rt, rt.alloc(), what, 5, in_file, Refused(Errno::NotDir))
 }
 
 #[test]
 fn a_path_of_4095_bytes_is_walked(rt: HostRuntime) -> Result<(), HostErr> {
-    let path = repeated(rt.alloc(), b"/", 4_090, b"hello")?;
-    let rows = [Row(
-        Walk(path.as_slice(), Keep),
-        Leads(1, b"hello", Some(5), false),
-    )];
-    expect(&rt, rt.alloc(), "a path of 4095 bytes is walked", 6, &rows)
+    let what = "a path of 4095 bytes is walked";
+    let path: Long = (b"", b"/", 4_090, b"hello");
+    let file = Leads(1, b"hello", Some(5), false);
+    expect_walk(&rt, rt.alloc(), what, 6, path, file)
 }

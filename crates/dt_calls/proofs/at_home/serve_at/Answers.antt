@@ -16,6 +16,6 @@ unreachable-requires g c =
 pub returns : goal.returns
 returns g c =
     let there : get c.args.places.now c.args.vpid ≡ Some c.in-Some.place.now = ap (get c.args.places.now) (sym c.from.ensures) ∙ sym c.get_mut.ensures.value ∙ ap option_copied_mut c.in-Some.is in
-    serves-at _ _ _ c.args.places.now _ c.args.vpid c.in-Some.place.now c.serve_in.new.place c.serve_in.result _ _ there
+    serves-at _ _ _ _ c.args.places.now _ c.args.vpid c.in-Some.place.now c.serve_in.new.place c.serve_in.result _ _ there
     (ap (λ n. insert c.args.places.now n c.serve_in.new.place) c.from.ensures)
     (some-there c.args.places.now c.args.vpid c.in-Some.place.now there c.requires.home) c.serve_in.ensures.stays c.serve_in.ensures.served

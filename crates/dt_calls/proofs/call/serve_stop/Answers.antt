@@ -8,10 +8,10 @@ pub returns-in-Counter : goal.returns-in-Counter
 unfolding effect_of_stop
 returns-in-Counter g c =
     let shared = c.args.shared.now in
-    let own = c.args.own.now in
+    let p = c.args.vpid in
     let m = c.args.machine.now in
     let world = g.H.Host.view c.args.host.now in
     let before = shared_of shared world in
     let read = c.read_counter.ensures in
-    serves-time (effect_of_stop before shared.pids.next own m c.args.stop) shared own world c.read_counter.new.machine c.read_counter.result (g.H.Host.count c.args.host.now) c.requires read.child
-    c.read_counter.new.shared read.rest read.files (ap (effect_of_stop before shared.pids.next own m) c.in-Counter.is ∙ read.served world own)
+    serves-time p (effect_of_stop before shared.pids.next p m c.args.stop) shared c.read_counter.new.shared world c.read_counter.new.machine c.read_counter.result (g.H.Host.count c.args.host.now) c.requires.sound read.child
+    read.rest read.files (ap (effect_of_stop before shared.pids.next p m) c.in-Counter.is ∙ read.served world)

@@ -1,5 +1,5 @@
 use Rattle.std.proofs.Common.{◌≡◌, ◌++◌, take}
-use Rattle.dt_calls.specs.Settle.{kill_events}
+use Rattle.dt_calls.specs.Ends.{kill_events}
 use Rattle.dt_calls.proofs.ending.show_kills.Given as goal
 
 -- so far the ends of the first ones are shown

@@ -1,14 +1,17 @@
+use Rattle.std.proofs.Common.{refl}
 use Rattle.dt_calls.specs.InCode.{shared_of}
 use Rattle.dt_calls.specs.SignalCalls.{sigaction_call}
-use Rattle.dt_calls.proofs.Signalled.{called-served, still-called}
+use Rattle.dt_calls.proofs.Called.{called-served}
+use Rattle.dt_calls.proofs.Tasks.{changes-task}
 use Rattle.dt_calls.proofs.call.signals.rt_sigaction.Goals as goal
 
-pub returns-clause-still : goal.returns-clause-still
-returns-clause-still c = still-called _ _ _ _ _ _ _ c.change_action-answer.ensures
+pub returns-clause-kept : goal.returns-clause-kept
+returns-clause-kept c =
+    changes-task c.args.shared.now c.change_action-answer.new.tasks c.args.vpid _ c.requires c.change_action-answer.ensures.tasks refl refl
 
 pub returns-clause-served : goal.returns-clause-served
 unfolding sigaction_call
 returns-clause-served c = λ w.
-    let signals = c.change_action-answer.new.signals in
-    called-served _ (shared_of c.args.shared.now w) c.args.own.now c.args.machine.now c.change_action-answer.new.machine c.give_answer.new.machine _ signals c.change_action-answer.result c.give_answer.result c.change_action-answer.ensures
-    (c.give_answer.ensures.served (shared_of (record c.args.shared.now { signals = signals }) w) c.args.own.now)
+    let tasks = c.change_action-answer.new.tasks in
+    called-served _ (shared_of c.args.shared.now w) c.args.vpid c.args.machine.now c.change_action-answer.new.machine c.give_answer.new.machine _ tasks c.change_action-answer.result c.give_answer.result c.change_action-answer.ensures
+    (c.give_answer.ensures.served (shared_of (record c.args.shared.now { tasks = tasks }) w))

@@ -15,7 +15,7 @@ use Rattle.dt_calls.proofs.container.Container.install.Goals as goal
 pub counted-requires-clause-paired : goal.counted-requires-clause-paired
 counted-requires-clause-paired g c = λ q some.
     let places = c.in_ok-put.ensures.ok ∙ (λ i. insert (c.new-places.ensures i) (c.from.ensures i) None) in
-    paired-insert c.in_ok-shared.shared.processes empty FIRST_PID None (paired-empty c.in_ok-shared.shared.processes) c.in_ok-shared.ensures.part q
+    paired-insert c.in_ok-shared.shared.tasks empty FIRST_PID None (paired-empty c.in_ok-shared.shared.tasks) c.in_ok-shared.ensures.task q
     (subst (λ (m : FinMap nat_cmp (Option Machine)). IsSome (get m q)) places some)
 
 pub returns-clause-sound : goal.returns-clause-sound
@@ -32,7 +32,7 @@ pub returns-clause-lives : goal.returns-clause-lives
 returns-clause-lives g c =
     let places = c.in_ok-put.ensures.ok ∙ (λ i. insert (c.new-places.ensures i) (c.from.ensures i) None) in
     record {
-      part = c.in_ok-shared.ensures.part;
+      task = c.in_ok-shared.ensures.task;
       place = subst (λ (m : FinMap nat_cmp (Option Machine)). IsSome (get m FIRST_PID)) (sym places) (place-here empty FIRST_PID None);
     }
 

@@ -3,7 +3,7 @@ use Rattle.std.proofs.Math.ListN.{get_or}
 use Rattle.std.specs.Prelude.{IsSome}
 use Rattle.std.specs.FinMap.{get}
 use Rattle.dt_calls.proofs.Keys.{key-there, key-apart}
-use Rattle.dt_calls.proofs.Ended.{kills-next, part-kept}
+use Rattle.dt_calls.proofs.Ended.{kills-next, others-kept}
 use Rattle.dt_calls.proofs.shared.Shared.kill_each.Goals as goal
 
 pub loop-vpid-init : goal.loop-vpid-init
@@ -13,7 +13,7 @@ loop-vpid-init g c = record {
   sound = c.requires.sound;
   next = refl;
   lives = λ k least within.
-      subst (λ ks. k < length ks → IsSome (get c.args.self.now.processes (get_or ks k 0))) c.requires.all (key-there c.args.self.now.processes k) within;
+      subst (λ ks. k < length ks → IsSome (get c.args.self.now.tasks (get_or ks k 0))) c.requires.all (key-there c.args.self.now.tasks k) within;
 }
 
 pub loop-vpid-preserved : goal.loop-vpid-preserved
@@ -27,6 +27,6 @@ loop-vpid-preserved g c =
       sound = c.in_ok-end_one.ensures.sound;
       next = c.in_ok-end_one.ensures.next ∙ c.loop-vpid.invariant.next;
       lives = λ k least within.
-          let apart : get_or vpids i 0 ≢ get_or vpids k 0 = subst (λ ks. k < length ks → get_or ks i 0 ≢ get_or ks k 0) c.requires.all (key-apart c.args.self.now.processes i k (omega arith)) within in
-          part-kept _ (get_or vpids k 0) _ _ _ ended (λ is. apart (sym is)) (c.loop-vpid.invariant.lives k (omega arith) within);
+          let apart : get_or vpids i 0 ≢ get_or vpids k 0 = subst (λ ks. k < length ks → get_or ks i 0 ≢ get_or ks k 0) c.requires.all (key-apart c.args.self.now.tasks i k (omega arith)) within in
+          others-kept _ (get_or vpids k 0) _ _ _ ended (λ is. apart (sym is)) (c.loop-vpid.invariant.lives k (omega arith) within);
     }

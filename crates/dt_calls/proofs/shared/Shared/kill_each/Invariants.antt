@@ -2,7 +2,7 @@ use Rattle.std.proofs.Common.{◌≡◌, ℕ, ◌<◌, ◌≤◌, drop, length}
 use Rattle.std.specs.Prelude.{IsSome, slice_index}
 use Rattle.std.specs.FinMap.{get}
 use Rattle.dt_calls.specs.InCode.{shared_of}
-use Rattle.dt_calls.specs.Settle.{shared_after_kills}
+use Rattle.dt_calls.specs.Ends.{shared_after_kills}
 use Rattle.dt_calls.specs.Sound.{IsSound}
 use Rattle.dt_calls.proofs.shared.Shared.kill_each.Given as goal
 
@@ -13,5 +13,5 @@ invariant-loop-vpid g l = record {
   whole : shared_after_kills l.fn.vpids (shared_of l.fn.self (g.H.Host.view l.fn.host)) ≡ shared_after_kills (drop l.vpid-index l.vpids) (shared_of l.self (g.H.Host.view l.host));
   sound : IsSound l.self (g.H.Host.view l.host);
   next : l.self.pids.next ≡ l.fn.self.pids.next;
-  lives : (k : ℕ) → l.vpid-index ≤ k → k < length l.vpids → IsSome (get l.self.processes (slice_index l.vpids k));
+  lives : (k : ℕ) → l.vpid-index ≤ k → k < length l.vpids → IsSome (get l.self.tasks (slice_index l.vpids k));
 }

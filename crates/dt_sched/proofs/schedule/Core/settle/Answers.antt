@@ -1,5 +1,6 @@
 use Rattle.std.proofs.Common.{sym, ◌∙◌, ap, subst}
-use Rattle.dt_sched.specs.Core.{IsReady, core_of, head, verdict_after}
+use Rattle.dt_sched.specs.Core.{IsReady, core_of, head}
+use Rattle.dt_sched.specs.Order.{verdict_after}
 use Rattle.dt_sched.proofs.Tables.{none-ready, counted-settled, going-after}
 use Rattle.dt_sched.proofs.schedule.Core.settle.Goals as goal
 

@@ -1,3 +1,6 @@
+use Rattle.std.proofs.Common.{ap, subst, sym}
+use Rattle.std.specs.List.{Contains}
+use Rattle.std.proofs.lemmas.List.Elements.{Contains-get_or}
 use Rattle.dt_tests_parts.proofs.Belows.{below-came}
 use Rattle.dt_tests_parts.proofs.driver.Driver.arrive.Goals as goal
 

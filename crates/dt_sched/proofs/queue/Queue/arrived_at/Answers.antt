@@ -2,7 +2,7 @@ use Rattle.std.proofs.Common.{map, ap, ◌∙◌, arith}
 use Rattle.std.specs.List.{slice_index_or}
 use Rattle.dt_sched.specs.Core.{owing_vpids, process_after_arrival}
 use Rattle.dt_sched.proofs.Tables.{index-there, place-there, arrived-there, table-arrived}
-use Rattle.dt_sched.proofs.queue.Queue.arrived.Goals as goal
+use Rattle.dt_sched.proofs.queue.Queue.arrived_at.Goals as goal
 
 pub remove-at-requires : goal.remove-at-requires
 remove-at-requires c =
