@@ -33,9 +33,9 @@ def write_image(folder, guest, entries=(), blobs=()):
         json.dump({"version": 1, "entries": [first, *entries]}, index)
 
 
-def command(program, folder, guest):
-    """The words that run the guest of such an image, with the greatest budget. The guest's own follow."""
-    return [program, "run", folder, "--budget", "1000000000", "--", "/" + os.path.basename(guest)]
+def command(program, folder, guest, *options):
+    """The words that run the guest of such an image, with the greatest budget and further options. Its own follow."""
+    return [program, "run", folder, "--budget", "1000000000", *options, "--", "/" + os.path.basename(guest)]
 
 
 def print_growth(what, sizes, times, bound, bound_of):

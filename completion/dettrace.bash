@@ -36,12 +36,15 @@ _dettrace_count() {
 
 _dettrace() {
     local word=${COMP_WORDS[COMP_CWORD]} before=${COMP_WORDS[COMP_CWORD - 1]}
-    local valued="--seed --budget --host"
+    local valued="--seed --budget --workers --host"
     COMPREPLY=()
+    [[ ${COMP_WORDS[1]} == demo ]] && valued="--workers --host"
     if ((COMP_CWORD == 1)); then
-        _dettrace_words "run" "$word"
+        _dettrace_words "run demo" "$word"
     elif _dettrace_is_behind || [[ " $valued " == *" $before "* ]]; then
         return
+    elif [[ ${COMP_WORDS[1]} == demo ]]; then
+        _dettrace_words "$valued" "$word"
     elif [[ $word == -* ]]; then
         _dettrace_words "$valued --" "$word"
     elif (($(_dettrace_count "$valued" 1) == 0)); then
@@ -53,7 +56,7 @@ _dettrace() {
 
 _dettrace_run() {
     local word=${COMP_WORDS[COMP_CWORD]} before=${COMP_WORDS[COMP_CWORD - 1]}
-    local valued="--seed --budget --host --workers --report --check"
+    local valued="--seed --budget --workers --host --report --check"
     local others="--twice --strict --quiet --help --version"
     COMPREPLY=()
     if _dettrace_is_behind; then

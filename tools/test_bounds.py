@@ -1,5 +1,6 @@
-"""A caller is refused whose host, output or gate may not be handed to another thread. No proof needs that yet, and no
-wrong body can show it, since such a caller does not reach the prover."""
+"""A caller is refused whose host or output may not be handed to another thread, or whose threads or gate may not be
+shared by threads. No wrong body can show it, since such a caller does not reach the prover. Host and output stay with
+their own thread so far, and no code but the bound itself needs that they may leave it."""
 from __future__ import annotations
 
 import os
@@ -13,7 +14,7 @@ from pathlib import Path
 from program import TOP
 
 SECONDS = 100
-BOUNDS = ("H: Host + Send", "O: Sink + Send", "G: Gate + Sync")
+BOUNDS = ("R: Threads + Sync", "H: Host + Send", "O: Sink + Send", "G: Gate + Sync")
 UNMET = "error[unsatisfied-bound]: the trait bound `{}` is not satisfied"
 
 

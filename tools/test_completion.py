@@ -14,7 +14,7 @@ from program import TOP
 SCRIPT = """. "$0" && COMP_CWORD=$(($# - 1)) && COMP_WORDS=("$@") && COMP_LINE="$*" && COMP_POINT=${#COMP_LINE}
 function=$(complete -p "$1" | sed 's/.*-F \\([a-z_]*\\) .*/\\1/') && { $function; printf '%s\\n' "${COMPREPLY[@]}"; }
 """
-RUN_OPTIONS = ["--seed", "--budget", "--host", "--workers", "--report", "--check", "--twice", "--strict", "--quiet",
+RUN_OPTIONS = ["--seed", "--budget", "--workers", "--host", "--report", "--check", "--twice", "--strict", "--quiet",
                "--help", "--version", "--"]
 
 
@@ -46,14 +46,20 @@ class CompletionTest(unittest.TestCase):
     FILES = ["image", "tree.tar", "two words"]
 
     def test_the_program(self) -> None:
-        options = ["--seed", "--budget", "--host", "--"]
+        options = ["--seed", "--budget", "--workers", "--host", "--"]
         self.expect(
-            ("dettrace ", ["run"]), ("dettrace r", ["run"]), ("dettrace x", []),
+            ("dettrace ", ["run", "demo"]), ("dettrace r", ["run"]), ("dettrace d", ["demo"]), ("dettrace x", []),
             ("dettrace run ", self.FOLDERS), ("dettrace run im", ["image"]), ("dettrace run tree", []),
             ("dettrace run -", options), ("dettrace run --s", ["--seed"]), ("dettrace run --seed ", []),
             ("dettrace run --seed 5 ", self.FOLDERS), ("dettrace run image ", options),
             ("dettrace run image --host 1 --b", ["--budget"]), ("dettrace run image -- ", []),
-            ("dettrace run image -- --s", []))
+            ("dettrace run image -- --s", []), ("dettrace run --workers ", []))
+
+    def test_a_demonstration(self) -> None:
+        options = ["--workers", "--host"]
+        self.expect(
+            ("dettrace demo ", options), ("dettrace demo 7 ", options), ("dettrace demo 7 --w", ["--workers"]),
+            ("dettrace demo --workers ", []), ("dettrace demo --workers 2 ", options), ("dettrace demo 7 --s", []))
 
     def test_the_tool_that_runs(self) -> None:
         self.expect(

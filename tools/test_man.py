@@ -33,6 +33,17 @@ def table(file: str, heading: str) -> List[List[str]]:
     return [[cell.replace("`", "").strip() for cell in row] for row in rows]
 
 
+def forms(lines: List[str]) -> List[str]:
+    """The calls that a synopsis shows, one for each `.Nm`, as a line has them."""
+    found: List[List[str]] = []
+    for line in lines:
+        if line == ".Nm":
+            found.append([])
+        text = mdoc.plain(line, "dettrace")
+        found[-1].append(f"[{text}]" if line.startswith(".Op") else text)
+    return [" ".join(words) for words in found]
+
+
 def sentence(text: str) -> str:
     """A text as a page has it, which begins in capitals and ends with a stop."""
     return text[:1].upper() + text[1:] + "."
@@ -60,13 +71,13 @@ class ProgramTest(unittest.TestCase):
         texts = re.findall(r'"(dettrace: (?:[^"\\]|\\.|\\\n)*)"', source)
         self.lines = [re.sub(r"\\\n\s*", "", text)[:-2] for text in texts]
 
-    def test_the_synopsis_is_the_usage_line_of_the_source(self) -> None:
+    def test_the_synopsis_begins_with_the_usage_line_of_the_source(self) -> None:
         (usage,) = [line for line in self.lines if line.startswith("dettrace: usage: ")]
-        words = []
-        for line in self.page["SYNOPSIS"]:
-            text = mdoc.plain(line, "dettrace")
-            words.append(f"[{text}]" if line.startswith(".Op") else text)
-        self.assertEqual(f"dettrace: usage: {' '.join(words)}", usage)
+        self.assertEqual(f"dettrace: usage: {forms(self.page['SYNOPSIS'])[0]}", usage)
+
+    def test_the_synopsis_is_that_of_the_readme(self) -> None:
+        section = (TOP / "README.md").read_text().split("\n## The command line\n")[1].split("\n## ")[0]
+        self.assertEqual(forms(self.page["SYNOPSIS"]), re.findall(r"(?m)^    (dettrace .*)$", section))
 
     def test_each_line_of_error_is_in_the_source_and_on_the_page(self) -> None:
         heads = [item.head for item in mdoc.items(self.page["DIAGNOSTICS"])]
@@ -75,7 +86,7 @@ class ProgramTest(unittest.TestCase):
 
     def test_the_words_and_their_ranges_are_those_of_the_readme(self) -> None:
         items = mdoc.items(self.page["DESCRIPTION"])
-        rows = table("README.md", "The command line")[1:8]
+        rows = table("README.md", "The command line")[1:10]
         self.assertEqual([item.head for item in items], [row[0] for row in rows])
         for item, (words, numbers, default, _) in zip(items, rows):
             with self.subTest(words):

@@ -5,7 +5,7 @@ import os
 import subprocess
 import unittest
 
-from runlib.testing import HELLO, SCRIPT, USAGE, WORKERS_USAGE, Done, RunCase
+from runlib.testing import HELLO, OLD_USAGE, SCRIPT, Done, RunCase
 
 REST = "[options] FOLDER|ARCHIVE|IMAGE -- [NAME=VALUE ..] PROGRAM [ARG ..]"
 HIGHEST = 2**64 - 1
@@ -35,6 +35,8 @@ class Words(RunCase):
             (("--budget", "1e6", "tree", "--", "/a"), "--budget 1e6: not a whole number from 1 to 1000000000"),
             (("--seed=", "tree", "--", "/a"), f"--seed : not a whole number from 0 to {HIGHEST}"),
             (("--seed", "٣", "tree", "--", "/a"), f"--seed ٣: not a whole number from 0 to {HIGHEST}"),
+            (("--workers", "65", "tree", "--", "/a"), "--workers 65: at most 64"),
+            (("--workers", "0", "tree", "--", "/a"), "--workers 0: at least 1"),
             (("--check", "1", "tree", "--", "/a"), "--check 1: at least 2"),
             (("--check", "1001", "tree", "--", "/a"), "--check 1001: at most 1000"))
 
@@ -73,7 +75,7 @@ class Words(RunCase):
                 done = self.run_words(*words)
                 self.assertEqual((done.status, done.err), (0, []))
                 text = done.out.decode()
-                for part in ("--seed N", "--budget N", "--host N", "--workers N", "--report FILE", "--check N",
+                for part in ("--seed N", "--budget N", "--workers N", "--host N", "--report FILE", "--check N",
                              "--twice", "--strict", "--quiet", "--version", "  125 ", "  126 ", "  127 ",
                              "  128 + N", "  200 ", "  201 ", "  202 ", "  203 ", "XDG_CACHE_HOME", "DETTRACE"):
                     self.assertIn(part, text)
@@ -89,12 +91,12 @@ class Words(RunCase):
                                     "--seed", "--", "", "ä"])
 
     def test_workers_are_passed_where_the_program_has_them(self) -> None:
+        self.assertEqual(self.run_words("--workers", "64", "tree", "--", "/a").status, 0)
+        self.assertEqual(self.calls()[0][2:], ["--workers", "64", "--", "/a"])
+        self.stand_in(HELLO, usage=OLD_USAGE)
         done = self.run_words("--workers", "3", "tree", "--", "/a")
-        self.says(done, 125, f"--workers: this dettrace does not have it: {USAGE}")
+        self.says(done, 125, f"--workers: this dettrace does not have it: {OLD_USAGE}")
         self.assertEqual(self.calls(), [])
-        self.stand_in(HELLO, usage=WORKERS_USAGE)
-        self.assertEqual(self.run_words("--workers", "3", "tree", "--", "/a").status, 0)
-        self.assertEqual(self.calls()[0][2:], ["--workers", "3", "--", "/a"])
 
     def test_the_name_in_lines_is_that_by_which_the_tool_is_called(self) -> None:
         link = self.work / "dettrace-run"

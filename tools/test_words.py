@@ -4,7 +4,8 @@ import unittest
 
 from program import EXAMPLES, PROGRAM, needs_program
 
-USAGE = b"dettrace: usage: dettrace run IMAGE [--seed N] [--budget N] [--host N] -- [NAME=VALUE ..] PROGRAM [ARG ..]\n"
+USAGE = (b"dettrace: usage: dettrace run IMAGE [--seed N] [--budget N] [--workers N] [--host N] -- "
+         b"[NAME=VALUE ..] PROGRAM [ARG ..]\n")
 HELLO = (b"run", bytes(EXAMPLES / "hello"), b"--", b"/hello")
 # A byte that stands in no UTF-8.
 NO_TEXT = b"\xff"

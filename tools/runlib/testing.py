@@ -23,8 +23,10 @@ TOOLS = Path(__file__).resolve().parent.parent
 SCRIPT = TOOLS / "run"
 EXAMPLES = TOOLS.parent / "examples"
 
-USAGE = "dettrace: usage: dettrace run IMAGE [--seed N] [--budget N] [--host N] -- [NAME=VALUE ..] PROGRAM [ARG ..]"
-WORKERS_USAGE = USAGE.replace("[--host N]", "[--host N] [--workers N]")
+USAGE = ("dettrace: usage: dettrace run IMAGE [--seed N] [--budget N] [--workers N] [--host N] -- "
+         "[NAME=VALUE ..] PROGRAM [ARG ..]")
+# That of an older program.
+OLD_USAGE = USAGE.replace("[--workers N] ", "")
 
 # Notes its words, and gives the report of this call, or the last one that there is.
 STAND_IN = """#!/bin/sh

@@ -13,6 +13,8 @@ from .errors import RunError
 HIGHEST = 2**64 - 1
 BUDGET_LIMIT = 1_000_000_000
 BUDGET_DEFAULT = 100_000_000
+WORKERS_LIMIT = 64
+WORKERS_DEFAULT = 4
 RUNS_LIMIT = 1_000
 
 USAGE = "[options] FOLDER|ARCHIVE|IMAGE -- [NAME=VALUE ..] PROGRAM [ARG ..]"
@@ -26,8 +28,8 @@ class Range(NamedTuple):
 
 
 # The program's own options, and those of this tool; the value of --report is a name, and the others have none.
-PASSED = {"--seed": Range(0, HIGHEST), "--budget": Range(1, BUDGET_LIMIT), "--host": Range(0, HIGHEST),
-          "--workers": Range(1, HIGHEST)}
+PASSED = {"--seed": Range(0, HIGHEST), "--budget": Range(1, BUDGET_LIMIT), "--workers": Range(1, WORKERS_LIMIT),
+          "--host": Range(0, HIGHEST)}
 NUMBERS = {**PASSED, "--check": Range(2, RUNS_LIMIT)}
 FLAGS = ("--twice", "--strict", "--quiet", "--help", "--version")
 OPTIONS = (*NUMBERS, "--report", *FLAGS)
@@ -189,11 +191,11 @@ writes to its two streams comes out of the same two here. It ends with the progr
 options:
   --seed N       the random bytes that the program gets: 0 to {HIGHEST} (0)
   --budget N     how many instructions it may take: 1 to {BUDGET_LIMIT} ({BUDGET_DEFAULT})
+  --workers N    how many threads it may use; no report depends on it: 1 to {WORKERS_LIMIT} ({WORKERS_DEFAULT})
   --host N       what the host's choices come from; no report depends on it: 0 to {HIGHEST}
-  --workers N    how many threads work for it, where this dettrace has them; no report depends on it
   --report FILE  keeps the report, whole or not at all
-  --check N      runs it N times, 2 to {RUNS_LIMIT}, under other hosts, and says that the reports are equal, or what
-                 differs first; the output is that of the first run
+  --check N      runs it N times, 2 to {RUNS_LIMIT}, under other hosts and with other numbers of workers, and says that
+                 the reports are equal, or what differs first; the output is that of the first run
   --twice        the same as --check 2
   --strict       with --check: ends as the run itself would, and not with 0 where the reports are equal
   --quiet        says nothing but what went wrong

@@ -27,7 +27,7 @@ fn main(rt: HostRuntime) -> ExitCode {
     let mut store = FolderStore::new(&rt);
     let mut out = StdSink::new(rt.stdout());
     ExitCode::from(dettrace(
-        alloc, &words, &mut store, &mut host, &mut out, &mut err, &NoGate,
+        &rt, &words, &mut store, &mut host, &mut out, &mut err, &NoGate,
     ))
 }
 

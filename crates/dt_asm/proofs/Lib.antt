@@ -1,4 +1,5 @@
 pub mod Accepting
 pub mod Codes
+pub mod Demonstration
 pub mod Loading
 pub mod Pieces

@@ -6,5 +6,6 @@ pub mod Code
 pub mod File
 pub mod Load
 pub mod Guests
+pub mod Demo
 pub mod Accepted
 pub mod inner

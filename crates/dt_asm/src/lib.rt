@@ -3,6 +3,7 @@
 
 mod classes;
 mod code;
+mod demo;
 mod encoder;
 mod error;
 mod guest;
@@ -13,6 +14,7 @@ mod labels;
 mod loads;
 mod shapes;
 
+pub use demo::demo_image;
 pub use encoder::encode;
 pub use error::AsmErr;
 pub use guest::Guest;

@@ -4,7 +4,7 @@ use Rattle.std.specs.Prelude.{IsSome, IfSome, Ok}
 use Rattle.std.specs.FinMap.{get}
 use Rattle.dt_base.specs.declared.event.End.TheVariants.{Signal}
 use Rattle.dt_host.specs.World.{World}
-use Rattle.dt_procs.specs.declared.member.TheConstants.{FIRST_PID}
+use Rattle.dt_base.specs.declared.limits.TheConstants.{FIRST_PID}
 use Rattle.dt_signals.specs.declared.delivery.Delivery.{Delivery}
 use Rattle.dt_signals.specs.declared.delivery.Delivery.TheVariants as delivery
 use Rattle.dt_signals.specs.Delivery.{delivery_of}

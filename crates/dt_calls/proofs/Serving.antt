@@ -5,7 +5,7 @@ use Rattle.std.specs.Cmp.{nat_cmp_total}
 use Rattle.std.specs.FinMap.{get, insert, empty, nat_cmp-IsAntisymmetric}
 use Rattle.dt_host.specs.World.{World}
 use Rattle.dt_tables.proofs.Maps.{at_insert, get-insert_same}
-use Rattle.dt_procs.specs.declared.member.TheConstants.{FIRST_PID}
+use Rattle.dt_base.specs.declared.limits.TheConstants.{FIRST_PID}
 use Rattle.dt_rv64.specs.declared.machine.Machine.{Machine}
 use Rattle.dt_rv64.specs.declared.segments.Stop.{Stop}
 use Rattle.dt_calls.specs.declared.call.effect.Effect.{Effect as EffectInCode}

@@ -8,7 +8,7 @@ use Rattle.dt_fds.specs.Pipes.{PipesView}
 use Rattle.dt_pipes.specs.declared.pipe.TheConstants.{FIRST_PIPE}
 use Rattle.dt_rv64.specs.declared.machine.Machine.{Machine}
 use Rattle.dt_procs.specs.declared.member.Member.{Member}
-use Rattle.dt_procs.specs.declared.member.TheConstants.{FIRST_PID}
+use Rattle.dt_base.specs.declared.limits.TheConstants.{FIRST_PID}
 use Rattle.dt_procs.specs.Members.{first_members}
 use Rattle.dt_signals.specs.declared.signals.Sig.{Sig}
 use Rattle.dt_signals.specs.Signals.{no_signals, with_pending}

@@ -7,7 +7,7 @@ use Rattle.dt_base.specs.declared.event.End.TheVariants.{Signal}
 use Rattle.dt_base.specs.declared.event.Event.{Event}
 use Rattle.dt_base.specs.declared.event.Event.TheVariants.{Exit}
 use Rattle.dt_fds.specs.Holding.{without_process, holding_of}
-use Rattle.dt_procs.specs.declared.member.TheConstants.{FIRST_PID}
+use Rattle.dt_base.specs.declared.limits.TheConstants.{FIRST_PID}
 use Rattle.dt_procs.specs.Members as members
 use Rattle.dt_tree.specs.Changes.{tree_after_release}
 use Rattle.dt_calls.specs.declared.container.Served.{Served}

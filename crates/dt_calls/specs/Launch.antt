@@ -5,7 +5,7 @@ use Rattle.dt_base.specs.declared.errno.Errno.{Errno}
 use Rattle.dt_base.specs.Command.{Words}
 use Rattle.dt_exec.specs.declared.program.Program.{Program}
 use Rattle.dt_exec.specs.Program.{start_program}
-use Rattle.dt_procs.specs.declared.member.TheConstants.{FIRST_PID}
+use Rattle.dt_base.specs.declared.limits.TheConstants.{FIRST_PID}
 use Rattle.dt_virt.specs.Words.{start_bytes}
 use Rattle.dt_calls.specs.declared.container.Launch.{Launch}
 use Rattle.dt_calls.specs.declared.container.Launch.TheVariants.{Started, NoStart}

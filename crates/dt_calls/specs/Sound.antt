@@ -8,7 +8,8 @@ use Rattle.dt_host.specs.declared.error.HostErr.TheVariants.{Failed}
 use Rattle.dt_tables.specs.Total.{total}
 use Rattle.dt_host.specs.World.{World, IsDir}
 use Rattle.dt_procs.specs.Members.{has_live}
-use Rattle.dt_procs.specs.declared.member.TheConstants.{FIRST_PID, PROCESS_LIMIT}
+use Rattle.dt_base.specs.declared.limits.TheConstants.{FIRST_PID}
+use Rattle.dt_procs.specs.declared.member.TheConstants.{PROCESS_LIMIT}
 use Rattle.dt_procs.specs.Table as procs
 use Rattle.dt_procs.specs.Table.{members_of}
 use Rattle.dt_tree.specs.FileTree.{holds_of}

@@ -11,18 +11,22 @@ use crate::call::{Effect, serve_and_deliver};
 use crate::shared::Shared;
 use dt_base::NoMemory;
 use dt_host::{Host, HostErr};
-use dt_rv64::{Machine, Seg, Stop, segment};
+use dt_rv64::{Hints, Machine, Seg, Stop, segment};
 use dt_tables::Numbered;
 use std::alloc::Global;
 
 /// Runs a segment of the machine of a process, which is at home.
-pub(crate) fn run_at(places: &mut Numbered<Option<Machine>>, vpid: u32) -> Result<Seg, NoMemory>
+pub(crate) fn run_at(
+    places: &mut Numbered<Option<Machine>>,
+    vpid: u32,
+    hints: &mut Hints,
+) -> Result<Seg, NoMemory>
     requires { IsSome (get (machines_at_home places.old) vpid) }
     ensures always { IsOk result }
     ensures run { IfOk result (RunsAt places.old places.new vpid) }
 {
     match places.get_mut(u64::from(vpid)) {
-        Some(place) => run_in(place),
+        Some(place) => run_in(place, hints),
         None => unreachable!(),
     }
 }
@@ -51,7 +55,7 @@ pub(crate) fn serve_at<H: Host>(
 }
 
 // Runs a segment of the machine in a place.
-fn run_in(place: &mut Option<Machine>) -> Result<Seg, NoMemory>
+fn run_in(place: &mut Option<Machine>, hints: &mut Hints) -> Result<Seg, NoMemory>
     requires { IsSome place.old }
     ensures always { IsOk result }
     ensures stays { IsSome place.new }
@@ -59,7 +63,7 @@ fn run_in(place: &mut Option<Machine>) -> Result<Seg, NoMemory>
         segment_of was ≡ record { count = seg.count; stop = seg.stop; machine = now }))) }
 {
     match place {
-        Some(machine) => segment(machine),
+        Some(machine) => segment(machine, hints),
         None => unreachable!(),
     }
 }

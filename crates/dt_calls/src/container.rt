@@ -17,11 +17,10 @@ ghost use Rattle.dt_calls.specs.Sound.{IsSoundContainer};
 use crate::at_home::{run_at, serve_at};
 use crate::shared::Shared;
 use crate::task::start_task;
-use dt_base::{Command, End, Errno, Event, Image, NoMemory};
+use dt_base::{Command, End, Errno, Event, FIRST_PID, Image, NoMemory};
 use dt_exec::start_program;
 use dt_host::{Host, HostErr};
-use dt_procs::FIRST_PID;
-use dt_rv64::{Machine, Seg, Stop};
+use dt_rv64::{Hints, Machine, Seg, Stop};
 use dt_tables::Numbered;
 use dt_tree::Tree;
 use std::alloc::Global;
@@ -158,14 +157,14 @@ impl Container {
         self.places.set(u64::from(vpid), Some(machine));
     }
 
-    /// Runs a segment of a process whose machine is at home.
-    pub fn run_segment(&mut self, vpid: u32) -> Result<Seg, NoMemory>
+    /// Runs a segment of a process whose machine is at home. No answer depends on the hints.
+    pub fn run_segment(&mut self, vpid: u32, hints: &mut Hints) -> Result<Seg, NoMemory>
         requires { IsSome (get (machines_at_home self.old.places) vpid) }
         ensures always { IsOk result }
         ensures run { IfOk result (RunsAt self.old.places self.new.places vpid) }
         ensures rest { self.new ≡ record self.old { places = self.new.places } }
     {
-        run_at(&mut self.places, vpid)
+        run_at(&mut self.places, vpid, hints)
     }
 
     /// Serves the stop of a process that lives and has its machine at home, and settles what becomes of it.

@@ -10,9 +10,8 @@ ghost use Rattle.dt_calls.specs.Sound.{IsSound};
 
 use crate::shared::Shared;
 use dt_base::abi::{SIGCHLD, SIGKILL};
-use dt_base::{End, Event, NoMemory};
+use dt_base::{End, Event, FIRST_PID, NoMemory};
 use dt_host::{Host, HostErr};
-use dt_procs::FIRST_PID;
 
 impl Shared {
     /// Ends a process, and after the first one all others that live: what each has open is closed, it holds its working

@@ -12,10 +12,11 @@ ghost use Rattle.dt_calls.specs.InCode.{shared_of};
 ghost use Rattle.dt_calls.specs.Sound.{IsSound, ChangesTasks};
 
 use crate::task::{Task, raise_at};
+use dt_base::FIRST_PID;
 use dt_callbase::Fs;
 use dt_fds::Files;
 use dt_host::{Host, HostErr};
-use dt_procs::{FIRST_PID, Pids};
+use dt_procs::Pids;
 use dt_tables::Numbered;
 use dt_tree::{ROOT, Tree};
 use dt_virt::{Clock, Rand};

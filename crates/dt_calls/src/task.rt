@@ -9,9 +9,8 @@ ghost use Rattle.dt_calls.specs.FileCalls.{task_after_answer};
 
 use crate::numbers::FIRST_UMASK;
 use dt_base::abi::SIGPIPE;
-use dt_base::{Answer, Caller};
+use dt_base::{Answer, Caller, FIRST_PID};
 use dt_mcalls::Break;
-use dt_procs::FIRST_PID;
 use dt_signals::Sig;
 use dt_tables::Numbered;
 use dt_tree::ROOT;

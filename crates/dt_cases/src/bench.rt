@@ -9,6 +9,7 @@ use dt_host::NoGate;
 use dt_memhost::{MemHost, MemSink, MemStore, Picker};
 use dt_run::dettrace;
 use std::alloc::{AllocError, Global};
+use std::thread::Threads;
 
 /// Which words a picker gives.
 #[derive(Clone, Copy, Debug)]
@@ -86,12 +87,13 @@ impl<'a> Call<'a> {
     }
 
     /// Makes the call.
-    pub fn make(&self, alloc: Global) -> Result<Came, CaseErr>
+    pub fn make<R: AllocGlobal + Threads + Sync>(&self, rt: &R) -> Result<Came, CaseErr>
         ensures { IfOk result (λ came. IsTrue (is_status came.status)) }
     {
+        let alloc = rt.alloc();
         let mut met = self.surroundings(alloc)?;
         let status = dettrace(
-            alloc,
+            rt,
             self.words,
             &mut met.store,
             &mut met.host,

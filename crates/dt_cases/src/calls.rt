@@ -14,9 +14,15 @@ use crate::steps::named_numbers;
 use crate::steps::plan::Plan;
 use crate::steps::trial::Trial;
 use std::alloc::Global;
+use std::thread::Threads;
 
 /// What comes of the cases of a file.
-pub fn run(alloc: Global, text: &str, mut numbers: Numbers) -> Result<Tally, CaseErr> {
+pub fn run<R: AllocGlobal + Threads + Sync>(
+    rt: &R,
+    text: &str,
+    mut numbers: Numbers,
+) -> Result<Tally, CaseErr> {
+    let alloc = rt.alloc();
     let blocks = Blocks::of(alloc, text)?;
     let head = named_numbers(alloc, &blocks.head, &mut numbers)?;
     let mut tally = Tally::new(alloc);
@@ -24,7 +30,7 @@ pub fn run(alloc: Global, text: &str, mut numbers: Numbers) -> Result<Tally, Cas
         let lines = with_steps(alloc, case, &blocks.head)?;
         for row in rows(alloc, &lines, &numbers)? {
             let plan = played(alloc, &head, &lines, &row, &numbers)?;
-            Trial::new(alloc, &plan)?.run(&mut tally)?;
+            Trial::new(alloc, &plan)?.run(rt, &mut tally)?;
         }
     }
     Ok(tally)

@@ -16,8 +16,10 @@ use crate::error::CaseErr;
 use crate::folder::{case_files, read_lines};
 use crate::numbers::Numbers;
 use crate::report::{Tally, print_counts, print_tally};
-use std::env;
+use std::env::{self, Env};
 use std::process::ExitCode;
+use std::rt::Files;
+use std::thread::Threads;
 
 fn main(rt: HostRuntime) -> ExitCode {
     match all_files(&rt) {
@@ -31,7 +33,9 @@ fn main(rt: HostRuntime) -> ExitCode {
 }
 
 // Whether all files of the folder that is the first argument are as they have to be.
-fn all_files(rt: &HostRuntime) -> Result<bool, CaseErr> {
+fn all_files<R: AllocGlobal + Env + Files + Print + Threads + Sync + Clone + Drop>(
+    rt: &R,
+) -> Result<bool, CaseErr> {
     let mut words = env::args(rt)?;
     let _program = words.next();
     let Some(folder) = words.next() else {
@@ -49,8 +53,8 @@ fn all_files(rt: &HostRuntime) -> Result<bool, CaseErr> {
 }
 
 // What comes of a file's cases. A file that is not read to its end, or that has no case, is wrong too.
-fn one_file(
-    rt: &HostRuntime,
+fn one_file<R: AllocGlobal + Files + Threads + Sync>(
+    rt: &R,
     folder: &str,
     file: &str,
     numbers: &Numbers,
@@ -63,8 +67,8 @@ fn one_file(
 }
 
 // What comes of a file's cases, by the kind that the end of its name says.
-fn cases_of(
-    rt: &HostRuntime,
+fn cases_of<R: AllocGlobal + Files + Threads + Sync>(
+    rt: &R,
     folder: &str,
     file: &str,
     numbers: &Numbers,
@@ -72,11 +76,11 @@ fn cases_of(
     let text = read_lines(rt, folder, file)?;
     let numbers = numbers.copy(rt.alloc())?;
     if file.ends_with(".steps") {
-        steps::run(rt.alloc(), text.as_str(), numbers)
+        steps::run(rt, text.as_str(), numbers)
     } else if file.ends_with(".calls") {
-        calls::run(rt.alloc(), text.as_str(), numbers)
+        calls::run(rt, text.as_str(), numbers)
     } else if file.ends_with(".runs") {
-        runs::run(rt.alloc(), text.as_str(), numbers)
+        runs::run(rt, text.as_str(), numbers)
     } else {
         Err(CaseErr::Kind)
     }

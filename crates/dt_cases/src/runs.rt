@@ -9,15 +9,21 @@ use crate::steps::blocks::{Blocks, Row, is_of_rows, rows};
 use crate::steps::named_numbers;
 use crate::text::split_word;
 use std::alloc::Global;
+use std::thread::Threads;
 
 /// What comes of the cases of a file.
-pub fn run(alloc: Global, text: &str, mut numbers: Numbers) -> Result<Tally, CaseErr> {
+pub fn run<R: AllocGlobal + Threads + Sync>(
+    rt: &R,
+    text: &str,
+    mut numbers: Numbers,
+) -> Result<Tally, CaseErr> {
+    let alloc = rt.alloc();
     let blocks = Blocks::of(alloc, text)?;
     let head = named_numbers(alloc, &blocks.head, &mut numbers)?;
     let mut tally = Tally::new(alloc);
     for lines in &blocks.cases {
         for row in rows(alloc, lines, &numbers)? {
-            read(alloc, &head, lines, &row, &numbers)?.run(&mut tally)?;
+            read(alloc, &head, lines, &row, &numbers)?.run(rt, &mut tally)?;
         }
     }
     Ok(tally)

@@ -16,9 +16,15 @@ use crate::steps::plan::Plan;
 use crate::steps::trial::Trial;
 use crate::text::split_word;
 use std::alloc::Global;
+use std::thread::Threads;
 
 /// What comes of the cases of a file.
-pub fn run(alloc: Global, text: &str, mut numbers: Numbers) -> Result<Tally, CaseErr> {
+pub fn run<R: AllocGlobal + Threads + Sync>(
+    rt: &R,
+    text: &str,
+    mut numbers: Numbers,
+) -> Result<Tally, CaseErr> {
+    let alloc = rt.alloc();
     for (name, number) in ADDRESSES {
         numbers.add(name, *number)?;
     }
@@ -27,7 +33,7 @@ pub fn run(alloc: Global, text: &str, mut numbers: Numbers) -> Result<Tally, Cas
     let mut tally = Tally::new(alloc);
     for case in &blocks.cases {
         let lines = with_steps(alloc, case, &blocks.head)?;
-        if let Err(error) = add_case(alloc, &mut tally, &head, &lines, &numbers) {
+        if let Err(error) = add_case(rt, &mut tally, &head, &lines, &numbers) {
             return Err(in_case(alloc, case, error));
         }
     }
@@ -35,16 +41,17 @@ pub fn run(alloc: Global, text: &str, mut numbers: Numbers) -> Result<Tally, Cas
 }
 
 // Adds what comes of a case, once for each of its rows.
-fn add_case(
-    alloc: Global,
+fn add_case<R: AllocGlobal + Threads + Sync>(
+    rt: &R,
     tally: &mut Tally,
     head: &[&str],
     lines: &[&str],
     numbers: &Numbers,
 ) -> Result<(), CaseErr> {
+    let alloc = rt.alloc();
     for row in rows(alloc, lines, numbers)? {
         let plan = planned(alloc, head, lines, &row, numbers)?;
-        Trial::new(alloc, &plan)?.run(tally)?;
+        Trial::new(alloc, &plan)?.run(rt, tally)?;
     }
     Ok(())
 }

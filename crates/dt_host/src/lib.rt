@@ -4,6 +4,7 @@
 mod entry;
 mod error;
 mod gate;
+mod gathering;
 mod host;
 mod kind;
 mod names;
@@ -16,6 +17,7 @@ mod whole;
 pub use entry::HostEntry;
 pub use error::{CallErr, HostErr, SinkErr, StoreErr};
 pub use gate::{Gate, NoGate};
+pub use gathering::VecSink;
 pub use host::Host;
 pub use kind::NodeKind;
 pub use names::sorted_names;

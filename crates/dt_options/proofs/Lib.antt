@@ -1,4 +1,5 @@
 pub mod Passed
-pub mod Budgets
+pub mod Ranges
 pub mod Matches
+pub mod Commands
 pub mod Requests

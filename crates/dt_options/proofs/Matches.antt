@@ -4,13 +4,13 @@ use Rattle.std.specs.Prelude.{option_map, option_and_then, unwrap_or}
 use Rattle.std.specs.Borrow.{Bor}
 use Rattle.std.proofs.lemmas.Bool.{ne_eqb}
 use Rattle.std.specs.Str.Parse.{ParsesUnsigned, digits_value, without_leading_plus}
-use Rattle.clap.specs.Words.{HasKind, IsAmong, Kinds, kind_of, fault_of, subcommand_of, subcommand_rows_of, ReadsOne, first_value, one_text, Row, rows_of}
+use Rattle.clap.specs.Words.{App, HasKind, IsAmong, Kinds, kind_of, fault_of, subcommand_of, subcommand_rows_of, ReadsOne, first_value, one_text, Row, rows_of}
 use Rattle.clap.specs.ValueTests.{is_unsigned_in}
 use Rattle.clap.specs.declared.parser.matches.Found.{Found}
 use Rattle.clap.specs.declared.builder.value_parser.ValueParser.TheVariants as parser
 use Rattle.clap.proofs.ValueTestLemmas.{accepts-Accepts, Accepts-accepts}
 use Rattle.clap.proofs.WalkLemmas.{first_value-rows, one_text-rows}
-use Rattle.dt_options.specs.Options.{number_of, number_in, image_in, matched_rows, program_app}
+use Rattle.dt_options.specs.Arguments.{number_of, number_in, image_in, matched_rows}
 use Rattle.dt_options.specs.UsageErr.{usage_err_of_kind}
 use Rattle.dt_options.specs.declared.options.UsageErr.TheVariants.{Refused, NoMemory}
 use Rattle.clap.specs.declared.error.Error.{Error}
@@ -60,15 +60,15 @@ is_refusal : (k : ErrorKind) → usage_err_of_kind k ≡ Refused → (k ≡ OutO
 is_refusal k is memory = let bad : NoMemory ≡ Refused = ap usage_err_of_kind (sym memory) ∙ is in cc
 
 -- words that clap refuses for another cause than memory match nothing
-pub matched-refused : (words : List (List ℕ)) (e : Error) → HasKind (fault_of program_app words) e → usage_err_of_kind (kind_of e) ≡ Refused → matched_rows words ≡ None
+pub matched-refused : (app : App) (words : List (List ℕ)) (e : Error) → HasKind (fault_of app words) e → usage_err_of_kind (kind_of e) ≡ Refused → matched_rows app words ≡ None
 unfolding matched_rows
-matched-refused words e kind is =
-    ap (λ b. cond b (option_map (λ run. run.1) (subcommand_of program_app words)) None)
-    (not_empty (kind_of e) (fault_of program_app words) (⊎_elim (λ memory. absurd (is_refusal (kind_of e) is memory)) (λ among. among) kind))
+matched-refused app words e kind is =
+    ap (λ b. cond b (option_map (λ sub. sub.1) (subcommand_of app words)) None)
+    (not_empty (kind_of e) (fault_of app words) (⊎_elim (λ memory. absurd (is_refusal (kind_of e) is memory)) (λ among. among) kind))
 
 -- words that clap takes match what it says of the subcommand
-pub matched-taken : (words : List (List ℕ)) (m : ArgMatches) (found : Option (List Row)) → fault_of program_app words ≡ [] → subcommand_rows_of m ≡ subcommand_of program_app words → found ≡ option_map (λ run. run.1) (subcommand_rows_of m) → matched_rows words ≡ found
+pub matched-taken : (app : App) (words : List (List ℕ)) (m : ArgMatches) (found : Option (List Row)) → fault_of app words ≡ [] → subcommand_rows_of m ≡ subcommand_of app words → found ≡ option_map (λ sub. sub.1) (subcommand_rows_of m) → matched_rows app words ≡ found
 unfolding matched_rows
-matched-taken words m found none same is =
-    ap (λ kinds. cond (is_empty kinds) (option_map (λ run. run.1) (subcommand_of program_app words)) None) none
-    ∙ sym (is ∙ ap (option_map (λ run. run.1)) same)
+matched-taken app words m found none same is =
+    ap (λ kinds. cond (is_empty kinds) (option_map (λ sub. sub.1) (subcommand_of app words)) None) none
+    ∙ sym (is ∙ ap (option_map (λ sub. sub.1)) same)

@@ -9,7 +9,8 @@ use Rattle.clap.proofs.WalkLemmas.{both}
 use Rattle.clap.specs.Words.{Row}
 use Rattle.dt_base.specs.Command.{Words, IsCommand}
 use Rattle.dt_base.specs.Path.{has_no_nul}
-use Rattle.dt_options.specs.Options.{Request, request, request_of, request_in, matched_rows, command_in, command_at, is_assignment, image_in, number_in, default_budget, default_seed}
+use Rattle.dt_options.specs.Arguments.{run_app, demo_app, matched_rows, image_in, number_in, default_budget, default_seed, default_workers}
+use Rattle.dt_options.specs.Options.{Request, DemoRequest, request, demo_request, form_of, form_at, run_form, demo_form, request_in, demo_in, command_in, command_at, is_assignment}
 
 prefix_len-map : {A B : Type 0} (p : B → Bool) (f : A → B) (xs : List A) → prefix_len p (map f xs) ≡ prefix_len (λ x. p (f x)) xs
 prefix_len-map p f [] = refl
@@ -64,23 +65,46 @@ module _ {A : Type 0} (f : A → List ℕ) (words : List A) where
 
 -- ---- the words before and after `--`
 
-pub request_in-none : (before after : List (List ℕ)) → matched_rows before ≡ None → request_in before after ≡ None
+pub request_in-none : (before after : List (List ℕ)) → matched_rows run_app before ≡ None → request_in before after ≡ None
 request_in-none before after none = ap (λ found. option_and_then (λ rows. option_map (request rows) (command_in after)) found) none
 
-pub request_in-some : (before after : List (List ℕ)) (rows : List Row) (r : Request) → matched_rows before ≡ Some rows → command_in after ≡ Some r.command → r.image ≡ image_in rows
-    → r.seed ≡ unwrap_or (number_in (codes "seed") rows) default_seed → r.budget ≡ unwrap_or (number_in (codes "budget") rows) default_budget → r.host ≡ number_in (codes "host") rows → request_in before after ≡ Some r
-request_in-some before after rows r found command image seed budget host =
+pub request_in-some : (before after : List (List ℕ)) (rows : List Row) (r : Request) → matched_rows run_app before ≡ Some rows → command_in after ≡ Some r.command → r.image ≡ image_in rows
+    → r.seed ≡ unwrap_or (number_in (codes "seed") rows) default_seed → r.budget ≡ unwrap_or (number_in (codes "budget") rows) default_budget → r.workers ≡ unwrap_or (number_in (codes "workers") rows) default_workers
+    → r.host ≡ number_in (codes "host") rows → request_in before after ≡ Some r
+request_in-some before after rows r found command image seed budget workers host =
     ap (option_and_then (λ rows. option_map (request rows) (command_in after))) found
     ∙ ap (option_map (request rows)) command
-    ∙ (λ i. Some (record { image = sym image i; command = r.command; seed = sym seed i; budget = sym budget i; host = sym host i }))
+    ∙ (λ i. Some (record { image = sym image i; command = r.command; seed = sym seed i; budget = sym budget i; workers = sym workers i; host = sym host i }))
 
-pub request_of-some : {A : Type 0} (f : A → List ℕ) (words before after : List A) (index : ℕ) → position (λ word. bytes_eq (f word) (codes "--")) words ≡ Some index
-    → before ≡ take index words → after ≡ drop (index + 1) words → request_of (map f words) ≡ request_in (map f before) (map f after)
-unfolding request_of
-request_of-some f words before after index is is_before is_after =
-    ap (option_and_then (λ n. request_in (take n (map f words)) (drop (n + 1) (map f words)))) (position-map (λ word. bytes_eq word (codes "--")) f words ∙ is)
-    ∙ (λ i. request_in ((take-map f index words ∙ ap (map f) (sym is_before)) i) ((drop-map f (index + 1) words ∙ ap (map f) (sym is_after)) i))
+-- ---- the words of a demonstration
 
-pub request_of-none : {A : Type 0} (f : A → List ℕ) (words : List A) → position (λ word. bytes_eq (f word) (codes "--")) words ≡ None → request_of (map f words) ≡ None
-unfolding request_of
-request_of-none f words is = ap (option_and_then (λ n. request_in (take n (map f words)) (drop (n + 1) (map f words)))) (position-map (λ word. bytes_eq word (codes "--")) f words ∙ is)
+pub demo_in-none : (words : List (List ℕ)) → matched_rows demo_app words ≡ None → demo_in words ≡ None
+unfolding demo_in
+demo_in-none words none = ap (option_and_then (λ rows. option_map (demo_request rows) (number_in (codes "number") rows))) none
+
+pub demo_in-no_number : (words : List (List ℕ)) (rows : List Row) → matched_rows demo_app words ≡ Some rows → number_in (codes "number") rows ≡ None → demo_in words ≡ None
+unfolding demo_in
+demo_in-no_number words rows found none =
+    ap (option_and_then (λ rows. option_map (demo_request rows) (number_in (codes "number") rows))) found
+    ∙ ap (option_map (demo_request rows)) none
+
+pub demo_in-some : (words : List (List ℕ)) (rows : List Row) (r : DemoRequest) → matched_rows demo_app words ≡ Some rows → number_in (codes "number") rows ≡ Some r.number
+    → r.workers ≡ unwrap_or (number_in (codes "workers") rows) default_workers → r.host ≡ number_in (codes "host") rows → demo_in words ≡ Some r
+unfolding demo_in
+demo_in-some words rows r found number workers host =
+    ap (option_and_then (λ rows. option_map (demo_request rows) (number_in (codes "number") rows))) found
+    ∙ ap (option_map (demo_request rows)) number
+    ∙ (λ i. Some (record { number = r.number; workers = sym workers i; host = sym host i }))
+
+-- ---- all words
+
+pub form_of-run : {A : Type 0} (f : A → List ℕ) (words before after : List A) (index : ℕ) → position (λ word. bytes_eq (f word) (codes "--")) words ≡ Some index
+    → before ≡ take index words → after ≡ drop (index + 1) words → form_of (map f words) ≡ option_map run_form (request_in (map f before) (map f after))
+unfolding form_of
+form_of-run f words before after index is is_before is_after =
+    ap (form_at (map f words)) (position-map (λ word. bytes_eq word (codes "--")) f words ∙ is)
+    ∙ (λ i. option_map run_form (request_in ((take-map f index words ∙ ap (map f) (sym is_before)) i) ((drop-map f (index + 1) words ∙ ap (map f) (sym is_after)) i)))
+
+pub form_of-demo : {A : Type 0} (f : A → List ℕ) (words : List A) → position (λ word. bytes_eq (f word) (codes "--")) words ≡ None → form_of (map f words) ≡ option_map demo_form (demo_in (map f words))
+unfolding form_of
+form_of-demo f words is = ap (form_at (map f words)) (position-map (λ word. bytes_eq word (codes "--")) f words ∙ is)

@@ -1,19 +1,19 @@
--- The command line: what the words of argv after the program's name ask for. The first `--` ends the options (POSIX,
--- Base Definitions, 12.2, guideline 10); the words before it are read as clap reads them.
-use Rattle.std.specs.Prelude.{ℕ, ◌+◌, Bool, true, false, not, ◌&&◌, ◌||◌, ◌==◌, List, [], ◌∷◌, take, drop, Option, Some, None, codes, if◌then◌else◌, unwrap_or, option_map, option_and_then}
+-- The command line: what the words of argv after the program's name ask for. Words with a `--` ask for a run: the first
+-- one ends the options (POSIX, Base Definitions, 12.2, guideline 10), and behind it stands the command. Words without one
+-- ask for a demonstration.
+use Rattle.std.specs.Prelude.{ℕ, ◌+◌, ◌≤◌, Bool, false, not, ◌&&◌, ◌||◌, ◌==◌, List, [], ◌∷◌, take, drop, Option, Some, None, codes, if◌then◌else◌, unwrap_or, option_map, option_and_then}
 use Rattle.std.specs.List.{list_all, position}
 use Rattle.std.specs.Str.{bytes_eq}
-use Rattle.std.specs.Str.Parse.{digits_value, without_leading_plus}
 use Rattle.std.specs.Char.{is_ascii_alphabetic, is_ascii_alphanumeric}
-use Rattle.clap.specs.Words.{App, Row, Rule, Shape, fault_of, first_of, new_rule, one_of, subcommand_of}
-use Rattle.clap.specs.Simple.{new_shape}
-use Rattle.clap.specs.Walk.{is_empty}
-use Rattle.clap.specs.ValueTests.{is_unsigned_in}
-use Rattle.clap.specs.declared.builder.value_parser.ValueParser.TheVariants as parser
+use Rattle.clap.specs.Words.{Row}
 use Rattle.dt_base.specs.Command.{Words}
 use Rattle.dt_base.specs.Path.{has_no_nul}
 use Rattle.dt_base.specs.declared.limits.TheConstants.{BUDGET_LIMIT}
 use Rattle.dt_options.specs.declared.options.Options.{Options}
+use Rattle.dt_options.specs.declared.options.Options.TheVariants.{Run, Demo}
+use Rattle.dt_options.specs.declared.options.RunOptions.{RunOptions}
+use Rattle.dt_options.specs.declared.options.DemoOptions.{DemoOptions}
+use Rattle.dt_options.specs.Arguments.{run_app, demo_app, matched_rows, image_in, number_in, default_seed, default_budget, default_workers}
 
 -- what a run is asked to be: a folder with an image, the command that runs in it, and numbers
 pub record Request : Type 0 where
@@ -21,65 +21,19 @@ pub record Request : Type 0 where
   pub command : Words
   pub seed : ℕ
   pub budget : ℕ
+  pub workers : ℕ
   pub host : Option ℕ
 
--- the seed of a run whose words give none
-abbrev pub default_seed : ℕ
-default_seed = 0
+-- what a demonstration is asked to be
+pub record DemoRequest : Type 0 where
+  pub number : ℕ
+  pub workers : ℕ
+  pub host : Option ℕ
 
--- the budget of a run whose words give none
-abbrev pub default_budget : ℕ
-default_budget = 100000000
-
--- ---- the words before `--`
-
--- IMAGE, which must be there
-abbrev pub image_rule : Rule
-image_rule = record (new_rule (codes "image")) { required = true }
-
--- an option of one value, a number from 0 to 2^64 - 1
-abbrev pub number_rule : List ℕ → Rule
-number_rule name = record (new_rule name) { long = Some name; parser = Some (parser.Unsigned 0 18446744073709551615) }
-
--- the option `--budget`, whose value is a number from 1 to 1,000,000,000
-abbrev pub budget_rule : Rule
-budget_rule = record (number_rule (codes "budget")) { parser = Some (parser.Unsigned 1 BUDGET_LIMIT) }
-
--- `run IMAGE [--seed N] [--budget N] [--host N]`
-abbrev pub run_shape : Shape
-run_shape = record (new_shape (codes "run")) {
-  rules = image_rule ∷ number_rule (codes "seed") ∷ budget_rule ∷ number_rule (codes "host") ∷ [];
-}
-
--- the program, whose words do not begin with its name, and which must be given its one subcommand
-abbrev pub program_shape : Shape
-program_shape = record (new_shape (codes "dettrace")) {
-  is_leaf = false;
-  no_binary_name = true;
-  subcommand_required = true;
-}
-
--- the program and its subcommand
-abbrev pub program_app : App
-program_app = record { top = program_shape; subs = run_shape ∷ [] }
-
--- the values that clap matches to the arguments of `run`, where it takes the words
-unfoldable pub matched_rows : List (List ℕ) → Option (List Row)
-matched_rows words =
-    if is_empty (fault_of program_app words) then option_map (λ run. run.1) (subcommand_of program_app words) else None
-
--- what stands for IMAGE in the words
-unfoldable pub image_in : List Row → List ℕ
-image_in rows = unwrap_or (first_of (codes "image") rows) []
-
--- the number that a text writes, if it is one from 0 to 2^64 - 1
-abbrev pub number_of : List ℕ → Option ℕ
-number_of text =
-    if is_unsigned_in 0 18446744073709551615 text then Some (digits_value 10 (without_leading_plus text)) else None
-
--- the number of an option, if it was given
-unfoldable pub number_in : List ℕ → List Row → Option ℕ
-number_in name rows = option_and_then number_of (one_of name rows)
+-- what words may ask for
+pub data Form : Type 0 where
+  run_form : Request → Form
+  demo_form : DemoRequest → Form
 
 -- ---- the words after `--`
 
@@ -124,25 +78,64 @@ request rows command = record {
   command = command;
   seed = unwrap_or (number_in (codes "seed") rows) default_seed;
   budget = unwrap_or (number_in (codes "budget") rows) default_budget;
+  workers = unwrap_or (number_in (codes "workers") rows) default_workers;
   host = number_in (codes "host") rows;
 }
 
 -- what the words before and after `--` ask for
 abbrev pub request_in : List (List ℕ) → List (List ℕ) → Option Request
-request_in before after = option_and_then (λ rows. option_map (request rows) (command_in after)) (matched_rows before)
+request_in before after = option_and_then (λ rows. option_map (request rows) (command_in after)) (matched_rows run_app before)
 
--- what all words ask for, which have a `--`; the first of them parts them
-unfoldable pub request_of : List (List ℕ) → Option Request
-request_of argv =
-    option_and_then (λ index. request_in (take index argv) (drop (index + 1) argv))
-    (position (λ word. bytes_eq word (codes "--")) argv)
+-- the demonstration of a number
+abbrev pub demo_request : List Row → ℕ → DemoRequest
+demo_request rows number = record {
+  number = number;
+  workers = unwrap_or (number_in (codes "workers") rows) default_workers;
+  host = number_in (codes "host") rows;
+}
 
--- the request that options hold
-abbrev pub as_request : Options → Request
+-- what words without a `--` ask for
+unfoldable pub demo_in : List (List ℕ) → Option DemoRequest
+demo_in words =
+    option_and_then (λ rows. option_map (demo_request rows) (number_in (codes "number") rows)) (matched_rows demo_app words)
+
+-- what words ask for, the first `--` of which has this index, if there is one
+abbrev pub form_at : List (List ℕ) → Option ℕ → Option Form
+form_at argv None = option_map demo_form (demo_in argv)
+form_at argv (Some index) = option_map run_form (request_in (take index argv) (drop (index + 1) argv))
+
+-- what all words ask for
+unfoldable pub form_of : List (List ℕ) → Option Form
+form_of argv = form_at argv (position (λ word. bytes_eq word (codes "--")) argv)
+
+-- ---- what the code has in hand
+
+-- the request that a run's options hold
+abbrev pub as_request : RunOptions → Request
 as_request options = record {
   image = options.image;
   command = options.command;
   seed = options.seed;
   budget = options.budget;
+  workers = options.workers;
   host = options.host;
 }
+
+-- and a demonstration's
+abbrev pub as_demo_request : DemoOptions → DemoRequest
+as_demo_request options = record { number = options.number; workers = options.workers; host = options.host }
+
+-- the form that options hold
+abbrev pub as_form : Options → Form
+as_form (Run options) = run_form (as_request options)
+as_form (Demo options) = demo_form (as_demo_request options)
+
+-- the budget of a run is in its range; a demonstration is asked for none
+abbrev pub HasBudget : Options → Type 0
+HasBudget (Run options) = (1 ≤ options.budget) × (options.budget ≤ BUDGET_LIMIT)
+HasBudget (Demo options) = Unit {0}
+
+-- how many workers options ask for
+abbrev pub workers_of : Options → ℕ
+workers_of (Run options) = options.workers
+workers_of (Demo options) = options.workers

@@ -3,4 +3,4 @@
 
 mod options;
 
-pub use options::{Options, UsageErr, read_options};
+pub use options::{DemoOptions, Options, RunOptions, UsageErr, WORKERS_LIMIT, read_options};

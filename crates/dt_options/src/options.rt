@@ -5,21 +5,34 @@ ghost use Rattle.std.specs.List.{list_all, position};
 ghost use Rattle.std.specs.Str.{bytes_eq};
 ghost use Rattle.dt_base.specs.declared.limits.TheConstants.{BUDGET_LIMIT};
 ghost use Rattle.dt_base.specs.Path.{has_no_nul};
-ghost use Rattle.dt_options.specs.Options.{request_of, request_in, as_request, command_in, is_assignment, is_variable};
+ghost use Rattle.dt_options.specs.Options.{form_of, as_form, HasBudget, workers_of, request_in, as_request, demo_in};
+ghost use Rattle.dt_options.specs.Options.{as_demo_request, command_in, is_assignment, is_variable};
 ghost use Rattle.dt_options.specs.Options.{is_variable_start, is_variable_byte};
 ghost use Rattle.dt_options.specs.declared.options.UsageErr.TheVariants.{NoMemory as OutOfMemory};
 
 mod arguments;
 
-use arguments::{budget, image, number, read_arguments, seed};
+use arguments::{budget, image, number, read_demo_arguments, read_run_arguments, seed, workers};
 use clap::error::ErrorKind;
 use dt_base::{Blob, Command, NoMemory, Text, has_no_nul};
 use std::alloc::{AllocError, AllocFailed, Global};
 use thiserror::Error;
 
+/// How many workers run segments, at most.
+pub const WORKERS_LIMIT: u64 = 64;
+
 /// What the words of the command line ask for.
 #[derive(Debug, Drop)]
-pub struct Options {
+pub enum Options {
+    /// A run of a command on an image.
+    Run(RunOptions),
+    /// The demonstration of a number.
+    Demo(DemoOptions),
+}
+
+/// What the words ask of a run.
+#[derive(Debug, Drop)]
+pub struct RunOptions {
     /// The name of the folder that holds the image.
     pub image: Text,
     /// What runs in it.
@@ -28,6 +41,19 @@ pub struct Options {
     pub seed: u64,
     /// How many steps the run may take, from 1 to 1,000,000,000.
     pub budget: u64,
+    /// How many workers run segments, from 1 to 64.
+    pub workers: usize,
+    /// What the host's choices start from, where the words say so.
+    pub host: Option<u64>,
+}
+
+/// What the words ask of a demonstration.
+#[derive(Clone, Copy, Debug, Drop, PartialEq, Eq)]
+pub struct DemoOptions {
+    /// The number that it is made of.
+    pub number: u64,
+    /// How many workers run segments, from 1 to 64.
+    pub workers: usize,
     /// What the host's choices start from, where the words say so.
     pub host: Option<u64>,
 }
@@ -35,7 +61,7 @@ pub struct Options {
 /// Why there are no options.
 #[derive(Clone, Copy, Debug, PartialEq, Eq, Error)]
 pub enum UsageErr {
-    #[error("the words are no run of a program on an image")]
+    #[error("the words ask for nothing that there is")]
     Refused,
     #[error("out of memory")]
     NoMemory,
@@ -72,15 +98,20 @@ impl From<clap::Error> for UsageErr {
 }
 
 /// Reads the words of argv after the program's name, which are to be
-/// `run IMAGE [--seed N] [--budget N] [--host N] -- [NAME=VALUE ..] PROGRAM [ARG ..]`.
+/// `run IMAGE [--seed N] [--budget N] [--workers N] [--host N] -- [NAME=VALUE ..] PROGRAM [ARG ..]` or
+/// `demo N [--workers N] [--host N]`.
 pub fn read_options(alloc: Global, argv: &[String]) -> Result<Options, UsageErr>
-    ensures ok { IfOk result (λ o. request_of (map string_bytes argv.now) ≡ Some (as_request o)) }
-    ensures refused { result ≡ Err UsageErr.Refused → request_of (map string_bytes argv.now) ≡ None }
-    ensures ranges { IfOk result (λ o. (1 ≤ o.budget) × (o.budget ≤ BUDGET_LIMIT)) }
+    ensures ok { IfOk result (λ o. form_of (map string_bytes argv.now) ≡ Some (as_form o)) }
+    ensures refused { result ≡ Err UsageErr.Refused → form_of (map string_bytes argv.now) ≡ None }
+    ensures budget { IfOk result HasBudget }
+    ensures workers { IfOk result (λ o. (1 ≤ workers_of o) × (workers_of o ≤ WORKERS_LIMIT)) }
 {
     match dashes(argv) {
-        Some(index) => read_parts(alloc, &argv[..index], after(argv, index)),
-        None => Err(UsageErr::Refused),
+        Some(index) => {
+            let run = read_run(alloc, &argv[..index], after(argv, index))?;
+            Ok(Options::Run(run))
+        }
+        None => Ok(Options::Demo(read_demo(alloc, argv)?)),
     }
 }
 
@@ -101,25 +132,47 @@ fn after(argv: &[String], index: usize) -> &[String]
     rest
 }
 
-// Reads the words before and after `--`.
-fn read_parts(alloc: Global, before: &[String], after: &[String]) -> Result<Options, UsageErr>
+// Reads the words of a run before and after `--`.
+fn read_run(alloc: Global, before: &[String], after: &[String]) -> Result<RunOptions, UsageErr>
     ensures ok { IfOk result (λ o.
         request_in (map string_bytes before.now) (map string_bytes after.now) ≡ Some (as_request o)) }
     ensures refused { result ≡ Err UsageErr.Refused →
         request_in (map string_bytes before.now) (map string_bytes after.now) ≡ None }
-    ensures ranges { IfOk result (λ o. (1 ≤ o.budget) × (o.budget ≤ BUDGET_LIMIT)) }
+    ensures budget { IfOk result (λ o. (1 ≤ o.budget) × (o.budget ≤ BUDGET_LIMIT)) }
+    ensures workers { IfOk result (λ o. (1 ≤ o.workers) × (o.workers ≤ WORKERS_LIMIT)) }
 {
-    let matches = read_arguments(alloc, before)?;
+    let matches = read_run_arguments(alloc, before)?;
     let Some((_, run)) = matches.subcommand() else {
         return Err(UsageErr::Refused);
     };
     let command = read_command(alloc, after)?;
-    Ok(Options {
+    Ok(RunOptions {
         image: Text::new(String::from_str(alloc, image(run))?),
         command,
         seed: seed(run),
         budget: budget(run),
+        workers: workers(run),
         host: number(run, "host"),
+    })
+}
+
+// Reads the words of a demonstration.
+fn read_demo(alloc: Global, words: &[String]) -> Result<DemoOptions, UsageErr>
+    ensures ok { IfOk result (λ o. demo_in (map string_bytes words.now) ≡ Some (as_demo_request o)) }
+    ensures refused { result ≡ Err UsageErr.Refused → demo_in (map string_bytes words.now) ≡ None }
+    ensures workers { IfOk result (λ o. (1 ≤ o.workers) × (o.workers ≤ WORKERS_LIMIT)) }
+{
+    let matches = read_demo_arguments(alloc, words)?;
+    let Some((_, demo)) = matches.subcommand() else {
+        return Err(UsageErr::Refused);
+    };
+    let Some(given) = number(demo, "number") else {
+        return Err(UsageErr::Refused);
+    };
+    Ok(DemoOptions {
+        number: given,
+        workers: workers(demo),
+        host: number(demo, "host"),
     })
 }
 

@@ -4,7 +4,8 @@ use Rattle.std.specs.Prelude.{ℕ, ◌==◌, Bool, true, false, not, ◌&&◌, L
 use Rattle.std.specs.Option.{is_none, option_and_then}
 use Rattle.std.specs.List.{list_any, find}
 use Rattle.dt_base.specs.declared.event.End.{End}
-use Rattle.dt_procs.specs.declared.member.TheConstants.{FIRST_PID, PROCESS_LIMIT}
+use Rattle.dt_base.specs.declared.limits.TheConstants.{FIRST_PID}
+use Rattle.dt_procs.specs.declared.member.TheConstants.{PROCESS_LIMIT}
 use Rattle.dt_procs.specs.declared.member.Member.{Member}
 use Rattle.dt_procs.specs.declared.member.Reaped.{Reaped}
 use Rattle.dt_procs.specs.declared.member.Reaped.TheVariants.{Got, NoneReady, NoChild}

@@ -4,7 +4,8 @@ use Rattle.std.specs.List.{list_any, All, AllPairs}
 use Rattle.std.specs.FinSet.{contains}
 use Rattle.dt_host.specs.World.{HostPids}
 use Rattle.dt_procs.specs.declared.member.Member.{Member}
-use Rattle.dt_procs.specs.declared.member.TheConstants.{FIRST_PID, PID_LIMIT, PROCESS_LIMIT}
+use Rattle.dt_base.specs.declared.limits.TheConstants.{FIRST_PID}
+use Rattle.dt_procs.specs.declared.member.TheConstants.{PID_LIMIT, PROCESS_LIMIT}
 use Rattle.dt_procs.specs.declared.row.MemberRow.{MemberRow}
 
 -- the processes, each with its pid at the host, and the pid that the next child gets

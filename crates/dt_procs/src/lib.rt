@@ -10,5 +10,5 @@ mod row;
 
 pub use error::ProcErr;
 pub use laws::wait_finds_the_lowest;
-pub use member::{FIRST_PID, Member, PID_LIMIT, PROCESS_LIMIT, Reaped};
+pub use member::{Member, PID_LIMIT, PROCESS_LIMIT, Reaped};
 pub use pids::Pids;

@@ -4,10 +4,7 @@ ghost use Rattle.std.specs.Option.{is_none};
 ghost use Rattle.dt_procs.specs.Members.{newborn, has_pid, is_live, member_after_end, is_asked, is_child, is_ready};
 ghost use Rattle.dt_procs.specs.Members.{got_or};
 
-use dt_base::End;
-
-/// The pid of the first process of a container.
-pub const FIRST_PID: u32 = 1;
+use dt_base::{End, FIRST_PID};
 
 /// How many processes there may be, zombies included.
 pub const PROCESS_LIMIT: usize = 64;

@@ -11,10 +11,10 @@ ghost use Rattle.dt_procs.specs.Members.{member_at, parent_pid, end_of, has_live
 ghost use Rattle.dt_procs.specs.Table.{members_of, Stands, IsTable};
 
 use crate::error::ProcErr;
-use crate::member::{FIRST_PID, Member, PID_LIMIT, PROCESS_LIMIT, Reaped};
+use crate::member::{Member, PID_LIMIT, PROCESS_LIMIT, Reaped};
 use crate::row;
 use crate::row::MemberRow;
-use dt_base::End;
+use dt_base::{End, FIRST_PID};
 use dt_host::{Host, HostErr};
 use std::alloc::Global;
 use std::marker::Model;

@@ -5,6 +5,7 @@ use dt_host::{Host, NoGate};
 use dt_run::dettrace;
 use std::alloc::Global;
 use std::test::Fail;
+use std::thread::Threads;
 
 // What comes of a run of `/hello`: its status and its report, and the word by which the host chooses next. That word
 // tells the stream by which the host went, and how far it went in it.
@@ -16,13 +17,18 @@ struct Ran {
 }
 
 // Runs `/hello` by these words, at a host that was disturbed by hand where a number is given.
-fn run(alloc: Global, words: &str, by_hand: Option<u64>) -> Result<Ran, Fail> {
+fn run<R: AllocGlobal + Threads + Sync>(
+    rt: &R,
+    words: &str,
+    by_hand: Option<u64>,
+) -> Result<Ran, Fail> {
+    let alloc = rt.alloc();
     let mut met: InMemory = outside(alloc, 5, HELLO_INDEX, &hello(alloc)?)?;
     if let Some(number) = by_hand {
         met.host.disturb(number)?;
     }
     let status = dettrace(
-        alloc,
+        rt,
         &strings(alloc, words)?,
         &mut met.store,
         &mut met.host,
@@ -43,11 +49,11 @@ fn a_number_among_the_words_disturbs_the_host_as_it_does_by_hand(
 ) -> Result<(), Fail> {
     let alloc = rt.alloc();
     let mut seen = Vec::new(alloc);
-    seen.push(run(alloc, RUN_HELLO, None)?.next)?;
+    seen.push(run(&rt, RUN_HELLO, None)?.next)?;
     for number in [0, 1, 7, 1 << 32, (1 << 32) + 7, 1 << 63, u64::MAX] {
         let words = format!(in alloc; "run\nimg\n--host\n{number}\n--\n/hello")?;
-        let by_words = run(alloc, words.as_str(), None)?;
-        let by_hand = run(alloc, RUN_HELLO, Some(number))?;
+        let by_words = run(&rt, words.as_str(), None)?;
+        let by_hand = run(&rt, RUN_HELLO, Some(number))?;
         assert_eq!(rt; by_words.next, by_hand.next, "{number}");
         assert!(rt; !seen.contains(&by_words.next), "{number}");
         seen.push(by_words.next)?;

@@ -9,6 +9,7 @@ use dt_run::dettrace;
 use std::alloc::{AllocError, Global};
 use std::process::Abort;
 use std::test::Fail;
+use std::thread::Threads;
 
 // A number for each that a run meets: the call at which it fails, or how many of its calls failed.
 #[derive(Clone, Copy, Debug, PartialEq)]
@@ -63,12 +64,12 @@ impl Met {
         })
     }
 
-    fn run(&mut self, alloc: Global, words: &str) -> Result<u8, Fail>
+    fn run<R: AllocGlobal + Threads + Sync>(&mut self, rt: &R, words: &str) -> Result<u8, Fail>
         requires { IsEmptyStart self.old.host.view }
     {
-        let words = strings(alloc, words)?;
+        let words = strings(rt.alloc(), words)?;
         Ok(dettrace(
-            alloc,
+            rt,
             &words,
             &mut self.store,
             &mut self.host,
@@ -131,11 +132,11 @@ impl Failing {
 }
 
 // The number of the first of its calls that a whole run does not make. A run that makes a call that fails isn't whole.
-fn first_not_made(alloc: Global, failing: Failing) -> Result<u64, Fail> {
+fn first_not_made<R: AllocGlobal + Threads + Sync>(rt: &R, failing: Failing) -> Result<u64, Fail> {
     let mut made = 0u64;
     for more in [2048, 1024, 512, 256, 128, 64, 32, 16, 8, 4, 2, 1] {
         let number = made.saturating_add(more);
-        if Met::new(alloc, failing.at(number))?.run(alloc, RUN_HELLO)? != 0 {
+        if Met::new(rt.alloc(), failing.at(number))?.run(rt, RUN_HELLO)? != 0 {
             made = number;
         }
     }
@@ -143,16 +144,15 @@ fn first_not_made(alloc: Global, failing: Failing) -> Result<u64, Fail> {
 }
 
 // A run that ends by this fault alone. Then the next call of each that fails at any is a fault: so it was not made.
-fn expect_one_fault(
-    rt: &impl Abort,
-    alloc: Global,
+fn expect_one_fault<R: Abort + AllocGlobal + Threads + Sync>(
+    rt: &R,
     words: &str,
     fails: Each,
     status: u8,
     fault: Each,
 ) -> Result<(), Fail> {
-    let mut met = Met::new(alloc, fails)?;
-    assert_eq!(rt; met.run(alloc, words)?, status, "{fails:?}");
+    let mut met = Met::new(rt.alloc(), fails)?;
+    assert_eq!(rt; met.run(rt, words)?, status, "{fails:?}");
     assert_eq!(rt; met.faults(), fault, "{fails:?}");
     met.ask_each();
     let more = |fails: u64, faults: u64| faults.saturating_add(u64::from(fails != MANY));
@@ -169,9 +169,8 @@ fn expect_one_fault(
 // Each number is below that of the bytes that move, so that the call is made.
 #[test]
 fn nothing_is_asked_for_after_a_fault(rt: HostRuntime) -> Result<(), Fail> {
-    let alloc = rt.alloc();
-    let store = first_not_made(alloc, Failing::Store)?;
-    let host = first_not_made(alloc, Failing::Host)?;
+    let store = first_not_made(&rt, Failing::Store)?;
+    let host = first_not_made(&rt, Failing::Host)?;
     for number in [1, 2, 3, 50, 100, 150] {
         let fails = Each {
             store: number,
@@ -179,28 +178,28 @@ fn nothing_is_asked_for_after_a_fault(rt: HostRuntime) -> Result<(), Fail> {
             out: 1,
             err: MANY,
         };
-        expect_one_fault(&rt, alloc, RUN_HELLO, fails, 4, Each { store: 1, ..NONE })?;
+        expect_one_fault(&rt, RUN_HELLO, fails, 4, Each { store: 1, ..NONE })?;
         let fails = Each {
             store,
             host: number,
             out: 1,
             err: MANY,
         };
-        expect_one_fault(&rt, alloc, RUN_HELLO, fails, 5, Each { host: 1, ..NONE })?;
+        expect_one_fault(&rt, RUN_HELLO, fails, 5, Each { host: 1, ..NONE })?;
         let fails = Each {
             store,
             host,
             out: number,
             err: MANY,
         };
-        expect_one_fault(&rt, alloc, RUN_HELLO, fails, 6, Each { out: 1, ..NONE })?;
+        expect_one_fault(&rt, RUN_HELLO, fails, 6, Each { out: 1, ..NONE })?;
         let fails = Each {
             store: 1,
             host: 1,
             out: 1,
             err: number.min(100),
         };
-        expect_one_fault(&rt, alloc, "run", fails, 2, Each { err: 1, ..NONE })?;
+        expect_one_fault(&rt, "run", fails, 2, Each { err: 1, ..NONE })?;
     }
     Ok(())
 }

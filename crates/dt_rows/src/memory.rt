@@ -44,7 +44,7 @@ fn a_report_that_wants_memory_is_status_7(rt: HostRuntime) -> Result<(), Fail> {
     )?;
     let mut out = Wanting { pieces: 0 };
     let status = dettrace(
-        alloc, &words, &mut store, &mut host, &mut out, &mut err, &NoGate,
+        &rt, &words, &mut store, &mut host, &mut out, &mut err, &NoGate,
     );
     assert_eq!(rt; status, 7);
     assert_eq!(rt; out.pieces, 1);
@@ -66,7 +66,7 @@ fn a_refusal_whose_line_wants_memory_is_status_7(rt: HostRuntime) -> Result<(), 
     let words = strings(alloc, "run")?;
     let mut err = Wanting { pieces: 0 };
     let status = dettrace(
-        alloc, &words, &mut store, &mut host, &mut out, &mut err, &NoGate,
+        &rt, &words, &mut store, &mut host, &mut out, &mut err, &NoGate,
     );
     assert_eq!(rt; status, 7);
     assert_eq!(rt; out.bytes().len(), 0);

@@ -44,7 +44,7 @@ fn two_runs_of_the_same_words_agree(rt: HostRuntime) -> Result<(), Fail> {
     let program = program.as_slice();
     let mut first = outside(alloc, 1, HELLO_INDEX, program)?;
     let mut second = outside(alloc, u64::MAX, HELLO_INDEX, program)?;
-    let statuses = run_twice(alloc, &words, &words, &mut first, &mut second, &NoGate);
+    let statuses = run_twice(&rt, &words, &words, &mut first, &mut second, &NoGate);
     assert_eq!(rt; statuses, (0, 0));
     assert_eq!(rt; first.out.bytes(), HELLO_REPORT);
     assert_eq!(rt; second.out.bytes(), HELLO_REPORT);

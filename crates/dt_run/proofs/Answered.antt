@@ -10,46 +10,49 @@ use Rattle.dt_host.specs.Store.{StoreFiles}
 use Rattle.dt_host.specs.World.{World}
 use Rattle.dt_host.proofs.Growth.{added-nil, adds_none, adds_all}
 use Rattle.dt_image.specs.ImageOf.{image_of}
-use Rattle.dt_options.specs.Options.{Request, request_of}
+use Rattle.dt_options.specs.Arguments.{default_workers}
+use Rattle.dt_options.specs.Options.{Request, Form, run_form, demo_form, form_of}
 use Rattle.dt_run.specs.declared.failure.Failure.{Failure}
 use Rattle.dt_run.specs.declared.failure.Failure.TheVariants.{Usage, Image, Store, Host, Output, NoMemory}
 use Rattle.dt_run.specs.Failure.{failure_status, failure_line}
 use Rattle.dt_run.specs.HoldsTree.{HoldSame}
-use Rattle.dt_run.specs.Run.{Run, report_of}
-use Rattle.dt_run.specs.SomeRun.{SomeRun, AddsReportPart}
-use Rattle.dt_run.specs.Statuses.{is_status, is_run_status, precedes_run, fails_run, status_line, Completes, AddsLine, AddsRefusal}
-use Rattle.dt_run.specs.Wanted.{run_on, run_or_refusal, wanted, request_run}
-use Rattle.dt_run.proofs.Ran.{completes-status, never}
+use Rattle.dt_run.specs.Written.{Written}
+use Rattle.dt_run.specs.SomeRun.{SomeRun, AddsTextPart}
+use Rattle.dt_run.specs.Statuses.{is_status, is_run_status, precedes_run, fails_run, status_line, Finishes, AddsLine, AddsRefusal}
+use Rattle.dt_run.specs.Wanted.{written_on, run_or_refusal, wanted, form_written}
+use Rattle.dt_run.proofs.Ran.{finishes-status, never}
 use Rattle.dt_run.proofs.Lines.{run_line}
-use Rattle.dt_run.specs.Agree.{without_host, AskTheSame, is_decided}
+use Rattle.dt_run.specs.Agree.{without_choices, AskTheSame, is_decided}
 
 -- what is wanted of known files is known
 pub known-wanted : (told : Option StoreFiles) (words : List (List ℕ)) → IsSome told → IsSome (wanted told words)
 unfolding wanted
-known-wanted told words known = by_request (request_of words) told known
+known-wanted told words known = by_form (form_of words) told known
   where
-    by_request : (request : Option Request) (told : Option StoreFiles) → IsSome told → IsSome (request_run request told)
-    by_request None told known = refl
-    by_request (Some request) None known = cc
-    by_request (Some request) (Some files) known = refl
+    by_form : (form : Option Form) (told : Option StoreFiles) → IsSome told → IsSome (form_written form told)
+    by_form None told known = refl
+    by_form (Some (run_form request)) None known = cc
+    by_form (Some (run_form request)) (Some files) known = refl
+    by_form (Some (demo_form request)) told known = refl
 
--- the number that disturbs the host has no part in what is wanted
-unhosted-run : (request : Request) (found : Result (List Entry) Refusal) → run_or_refusal request found ≡ run_or_refusal (without_host request) found
-unhosted-run request (Ok entries) = refl
-unhosted-run request (Err refusal) = refl
+-- the numbers of workers and of the host have no part in what is wanted
+unchosen-run : (request : Request) (workers : ℕ) (host : Option ℕ) (found : Result (List Entry) Refusal) → run_or_refusal request found ≡ run_or_refusal (record request { workers = workers; host = host }) found
+unchosen-run request workers host (Ok entries) = refl
+unchosen-run request workers host (Err refusal) = refl
 
-unhosted-wanted : (request : Option Request) (told : Option StoreFiles) → request_run request told ≡ request_run (option_map without_host request) told
-unhosted-wanted None told = refl
-unhosted-wanted (Some request) None = refl
-unhosted-wanted (Some request) (Some files) = ap Some (unhosted-run request (image_of files request.image))
+unchosen-wanted : (form : Option Form) (told : Option StoreFiles) → form_written form told ≡ form_written (option_map without_choices form) told
+unchosen-wanted None told = refl
+unchosen-wanted (Some (run_form request)) None = refl
+unchosen-wanted (Some (run_form request)) (Some files) = ap Some (unchosen-run request default_workers None (image_of files request.image))
+unchosen-wanted (Some (demo_form request)) told = refl
 
 pub same-wanted : (told other_told : Option StoreFiles) (words other : List (List ℕ)) → other_told ≡ told → AskTheSame words other → wanted other_told other ≡ wanted told words
 unfolding wanted
 same-wanted told other_told words other same alike =
-    ap (λ t. request_run (request_of other) t) same
-    ∙ unhosted-wanted (request_of other) told
-    ∙ ap (λ request. request_run request told) (sym alike)
-    ∙ sym (unhosted-wanted (request_of words) told)
+    ap (λ t. form_written (form_of other) t) same
+    ∙ unchosen-wanted (form_of other) told
+    ∙ ap (λ form. form_written form told) (sym alike)
+    ∙ sym (unchosen-wanted (form_of words) told)
 
 pub the : {X : Type 0} (found : Option X) → IsSome found → X
 the None is = absurd (cc)
@@ -61,17 +64,17 @@ the-is None is = cc
 the-is (Some x) is = refl
 
 -- what is wanted was answered: the run was completed, or the refusal's status came and nothing was added
-abbrev pub Answered : Result Run Failure → ℕ → Option (List ℕ) → Option (List ℕ) → World → Type 0
-Answered (Ok run) status old new w = Completes run status old new w
+abbrev pub Answered : Result Written Failure → ℕ → Option (List ℕ) → Option (List ℕ) → World → Type 0
+Answered (Ok written) status old new w = Finishes written status old new w
 Answered (Err f) status old new w = (status ≡ failure_status f) × (new ≡ old)
 
 -- the bytes that such an answer adds
-abbrev pub bytes_of : Result Run Failure → List ℕ
-bytes_of (Ok run) = report_of run
+abbrev pub bytes_of : Result Written Failure → List ℕ
+bytes_of (Ok written) = written.text
 bytes_of (Err f) = []
 
 -- the line that it has
-abbrev pub line_of : Result Run Failure → List ℕ
+abbrev pub line_of : Result Written Failure → List ℕ
 line_of (Ok run) = []
 line_of (Err f) = failure_line f
 
@@ -89,16 +92,16 @@ no_run Output is = cc
 no_run NoMemory is = cc
 
 -- what one call says of its answer
-module _ (told : Option StoreFiles) (words : List (List ℕ)) (found : Result Run Failure) (is : wanted told words ≡ Some found)
+module _ (told : Option StoreFiles) (words : List (List ℕ)) (found : Result Written Failure) (is : wanted told words ≡ Some found)
     (status : ℕ) (old new err err_now : Option (List ℕ)) (before now : ℕ) (w : World)
-    (some_image : IsTrue (is_run_status status) → SomeRun told words (λ run. Completes run status old new w))
+    (some_image : IsTrue (is_run_status status) → SomeRun told words (λ written. Finishes written status old new w))
     (usage : status ≡ 2 → wanted told words ≡ Some (Err Usage))
     (image_line : status ≡ 3 → AddsRefusal (wanted told words) err err_now before now)
     (nothing : IsTrue (precedes_run status) → new ≡ old) where
   pub by_run : IsTrue (is_run_status status) → Answered found status old new w
   by_run run =
       let s = some_image run in
-      let same : found ≡ Ok (run_on s.request s.image) = subst (λ known. IfSome known (λ f. f ≡ Ok (run_on s.request s.image))) is s.is_wanted in
+      let same : found ≡ Ok (written_on s.form s.image) = subst (λ known. IfSome known (λ f. f ≡ Ok (written_on s.form s.image))) is s.is_wanted in
       subst (λ f. Answered f status old new w) (sym same) s.holds
 
   by_usage : status ≡ 2 → Answered found status old new w
@@ -120,15 +123,15 @@ module _ (told : Option StoreFiles) (words : List (List ℕ)) (found : Result Ru
       (either (is_run_status status || (status == 2)) (status == 3) h)
 
 -- the bytes that an answer added are those of what is wanted
-pub adds : (found : Result Run Failure) (status : ℕ) (old new : Option (List ℕ)) (w : World) → Answered found status old new w → new ≡ added old (bytes_of found)
+pub adds : (found : Result Written Failure) (status : ℕ) (old new : Option (List ℕ)) (w : World) → Answered found status old new w → new ≡ added old (bytes_of found)
 adds (Ok run) status old new w a = a.report
 adds (Err f) status old new w a = a.1 ∙ sym (added-nil old)
 
-pub agree-status : (found : Result Run Failure) (status other : ℕ) (old new p q : Option (List ℕ)) (v w : World) → Answered found status old new v → Answered found other p q w → status ≡ other
+pub agree-status : (found : Result Written Failure) (status other : ℕ) (old new p q : Option (List ℕ)) (v w : World) → Answered found status old new v → Answered found other p q w → status ≡ other
 agree-status (Ok run) status other old new p q v w a b = a.status ∙ sym b.status
 agree-status (Err f) status other old new p q v w a b = a.0 ∙ sym b.0
 
-pub agree-tree : (found : Result Run Failure) (status other : ℕ) (old new p q : Option (List ℕ)) (v w : World) → IsTrue (is_run_status status) → Answered found status old new v → Answered found other p q w → HoldSame v.forest w.forest
+pub agree-tree : (found : Result Written Failure) (status other : ℕ) (old new p q : Option (List ℕ)) (v w : World) → IsTrue (is_run_status status) → Answered found status old new v → Answered found other p q w → HoldSame v.forest w.forest
 agree-tree (Ok run) status other old new p q v w run_status a b = record {
   shown = λ names. a.tree.shown names ∙ sym (b.tree.shown names);
   together = λ x y is. b.tree.apart x y (a.tree.together x y is);
@@ -144,9 +147,9 @@ module _ (told : Option StoreFiles) (words : List (List ℕ)) (status : ℕ) (ol
   undecided : (k : ℕ) → is_decided k ≡ false → status ≡ k → ⊥
   undecided k none same = let bad : true ≡ false = sym decided ∙ ap is_decided same ∙ none in cc
 
-  pub tells : (found : Result Run Failure) → wanted told words ≡ Some found → Answered found status old new w → AddsLine (line_of found) err err_now before now
+  pub tells : (found : Result Written Failure) → wanted told words ≡ Some found → Answered found status old new w → AddsLine (line_of found) err err_now before now
   tells (Ok run) is a =
-      let ran = completes-status run status old new w a in
+      let ran = finishes-status run status old new w a in
       subst (λ text. AddsLine text err err_now before now) (run_line status ran) (line (never status 3 ran refl) (never status 7 ran refl))
   tells (Err Usage) is a =
       subst (λ text. AddsLine text err err_now before now) (ap status_line a.0)
@@ -161,20 +164,20 @@ module _ (told : Option StoreFiles) (words : List (List ℕ)) (status : ℕ) (ol
   tells (Err Output) is a = absurd (undecided 6 refl a.0)
   tells (Err NoMemory) is a = absurd (undecided 7 refl a.0)
 
-some-part : (told : Option StoreFiles) (words : List (List ℕ)) (found : Result Run Failure) (old new : Option (List ℕ)) → wanted told words ≡ Some found → AddsReportPart told words old new → AddsPart old new (bytes_of found)
+some-part : (told : Option StoreFiles) (words : List (List ℕ)) (found : Result Written Failure) (old new : Option (List ℕ)) → wanted told words ≡ Some found → AddsTextPart told words old new → AddsPart old new (bytes_of found)
 some-part told words found old new is s =
-    let same : found ≡ Ok (run_on s.request s.image) = subst (λ known. IfSome known (λ f. f ≡ Ok (run_on s.request s.image))) is s.is_wanted in
+    let same : found ≡ Ok (written_on s.form s.image) = subst (λ known. IfSome known (λ f. f ≡ Ok (written_on s.form s.image))) is s.is_wanted in
     subst (λ f. AddsPart old new (bytes_of f)) (sym same) s.holds
 
 nothing-part : (old new : Option (List ℕ)) (bytes : List ℕ) → new ≡ old → AddsPart old new bytes
 nothing-part old new bytes is = subst (λ now. AddsPart old now bytes) (sym is) (adds_none old bytes)
 
 -- whatever is answered, a prefix of the bytes of what is wanted was added
-pub adds-part : (told : Option StoreFiles) (words : List (List ℕ)) (found : Result Run Failure) → wanted told words ≡ Some found →
+pub adds-part : (told : Option StoreFiles) (words : List (List ℕ)) (found : Result Written Failure) → wanted told words ≡ Some found →
     (status : ℕ) (old new : Option (List ℕ)) (w : World) → IsTrue (is_status status) →
     (IsTrue (is_decided status) → Answered found status old new w) →
-    (IsTrue (fails_run status) → AddsReportPart told words old new) →
-    (status ≡ 7 → AddsReportPart told words old new ⊎ (new ≡ old)) →
+    (IsTrue (fails_run status) → AddsTextPart told words old new) →
+    (status ≡ 7 → AddsTextPart told words old new ⊎ (new ≡ old)) →
     (IsTrue (precedes_run status) → new ≡ old) → AddsPart old new (bytes_of found)
 adds-part told words found is status old new w some answer part memory nothing =
     by_kind (is_decided status) refl (fails_run status) refl (status == 7) refl

@@ -38,7 +38,7 @@ use Rattle.dt_run.specs.inner.Good.{IsPlaced, IsPlacedIn, IsGood, steps_left}
 use Rattle.dt_run.proofs.Works.{get-works_in}
 use Rattle.dt_calls.proofs.Fits.{Fits, served-fits}
 use Rattle.dt_run.proofs.Noted.{the_work, works_with, works-after}
-use Rattle.dt_run.proofs.Standings.{phase-first, after}
+use Rattle.dt_run.proofs.Standings.{phase-first}
 use Rattle.dt_run.proofs.Queued.{pids, IsHead, IsSpent, ready-head, schedule-settled, verdict-settled}
 use Rattle.dt_run.proofs.Placed.{once-apart, queue-placed, unheld, room}
 

@@ -10,7 +10,7 @@ use Rattle.dt_base.specs.declared.event.Event.{Event}
 use Rattle.dt_base.specs.declared.event.Verdict.{Verdict}
 use Rattle.dt_base.specs.Command.{Words}
 use Rattle.dt_host.specs.World.{World}
-use Rattle.dt_procs.specs.declared.member.TheConstants.{FIRST_PID}
+use Rattle.dt_base.specs.declared.limits.TheConstants.{FIRST_PID}
 use Rattle.dt_sched.specs.declared.settled.Head.TheVariants.{Over}
 use Rattle.dt_rv64.specs.declared.segments.Seg.{Seg}
 use Rattle.dt_rv64.specs.declared.segments.Stop.TheVariants.{Slice}

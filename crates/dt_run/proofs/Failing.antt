@@ -6,9 +6,9 @@ use Rattle.dt_host.specs.Store.{StoreFiles}
 use Rattle.dt_run.specs.declared.failure.Failure.{Failure}
 use Rattle.dt_run.specs.declared.failure.Failure.TheVariants.{Usage, Image, Store, Host, Output, NoMemory}
 use Rattle.dt_run.specs.Failure.{failure_status}
-use Rattle.dt_run.specs.Run.{Run}
-use Rattle.dt_run.specs.Wanted.{wanted, run_on}
-use Rattle.dt_run.specs.SomeRun.{SomeRun, AddsReportPart}
+use Rattle.dt_run.specs.Written.{Written}
+use Rattle.dt_run.specs.Wanted.{wanted, written_on, ReadsStore}
+use Rattle.dt_run.specs.SomeRun.{SomeRun, AddsTextPart}
 use Rattle.dt_run.specs.Statuses.{RefusesImage, is_run_status, precedes_run, fails_run}
 use Rattle.dt_run.specs.inner.Fails.{HasFailureCause}
 use Rattle.dt_run.proofs.Wanting.{not_refused}
@@ -30,12 +30,12 @@ each_some None on = tt
 each_some (Some x) on = on x
 
 -- a run is no refusal
-run_unless : {P : Run → Type 0} (told : Option StoreFiles) (words : List (List ℕ)) (f : Failure) → SomeRun told words P → wanted told words ≡ Some (Err f) → ⊥
+run_unless : {P : Written → Type 0} (told : Option StoreFiles) (words : List (List ℕ)) (f : Failure) → SomeRun told words P → wanted told words ≡ Some (Err f) → ⊥
 run_unless told words f run is =
-    let bad : Err f ≡ Ok (run_on run.request run.image) = subst (λ found. IfSome found (λ w. w ≡ Ok (run_on run.request run.image))) is run.is_wanted in cc
+    let bad : Err f ≡ Ok (written_on run.form run.image) = subst (λ found. IfSome found (λ w. w ≡ Ok (written_on run.form run.image))) is run.is_wanted in cc
 
 -- whatever failed, a run was begun or nothing was written
-pub part_or_nothing : (told : Option StoreFiles) (words : List (List ℕ)) (old new : Option (List ℕ)) (f : Failure) → HasFailureCause f told words old new → AddsReportPart told words old new ⊎ (new ≡ old)
+pub part_or_nothing : (told : Option StoreFiles) (words : List (List ℕ)) (old new : Option (List ℕ)) (f : Failure) → HasFailureCause f told words old new → AddsTextPart told words old new ⊎ (new ≡ old)
 part_or_nothing told words old new Usage fails = inr fails.1
 part_or_nothing told words old new (Image refusal) fails = inr fails.1
 part_or_nothing told words old new Store fails = inr fails.1
@@ -44,7 +44,7 @@ part_or_nothing told words old new Output fails = inl fails
 part_or_nothing told words old new NoMemory fails = fails
 
 module _ (status : ℕ) (told : Option StoreFiles) (words : List (List ℕ)) (old new : Option (List ℕ)) where
-  own_part : (f : Failure) → IsTrue (fails_run (failure_status f)) → HasFailureCause f told words old new → AddsReportPart told words old new
+  own_part : (f : Failure) → IsTrue (fails_run (failure_status f)) → HasFailureCause f told words old new → AddsTextPart told words old new
   own_part Usage late fails = absurd (cc)
   own_part (Image refusal) late fails = absurd (cc)
   own_part Store late fails = absurd (cc)
@@ -52,7 +52,7 @@ module _ (status : ℕ) (told : Option StoreFiles) (words : List (List ℕ)) (ol
   own_part Output late fails = fails
   own_part NoMemory late fails = absurd (cc)
 
-  pub part : (f : Failure) → Answers f status → HasFailureCause f told words old new → IsTrue (fails_run status) → AddsReportPart told words old new
+  pub part : (f : Failure) → Answers f status → HasFailureCause f told words old new → IsTrue (fails_run status) → AddsTextPart told words old new
   part f by fails late =
       let own = own_status f status by (λ seven. let bad : IsTrue (fails_run 7) = subst (λ s. IsTrue (fails_run s)) seven late in cc) in
       own_part f (subst (λ s. IsTrue (fails_run s)) own late) fails
@@ -81,6 +81,18 @@ module _ (status : ℕ) (told : Option StoreFiles) (words : List (List ℕ)) (ol
   pub usage : (f : Failure) → Answers f status → HasFailureCause f told words old new → status ≡ 2 → wanted told words ≡ Some (Err Usage)
   usage f by fails two =
       own_usage f (sym (own_status f status by (λ seven. let bad : 2 ≡ 7 = sym two ∙ seven in cc)) ∙ two) fails
+
+  own_reads : (f : Failure) → failure_status f ≡ 4 → HasFailureCause f told words old new → ReadsStore words
+  own_reads Store four fails = fails.0
+  own_reads Usage four fails = absurd (cc)
+  own_reads (Image refusal) four fails = absurd (cc)
+  own_reads Host four fails = absurd (cc)
+  own_reads Output four fails = absurd (cc)
+  own_reads NoMemory four fails = absurd (cc)
+
+  pub reads : (f : Failure) → Answers f status → HasFailureCause f told words old new → status ≡ 4 → ReadsStore words
+  reads f by fails four =
+      own_reads f (sym (own_status f status by (λ seven. let bad : 4 ≡ 7 = sym four ∙ seven in cc)) ∙ four) fails
 
   -- the refusal of an image that was answered
   pub record Refuses (f : Failure) : Type 0 where
@@ -125,17 +137,17 @@ module _ (status : ℕ) (told : Option StoreFiles) (words : List (List ℕ)) (ol
   complete Usage S H O by fails store host output no_store no_host no_output =
       subst (λ w. IfSome w (λ found. IsOk found → IsTrue (is_run_status status) ⊎ (status ≡ 7))) (sym fails.0) (λ ok. absurd (cc))
   complete (Image refusal) S H O by fails store host output no_store no_host no_output =
-      if_some (wanted told words) fails.0 (λ found is ok. absurd (let bad : IsOk {T = Run} (Err (Image refusal)) = subst (λ w. IsOk w) is ok in cc))
+      if_some (wanted told words) fails.0 (λ found is ok. absurd (let bad : IsOk {T = Written} (Err (Image refusal)) = subst (λ w. IsOk w) is ok in cc))
   complete Store S H O by fails store host output no_store no_host no_output = absurd (no_store (store refl))
   complete Host S H O by fails store host output no_store no_host no_output = absurd (no_host (host refl))
   complete Output S H O by fails store host output no_store no_host no_output = absurd (no_output (output refl))
   complete NoMemory S H O by fails store host output no_store no_host no_output = each_some (wanted told words) (λ found ok. inr (⊎_elim (λ e. e) (λ e. e) by))
 
 -- where a run was completed nothing was refused
-pub not_refused_words : {P : Run → Type 0} (told : Option StoreFiles) (words : List (List ℕ)) → SomeRun told words P → wanted told words ≡ Some (Err Usage) → ⊥
+pub not_refused_words : {P : Written → Type 0} (told : Option StoreFiles) (words : List (List ℕ)) → SomeRun told words P → wanted told words ≡ Some (Err Usage) → ⊥
 not_refused_words told words run is = run_unless told words Usage run is
 
-pub not_refused_image : {P : Run → Type 0} (Q : Type 0) (told : Option StoreFiles) (words : List (List ℕ)) → SomeRun told words P → IfSome (wanted told words) (λ found. RefusesImage found → Q)
+pub not_refused_image : {P : Written → Type 0} (Q : Type 0) (told : Option StoreFiles) (words : List (List ℕ)) → SomeRun told words P → IfSome (wanted told words) (λ found. RefusesImage found → Q)
 not_refused_image Q told words run =
     if_some (wanted told words) run.is_wanted (λ found is r. absurd (let bad = sym is ∙ r.refused in cc))
 

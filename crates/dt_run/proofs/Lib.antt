@@ -8,6 +8,9 @@ pub mod Queued
 pub mod Placed
 pub mod Came
 pub mod Arriving
+pub mod Rounds
+pub mod Brought
+pub mod Lending
 pub mod Ending
 pub mod Holding
 pub mod Completed
@@ -17,3 +20,4 @@ pub mod Lines
 pub mod Causes
 pub mod Ran
 pub mod Answered
+pub mod Demonstrated

@@ -1,6 +1,5 @@
 -- The works after a turn.
-use Rattle.std.proofs.Common.{◌≡◌, ◌≢◌, ℕ, ◌==◌, Bool, true, false, cond, List, ◌∷◌, Option, Some, None, refl, sym, ap, subst, ◌∙◌, arith}
-use Rattle.std.specs.Prelude.{IsSome}
+use Rattle.std.proofs.Common.{◌≡◌, ◌≢◌, ℕ, ◌==◌, Bool, true, false, cond, List, Option, Some, None, refl, sym, ap, subst, ◌∙◌, arith}
 use Rattle.std.proofs.lemmas.Bool.Decides.{nat_tests}
 use Rattle.std.specs.FinMap.{empty, get, insert}
 use Rattle.dt_rv64.specs.declared.machine.Machine.{Machine}
@@ -18,7 +17,7 @@ use Rattle.dt_calls.proofs.Fits.{FitsOwn, FitsChild, Fits}
 use Rattle.dt_run.specs.Work.{Work, Works, owing_work}
 use Rattle.dt_run.specs.Turn.{with_child_work, own_work_after, settled_of}
 use Rattle.dt_run.specs.inner.InCode.{Stops, noted_stop, with_stop, work_in, works_in}
-use Rattle.dt_run.proofs.Works.{Only, works_in-insert, works_in-remove, works_in-same, works_in-empty}
+use Rattle.dt_run.proofs.Works.{Only, works_in-insert, works_in-remove, works_in-empty}
 use Rattle.dt_run.proofs.Standings.{before, after, IsNoChild, GoesOn, IsNext, stays, own-phase, next-owes}
 
 -- by the machines then it made no child, or one of the next pid, and the process goes on or has ended

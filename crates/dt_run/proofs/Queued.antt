@@ -1,7 +1,6 @@
 -- The queue as the definitions see it: its head, and what a turn or an arrival makes of it.
 use Rattle.std.proofs.Common.{◌≡◌, ℕ, ◌-◌, ◌<◌, ◌==◌, Bool, true, false, cond, List, [], ◌∷◌, ◌++◌, map, drop, length, Option, Some, None, refl, sym, ap, subst, ◌∙◌, arith, nat_le, inl, inr}
 use Rattle.std.specs.Prelude.{IsTrue, ◌⊎◌}
-use Rattle.std.proofs.lemmas.Bool.Decides.{nat_tests}
 use Rattle.std.proofs.lemmas.List.{map-append, length-map}
 use Rattle.dt_base.specs.declared.event.Verdict.{Verdict}
 use Rattle.dt_base.specs.declared.event.Verdict.TheVariants as verdict

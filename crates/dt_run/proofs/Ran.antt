@@ -7,11 +7,12 @@ use Rattle.dt_base.specs.declared.event.End.{End}
 use Rattle.dt_base.specs.declared.event.End.TheVariants.{Code, Signal}
 use Rattle.dt_host.specs.Store.{StoreFiles}
 use Rattle.dt_host.specs.World.{World}
-use Rattle.dt_procs.specs.declared.member.TheConstants.{FIRST_PID}
+use Rattle.dt_base.specs.declared.limits.TheConstants.{FIRST_PID}
 use Rattle.dt_procs.specs.Members.{end_of}
-use Rattle.dt_run.specs.Run.{Run, status_by}
+use Rattle.dt_run.specs.Run.{status_by}
+use Rattle.dt_run.specs.Written.{Written}
 use Rattle.dt_run.specs.SomeRun.{SomeRun}
-use Rattle.dt_run.specs.Statuses.{is_status, is_run_status, precedes_run, fails_run, Completes}
+use Rattle.dt_run.specs.Statuses.{is_status, is_run_status, precedes_run, fails_run, Finishes}
 
 code_status : (b : Bool) → IsTrue (is_run_status (cond b 0 1))
 code_status true = refl
@@ -23,12 +24,12 @@ status_by-end (Some (Code code)) = code_status (eqb code 0)
 status_by-end (Some (Signal signal)) = refl
 
 -- the status of a run is 0, 1 or 10
-pub completes-status : (run : Run) (status : ℕ) (old new : Option (List ℕ)) (w : World) → Completes run status old new w → IsTrue (is_run_status status)
-completes-status run status old new w c = subst (λ s. IsTrue (is_run_status s)) (sym c.status) (status_by-end (end_of run.last.members FIRST_PID))
+pub finishes-status : (written : Written) (status : ℕ) (old new : Option (List ℕ)) (w : World) → Finishes written status old new w → IsTrue (is_run_status status)
+finishes-status written status old new w c = subst (λ s. IsTrue (is_run_status s)) (sym c.status) (status_by-end (end_of written.run.last.members FIRST_PID))
 
 -- and so is that of a run on some image
-pub status-of : (told : Option StoreFiles) (words : List (List ℕ)) (status : ℕ) (old new : Option (List ℕ)) (w : World) → SomeRun told words (λ run. Completes run status old new w) → IsTrue (is_run_status status)
-status-of told words status old new w run = completes-status _ status old new w run.holds
+pub status-of : (told : Option StoreFiles) (words : List (List ℕ)) (status : ℕ) (old new : Option (List ℕ)) (w : World) → SomeRun told words (λ written. Finishes written status old new w) → IsTrue (is_run_status status)
+status-of told words status old new w run = finishes-status _ status old new w run.holds
 
 pub ends_with : (status : ℕ) → IsTrue (is_run_status status) → IsTrue (is_status status)
 ends_with status ran = grind (arith, nat_tests, ran)

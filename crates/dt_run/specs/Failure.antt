@@ -12,7 +12,7 @@ refusal_digit refusal = 48 + refusal_number refusal
 
 -- the line on the error stream
 abbrev pub failure_line : Failure → List ℕ
-failure_line Usage = codes "dettrace: usage: dettrace run IMAGE [--seed N] [--budget N] [--host N] -- [NAME=VALUE ..] PROGRAM [ARG ..]\n"
+failure_line Usage = codes "dettrace: usage: dettrace run IMAGE [--seed N] [--budget N] [--workers N] [--host N] -- [NAME=VALUE ..] PROGRAM [ARG ..]\n"
 failure_line (Image refusal) = codes "dettrace: image refused: " ++ (refusal_digit refusal ∷ (codes " " ++ (refusal_name refusal ++ codes "\n")))
 failure_line Store = codes "dettrace: store fault\n"
 failure_line Host = codes "dettrace: host fault\n"

@@ -4,6 +4,7 @@ pub mod Work
 pub mod Turn
 pub mod Run
 pub mod Ahead
+pub mod Written
 pub mod Wanted
 pub mod SomeRun
 pub mod Statuses

@@ -8,7 +8,7 @@ use Rattle.dt_base.specs.declared.event.Verdict.{Verdict}
 use Rattle.dt_base.specs.declared.event.Verdict.TheVariants as verdict
 use Rattle.dt_base.specs.Command.{Words}
 use Rattle.dt_tables.specs.Values.{map_values}
-use Rattle.dt_procs.specs.declared.member.TheConstants.{FIRST_PID}
+use Rattle.dt_base.specs.declared.limits.TheConstants.{FIRST_PID}
 use Rattle.dt_procs.specs.Members.{end_of}
 use Rattle.dt_tree.specs.ImageTree.{image_tree}
 use Rattle.dt_calls.specs.declared.container.Launch.{Launch}

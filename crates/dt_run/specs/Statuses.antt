@@ -9,7 +9,8 @@ use Rattle.dt_run.specs.declared.failure.Failure.TheVariants.{Usage, Image, Stor
 use Rattle.dt_run.specs.declared.status.TheConstants.{ENDED_ZERO, ENDED_OTHERWISE, WORDS_REFUSED, IMAGE_REFUSED, STORE_FAULT, HOST_FAULT, OUTPUT_FAULT, OUT_OF_MEMORY, NOT_ENDED}
 use Rattle.dt_run.specs.Failure.{failure_line}
 use Rattle.dt_run.specs.HoldsTree.{HoldsTree}
-use Rattle.dt_run.specs.Run.{Run, status_of_run, report_of}
+use Rattle.dt_run.specs.Run.{Run, status_of_run}
+use Rattle.dt_run.specs.Written.{Written, reported}
 
 -- the status of a run that was completed
 abbrev pub is_run_status : ℕ → Bool
@@ -31,14 +32,18 @@ fails_run status = (status == HOST_FAULT) || (status == OUTPUT_FAULT)
 abbrev pub Stayed : ℕ → ℕ → Type 0
 Stayed before now = ¬ HasRisen before now
 
--- the run was completed: its status is the answer, its report was added, and the host holds its last tree
-pub record Completes (run : Run) (answer : ℕ) (old new : Option (List ℕ)) (w : World) : Type 0 where
-  pub status : answer ≡ status_of_run run
-  pub report : new ≡ added old (report_of run)
-  pub tree : HoldsTree w run.last.tree
+-- a run was completed: its status is the answer, what is written of it was added, and the host holds its last tree
+pub record Finishes (written : Written) (answer : ℕ) (old new : Option (List ℕ)) (w : World) : Type 0 where
+  pub status : answer ≡ status_of_run written.run
+  pub report : new ≡ added old written.text
+  pub tree : HoldsTree w written.run.last.tree
+
+-- likewise, and what was added is its report
+abbrev pub Completes : Run → ℕ → Option (List ℕ) → Option (List ℕ) → World → Type 0
+Completes run = Finishes (reported run)
 
 -- what is wanted is an image that is refused
-pub record RefusesImage (found : Result Run Failure) : Type 0 where
+pub record RefusesImage (found : Result Written Failure) : Type 0 where
   pub refusal : Refusal
   pub refused : found ≡ Err (Image refusal)
 
@@ -62,7 +67,7 @@ pub record AddsSomeLine (old new : Option (List ℕ)) : Type 0 where
   pub part : AddsPart old new (failure_line failure)
 
 -- the line of a refusal was added, of the one that refuses the image, where what is wanted is known
-pub record AddsRefusal (found : Option (Result Run Failure)) (old new : Option (List ℕ)) (before now : ℕ) : Type 0 where
+pub record AddsRefusal (found : Option (Result Written Failure)) (old new : Option (List ℕ)) (before now : ℕ) : Type 0 where
   pub refusal : Refusal
   pub first : IfSome found (λ wanted. wanted ≡ Err (Image refusal))
   pub line : AddsLine (failure_line (Image refusal)) old new before now

@@ -4,3 +4,4 @@ pub mod Failures
 pub mod Fails
 pub mod InCode
 pub mod Good
+pub mod Round

@@ -1,7 +1,9 @@
 // Why a run was not completed.
 ghost use Rattle.std.specs.Prelude.{◌≡◌};
+ghost use Rattle.dt_run.specs.declared.error.RunErr.TheVariants.{NoMemory as OutOfMemory};
 ghost use Rattle.dt_run.specs.inner.Errors.{run_err_of_host, run_err_of_sink};
 
+use dt_base::NoMemory;
 use dt_host::{HostErr, SinkErr};
 use thiserror::Error;
 
@@ -35,5 +37,13 @@ impl From<SinkErr> for RunErr {
             SinkErr::Failed => RunErr::Sink,
             SinkErr::NoMemory => RunErr::NoMemory,
         }
+    }
+}
+
+impl From<NoMemory> for RunErr {
+    ghost from_gives = { λ _ r. r ≡ OutOfMemory };
+
+    fn from(_: NoMemory) -> Self {
+        RunErr::NoMemory
     }
 }

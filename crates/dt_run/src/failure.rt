@@ -48,8 +48,8 @@ impl Failure {
     {
         match self {
             Failure::Usage =>
-                "dettrace: usage: dettrace run IMAGE [--seed N] [--budget N] [--host N] \
-                -- [NAME=VALUE ..] PROGRAM [ARG ..]\n",
+                "dettrace: usage: dettrace run IMAGE [--seed N] [--budget N] [--workers N] \
+                [--host N] -- [NAME=VALUE ..] PROGRAM [ARG ..]\n",
             Failure::Image(refusal) => image_line(refusal),
             Failure::Store => "dettrace: store fault\n",
             Failure::Host => "dettrace: host fault\n",

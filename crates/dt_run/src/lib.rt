@@ -4,9 +4,11 @@
 //! function of the image, the command, the seed and the budget, whatever the host chooses.
 #![tactic(auto)]
 
+mod demo;
 mod error;
 mod failure;
 mod laws;
+mod round;
 mod run;
 mod state;
 pub mod status;

@@ -5,7 +5,7 @@ ghost use Rattle.dt_host.specs.Asks.{Asks};
 ghost use Rattle.dt_host.specs.Cause.{HasCause};
 ghost use Rattle.dt_host.specs.Sink.{AddsPart};
 ghost use Rattle.dt_host.specs.World.{IsEmptyStart};
-ghost use Rattle.dt_procs.specs.declared.member.TheConstants.{FIRST_PID};
+ghost use Rattle.dt_base.specs.declared.limits.TheConstants.{FIRST_PID};
 ghost use Rattle.dt_tree.specs.Table.{Stands, tree_of};
 ghost use Rattle.dt_calls.specs.InCode.{container_of, machines_at_home};
 ghost use Rattle.dt_calls.specs.Sound.{IsSoundContainer};
@@ -16,22 +16,29 @@ ghost use Rattle.dt_run.specs.inner.Good.{IsGood};
 ghost use Rattle.dt_run.specs.inner.InCode.{state_of, run_as, rest_of};
 
 use crate::error::RunErr;
+use crate::round::Runner;
 use crate::state::State;
 use crate::status::{ENDED_OTHERWISE, ENDED_ZERO, NOT_ENDED};
-use dt_base::{Command, End, Event, Image, Verdict};
+use dt_base::{Command, End, Event, FIRST_PID, Image, Verdict};
 use dt_calls::{Container, Launch};
 use dt_host::{Gate, Host, HostErr, Sink, sink_all};
 use dt_image::{events_text, header, tree_lines, verdict_text};
-use dt_procs::FIRST_PID;
 use dt_sched::Head;
 use std::alloc::Global;
+use std::thread::Threads;
 
 /// Runs a command on an image at a host that holds nothing, and writes the run's report to `out`. The answer is the
 /// status.
 ///
-/// `budget` is counted in steps. All segments are run on this one thread, so that `workers` and `gate` have no effect.
-pub fn run_container<H: Host + Send, O: Sink + Send, G: Gate + Sync>(
-    alloc: Global,
+/// `budget` is counted in steps. Where several processes compute, `workers` run their segments side by side, on threads of
+/// `rt`, and pass the gate before each. The report does not depend on either.
+pub fn run_container<
+    R: AllocGlobal + Threads + Sync,
+    H: Host + Send,
+    O: Sink + Send,
+    G: Gate + Sync,
+>(
+    rt: &R,
     image: &Image,
     command: &Command,
     seed: u64,
@@ -51,8 +58,9 @@ pub fn run_container<H: Host + Send, O: Sink + Send, G: Gate + Sync>(
     ensures host { HasCause (H.count host.old) (H.count host.new) (IsErrOf result RunErr.Host) }
     ensures sink { HasCause (O.count out.old) (O.count out.new) (IsErrOf result RunErr.Sink) }
 {
-    let run = play(alloc, host, image, command, seed, budget)?;
-    let text = report_text(alloc, host, &run)?;
+    let mut runner = Runner::new(rt, workers, gate);
+    let run = play(&mut runner, host, image, command, seed, budget)?;
+    let text = report_text(rt.alloc(), host, &run)?;
     sink_all(out, &text)?;
     Ok(status_by(run.last.end(FIRST_PID)))
 }
@@ -66,8 +74,8 @@ pub struct Run {
 }
 
 // Installs an image, launches a command in it, and takes the turns of the run.
-fn play<H: Host>(
-    alloc: Global,
+fn play<R: AllocGlobal + Threads + Sync, H: Host, G: Gate + Sync>(
+    runner: &mut Runner<'_, R, G>,
     host: &mut H,
     image: &Image,
     command: &Command,
@@ -79,14 +87,14 @@ fn play<H: Host>(
     ensures sound { IfOk result (λ run. IsSoundContainer run.last (H.view host.new)) }
     ensures cause { HasCause (H.count host.old) (H.count host.new) (IsErrOf result HostErr.Failed) }
 {
-    let mut container = Container::install(alloc, host, image, seed)?;
+    let mut container = Container::install(runner.alloc(), host, image, seed)?;
     let launch = container.launch(host, command)?;
-    run_from(alloc, host, container, budget, launch)
+    run_from(runner, host, container, budget, launch)
 }
 
 // The turns of a program that was started, or the end of a run whose program was not.
-fn run_from<H: Host>(
-    alloc: Global,
+fn run_from<R: AllocGlobal + Threads + Sync, H: Host, G: Gate + Sync>(
+    runner: &mut Runner<'_, R, G>,
     host: &mut H,
     container: Container,
     budget: u64,
@@ -101,9 +109,9 @@ fn run_from<H: Host>(
 {
     let _before = host.faults();
     match launch {
-        Launch::Started => run_turns(alloc, host, State::new(alloc, container, budget)?),
+        Launch::Started => run_turns(runner, host, State::new(runner.alloc(), container, budget)?),
         Launch::NoStart(errno) => Ok(Run {
-            events: Vec::new(alloc),
+            events: Vec::new(runner.alloc()),
             verdict: Verdict::NoStart(errno),
             last: container,
         }),
@@ -111,7 +119,11 @@ fn run_from<H: Host>(
 }
 
 // Lets segments arrive and takes turns until the run is over.
-fn run_turns<H: Host>(alloc: Global, host: &mut H, mut state: State) -> Result<Run, HostErr>
+fn run_turns<R: AllocGlobal + Threads + Sync, H: Host, G: Gate + Sync>(
+    runner: &mut Runner<'_, R, G>,
+    host: &mut H,
+    mut state: State,
+) -> Result<Run, HostErr>
     requires sound { IsSoundContainer state.container (H.view host.old) }
     requires good { IsGood state }
     ensures ok { IfOk result
@@ -120,10 +132,10 @@ fn run_turns<H: Host>(alloc: Global, host: &mut H, mut state: State) -> Result<R
     ensures cause { HasCause (H.count host.old) (H.count host.new) (IsErrOf result HostErr.Failed) }
 {
     let _before = host.faults();
-    let mut events = Vec::new(alloc);
+    let mut events = Vec::new(runner.alloc());
     loop {
         match state.core.head() {
-            Head::NotArrived(_) => state.arrive_next(host)?,
+            Head::NotArrived(_) => state.let_arrive(host, runner)?,
             Head::Ready(vpid) => events.append(&mut state.turn(host, vpid)?)?,
             Head::Over(verdict) => {
                 return Ok(Run {

@@ -4,7 +4,7 @@ ghost use Rattle.std.specs.List.{Contains};
 ghost use Rattle.std.specs.FinMap.{empty, get, insert};
 ghost use Rattle.dt_host.specs.Cause.{HasCause};
 ghost use Rattle.dt_host.specs.World.{World};
-ghost use Rattle.dt_procs.specs.declared.member.TheConstants.{FIRST_PID as FIRST};
+ghost use Rattle.dt_base.specs.declared.limits.TheConstants.{FIRST_PID as FIRST};
 ghost use Rattle.dt_rv64.specs.declared.segments.Stop.TheVariants.{Slice};
 ghost use Rattle.dt_sched.specs.Core.{first_core, owing_vpids, IsCore};
 ghost use Rattle.dt_calls.specs.Sound.{IsSoundContainer};
@@ -12,14 +12,15 @@ ghost use Rattle.dt_run.specs.Ahead.{with_all_segments, with_segment_of};
 ghost use Rattle.dt_run.specs.inner.InCode.{state_of};
 ghost use Rattle.dt_run.specs.inner.Good.{IsGood, steps_left};
 
-use dt_base::NoMemory;
+use crate::round::Runner;
+use dt_base::{FIRST_PID, NoMemory};
 use dt_calls::Container;
-use dt_host::{Host, HostErr};
-use dt_procs::FIRST_PID;
-use dt_rv64::Stop;
+use dt_host::{Gate, Host, HostErr};
+use dt_rv64::{Hints, Stop};
 use dt_sched::Core;
 use dt_tables::Numbered;
 use std::alloc::Global;
+use std::thread::Threads;
 
 /// A run between two turns: the container, the queue, which knows where each process stands, and the stop of the last
 /// segment that each has run.
@@ -56,8 +57,12 @@ impl State {
         }
     }
 
-    /// Lets a segment arrive that is owed, of the process that the host chooses.
-    pub fn arrive_next<H: Host>(&mut self, host: &mut H) -> Result<(), HostErr>
+    /// Runs a segment that is owed, of the process that the host chooses, and lets it arrive.
+    pub fn arrive_next<R: AllocGlobal + Threads + Sync, H: Host, G: Gate + Sync>(
+        &mut self,
+        host: &mut H,
+        runner: &mut Runner<'_, R, G>,
+    ) -> Result<(), HostErr>
         requires good { IsGood self.old }
         requires some { 0 < length (owing_vpids self.old.core.queue) }
         ensures alike { OnOk result (with_all_segments (state_of self.new (H.view host.new))
@@ -72,11 +77,13 @@ impl State {
         let owing = self.core.owing();
         let index = host.next_stop(owing)?;
         let vpid = owing[index];
-        Ok(self.arrive(vpid)?)
+        let stop = self.arrive(vpid, &mut runner.hints)?;
+        runner.note(stop);
+        Ok(())
     }
 
-    // Runs the segment that a process owes, and lets it arrive.
-    fn arrive(&mut self, vpid: u32) -> Result<(), NoMemory>
+    // Runs the segment that a process owes, and lets it arrive. The answer is how it stopped.
+    fn arrive(&mut self, vpid: u32, hints: &mut Hints) -> Result<Stop, NoMemory>
         requires good { IsGood self.old }
         requires core { IsCore self.old.core }
         requires owing { Contains (owing_vpids self.old.core.queue) vpid }
@@ -87,9 +94,9 @@ impl State {
         ensures verdict { OnOk result (self.new.core.verdict ≡ self.old.core.verdict) }
         ensures smaller { OnOk result (steps_left self.new.core < steps_left self.old.core) }
     {
-        let seg = self.container.run_segment(vpid)?;
+        let seg = self.container.run_segment(vpid, hints)?;
         self.stops.set(u64::from(vpid), seg.stop);
         self.core.arrived(vpid, seg.count);
-        Ok(())
+        Ok(seg.stop)
     }
 }

@@ -9,55 +9,57 @@ ghost use Rattle.dt_run.specs.declared.status.TheConstants.{WORDS_REFUSED, IMAGE
 ghost use Rattle.dt_run.specs.declared.status.TheConstants.{OUTPUT_FAULT, OUT_OF_MEMORY};
 ghost use Rattle.dt_run.specs.Run.{run_of, report_of};
 ghost use Rattle.dt_run.specs.Failure.{failure_status, failure_line};
-ghost use Rattle.dt_run.specs.Wanted.{wanted};
-ghost use Rattle.dt_run.specs.SomeRun.{SomeRun, AddsReportPart};
-ghost use Rattle.dt_run.specs.Statuses.{is_status, is_run_status, precedes_run, fails_run, Stayed, Completes};
+ghost use Rattle.dt_run.specs.Wanted.{wanted, ReadsStore};
+ghost use Rattle.dt_run.specs.SomeRun.{SomeRun, AddsTextPart};
+ghost use Rattle.dt_run.specs.Statuses.{is_status, is_run_status, precedes_run, fails_run, Stayed, Completes, Finishes};
 ghost use Rattle.dt_run.specs.Statuses.{RefusesImage, status_line, AddsLine, AddsSomeLine, AddsRefusal};
 ghost use Rattle.dt_run.specs.inner.Fails.{HasFailureCause};
 
+use crate::demo::demonstrate;
 use crate::error::RunErr;
 use crate::failure::Failure;
 use crate::run::run_container;
 use dt_base::Image;
 use dt_host::{Gate, Host, HostErr, Sink, SinkErr, Store, sink_all};
 use dt_image::read_image;
-use dt_options::{Options, read_options};
-use std::alloc::Global;
-
-// How many workers a run has.
-const WORKERS: usize = 1;
+use dt_options::{Options, RunOptions, read_options};
+use std::thread::Threads;
 
 /// Runs what the words ask for, on the image that the store holds, at a host that holds nothing.
 /// Writes the report to `out`, and why there is no whole report to `err`; the answer is the status.
-pub fn dettrace<S: Store, H: Host + Send, O: Sink + Send, E: Sink, G: Gate + Sync>(
-    alloc: Global,
-    words: &[String],
-    store: &mut S,
-    host: &mut H,
-    out: &mut O,
-    err: &mut E,
-    gate: &G,
-) -> u8
+/// A demonstration has an image of its own, and a summary of its report is written in the report's place.
+pub fn dettrace<
+    R: AllocGlobal + Threads + Sync,
+    S: Store,
+    H: Host + Send,
+    O: Sink + Send,
+    E: Sink,
+    G: Gate + Sync,
+>(rt: &R, words: &[String], store: &mut S, host: &mut H, out: &mut O, err: &mut E, gate: &G) -> u8
     requires { IsEmptyStart (H.view host.old) }
 
     // At 0, 1 and 10 a run that the words ask for was completed: on the store's image where its files are known, and on
-    // some image where they are not. Its report was added, the status is its own, and the host holds its last tree.
+    // some image where they are not. Its report was added, or of a demonstration the summary, the status is its own, and
+    // the host holds its last tree.
     ensures statuses { IsTrue (is_status result) }
     ensures some_image { IsTrue (is_run_status result) → SomeRun (S.told store.old) (map string_bytes words.now)
-        (λ run. Completes run result (O.told out.old) (O.told out.new) (H.view host.new)) }
+        (λ written. Finishes written result (O.told out.old) (O.told out.new) (H.view host.new)) }
 
-    // At 5 and 6 a prefix of such a run's report was added, at 7 such a prefix or nothing, at 2, 3 and 4 nothing.
+    // At 5 and 6 a prefix of such a run's report or summary was added, at 7 such a prefix or nothing, at 2, 3 and 4
+    // nothing.
     ensures part { IsTrue (fails_run result)
-        → AddsReportPart (S.told store.old) (map string_bytes words.now) (O.told out.old) (O.told out.new) }
+        → AddsTextPart (S.told store.old) (map string_bytes words.now) (O.told out.old) (O.told out.new) }
     ensures memory { result ≡ OUT_OF_MEMORY
-        → AddsReportPart (S.told store.old) (map string_bytes words.now) (O.told out.old) (O.told out.new)
+        → AddsTextPart (S.told store.old) (map string_bytes words.now) (O.told out.old) (O.told out.new)
         ⊎ (O.told out.new ≡ O.told out.old) }
     ensures nothing { IsTrue (precedes_run result) → O.told out.new ≡ O.told out.old }
 
-    // Refused words and each fault have their cause; that of a refused image stands with its line below.
+    // Refused words and each fault have their cause; that of a refused image stands with its line below. A demonstration
+    // reads no store.
     ensures usage { result ≡ WORDS_REFUSED
         → wanted (S.told store.old) (map string_bytes words.now) ≡ Some (Err Failure.Usage) }
     ensures store { HasCause (S.count store.old) (S.count store.new) (result ≡ STORE_FAULT) }
+    ensures reads { result ≡ STORE_FAULT → ReadsStore (map string_bytes words.now) }
     ensures host { HasCause (H.count host.old) (H.count host.new) (result ≡ HOST_FAULT) }
     ensures output { HasCause (O.count out.old) (O.count out.new) (result ≡ OUTPUT_FAULT) }
 
@@ -82,7 +84,7 @@ pub fn dettrace<S: Store, H: Host + Send, O: Sink + Send, E: Sink, G: Gate + Syn
     // The store is only read.
     ensures store_stays { S.told store.new ≡ S.told store.old }
 {
-    match run_words(alloc, words, store, host, out, gate) {
+    match run_words(rt, words, store, host, out, gate) {
         Ok(status) => status,
         Err(failure) => write_failure(failure, err),
     }
@@ -102,9 +104,15 @@ pub fn write_failure<E: Sink>(failure: Failure, err: &mut E) -> u8
     }
 }
 
-// The run that the words ask for, or the first failure.
-fn run_words<S: Store, H: Host + Send, O: Sink + Send, G: Gate + Sync>(
-    alloc: Global,
+// The run or the demonstration that the words ask for, or the first failure.
+fn run_words<
+    R: AllocGlobal + Threads + Sync,
+    S: Store,
+    H: Host + Send,
+    O: Sink + Send,
+    G: Gate + Sync,
+>(
+    rt: &R,
     words: &[String],
     store: &mut S,
     host: &mut H,
@@ -113,7 +121,7 @@ fn run_words<S: Store, H: Host + Send, O: Sink + Send, G: Gate + Sync>(
 ) -> Result<u8, Failure>
     requires { IsEmptyStart (H.view host.old) }
     ensures completed { IfOk result (λ status. SomeRun (S.told store.old) (map string_bytes words.now)
-        (λ run. Completes run status (O.told out.old) (O.told out.new) (H.view host.new))) }
+        (λ written. Finishes written status (O.told out.old) (O.told out.new) (H.view host.new))) }
     ensures failed { IfErr result
         (λ f. HasFailureCause f (S.told store.old) (map string_bytes words.now) (O.told out.old) (O.told out.new)) }
     ensures store { HasCause (S.count store.old) (S.count store.new) (IsErrOf result Failure.Store) }
@@ -121,15 +129,20 @@ fn run_words<S: Store, H: Host + Send, O: Sink + Send, G: Gate + Sync>(
     ensures output { HasCause (O.count out.old) (O.count out.new) (IsErrOf result Failure.Output) }
     ensures store_stays { S.told store.new ≡ S.told store.old }
 {
-    let options = read_options(alloc, words)?;
-    let image = read_image(alloc, store, options.image.as_str())?;
-    Ok(run_image(alloc, &options, &image, host, out, gate)?)
+    let alloc = rt.alloc();
+    match read_options(alloc, words)? {
+        Options::Run(options) => {
+            let image = read_image(alloc, store, options.image.as_str())?;
+            Ok(run_image(rt, &options, &image, host, out, gate)?)
+        }
+        Options::Demo(options) => Ok(demonstrate(rt, &options, host, out, gate)?),
+    }
 }
 
 // The run that the options ask for on an image.
-fn run_image<H: Host + Send, O: Sink + Send, G: Gate + Sync>(
-    alloc: Global,
-    options: &Options,
+fn run_image<R: AllocGlobal + Threads + Sync, H: Host + Send, O: Sink + Send, G: Gate + Sync>(
+    rt: &R,
+    options: &RunOptions,
     image: &Image,
     host: &mut H,
     out: &mut O,
@@ -137,6 +150,7 @@ fn run_image<H: Host + Send, O: Sink + Send, G: Gate + Sync>(
 ) -> Result<u8, RunErr>
     requires empty { IsEmptyStart (H.view host.old) }
     requires budget { (1 ≤ options.now.budget) × (options.now.budget ≤ 1000000000) }
+    requires workers { (1 ≤ options.now.workers) × (options.now.workers ≤ 64) }
     ensures completed { IfOk result (λ status. Completes
         (run_of image.now options.now.command options.now.seed options.now.budget) status
         (O.told out.old) (O.told out.new) (H.view host.new)) }
@@ -147,20 +161,20 @@ fn run_image<H: Host + Send, O: Sink + Send, G: Gate + Sync>(
 {
     disturb(options.host, host)?;
     run_container(
-        alloc,
+        rt,
         image,
         &options.command,
         options.seed,
         options.budget,
-        WORKERS,
+        options.workers,
         host,
         out,
         gate,
     )
 }
 
-// Has the host choose otherwise, where a number for that is given.
-fn disturb<H: Host>(number: Option<u64>, host: &mut H) -> Result<(), HostErr>
+/// Has the host choose otherwise, where a number for that is given.
+pub fn disturb<H: Host>(number: Option<u64>, host: &mut H) -> Result<(), HostErr>
     ensures asks { Asks H.view H.count host.old host.new result }
 {
     match number {

@@ -8,7 +8,7 @@ ghost use Rattle.dt_run.specs.Agree.{AskTheSame, is_decided, AddAlike, AddLineAl
 
 use crate::top::dettrace;
 use dt_host::{Gate, Host, Sink, Store};
-use std::alloc::Global;
+use std::thread::Threads;
 
 /// What a run meets outside: the store of its image, the host that keeps its nodes, and the streams for the report and
 /// for the error line.
@@ -21,11 +21,13 @@ pub struct Outside<S, H, O, E> {
 }
 
 /// Runs what the words ask for twice, at two hosts that hold nothing, on stores that tell the same files; the answers
-/// are the two statuses. Each run has words of its own, which may differ in the number that disturbs the host.
+/// are the two statuses. Each run has words of its own, which may differ in the number of workers and in the number that
+/// disturbs the host.
 ///
 /// The contract says only in what two runs agree, in words that need no machine, no call and no schedule. What a run
 /// does is the contract of `dettrace`: a body that ran nothing and answered 0 twice would meet this one.
 pub fn run_twice<
+    R: AllocGlobal + Threads + Sync,
     S: Store,
     T: Store,
     H: Host + Send,
@@ -36,7 +38,7 @@ pub fn run_twice<
     F: Sink,
     G: Gate + Sync,
 >(
-    alloc: Global,
+    rt: &R,
     words: &[String],
     other_words: &[String],
     first: &mut Outside<S, H, O, E>,
@@ -79,7 +81,7 @@ pub fn run_twice<
     ensures other_store_stays { T.told second.new.store ≡ T.told second.old.store }
 {
     let one = dettrace(
-        alloc,
+        rt,
         words,
         &mut first.store,
         &mut first.host,
@@ -88,7 +90,7 @@ pub fn run_twice<
         gate,
     );
     let other = dettrace(
-        alloc,
+        rt,
         other_words,
         &mut second.store,
         &mut second.host,

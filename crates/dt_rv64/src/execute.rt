@@ -1,7 +1,5 @@
 // One instruction carried out, by class.
 ghost use Rattle.std.specs.Prelude.{◌≡◌};
-ghost use Rattle.dt_rv64.specs.inner.Classes.{IsFrom, Branch, Load, Store, Immediate, Register, Word, Multiply};
-ghost use Rattle.dt_rv64.specs.inner.Classes.{MultiplyWord};
 ghost use Rattle.dt_rv64.specs.Machine.{instr_result};
 
 use crate::instruction::Instr;
@@ -13,7 +11,8 @@ use dt_base::abi::{SIGILL, SIGTRAP};
 use dt_space::PageHint;
 
 impl Machine {
-    /// Carries out an instruction: here jumps and stops, and each class below hands on what is not its own.
+    /// Carries out an instruction.
+    #[inline(always)]
     #[tactic(auto, unfolding(crate::specs::Machine::instr_result))]
     pub(crate) fn execute(&mut self, instruction: Instr, data: &mut PageHint) -> Step
         ensures { instr_result self.old instruction ≡ record { step = result; machine = self.new } }
@@ -26,16 +25,6 @@ impl Machine {
             Instr::Ebreak => Step::Fault(SIGTRAP),
             Instr::ReadCounter { rd, counter: _ } => Step::Counter(rd),
             Instr::Unknown => Step::Fault(SIGILL),
-            _ => self.branch_where(instruction, data),
-        }
-    }
-
-    #[tactic(auto, unfolding(crate::specs::Machine::instr_result))]
-    fn branch_where(&mut self, instruction: Instr, data: &mut PageHint) -> Step
-        requires { IsFrom Branch instruction }
-        ensures { instr_result self.old instruction ≡ record { step = result; machine = self.new } }
-    {
-        match instruction {
             Instr::Beq { rs1, rs2, imm } => self.branch(self.reg(rs1) == self.reg(rs2), imm),
             Instr::Bne { rs1, rs2, imm } => self.branch(self.reg(rs1) != self.reg(rs2), imm),
             Instr::Blt { rs1, rs2, imm } => self.branch(
@@ -48,16 +37,6 @@ impl Machine {
             ),
             Instr::Bltu { rs1, rs2, imm } => self.branch(self.reg(rs1) < self.reg(rs2), imm),
             Instr::Bgeu { rs1, rs2, imm } => self.branch(self.reg(rs1) >= self.reg(rs2), imm),
-            _ => self.load(instruction, data),
-        }
-    }
-
-    #[tactic(auto, unfolding(crate::specs::Machine::instr_result))]
-    fn load(&mut self, instruction: Instr, data: &mut PageHint) -> Step
-        requires { IsFrom Load instruction }
-        ensures { instr_result self.old instruction ≡ record { step = result; machine = self.new } }
-    {
-        match instruction {
             Instr::Lb { rd, rs1, imm } => {
                 let read = self.space.load1_hinted(data, self.address(rs1, imm));
                 self.finish_load(rd, sign_extended_read_8(read))
@@ -86,16 +65,6 @@ impl Machine {
                 let read = self.space.load4_hinted(data, self.address(rs1, imm));
                 self.finish_load(rd, read)
             }
-            _ => self.store(instruction, data),
-        }
-    }
-
-    #[tactic(auto, unfolding(crate::specs::Machine::instr_result))]
-    fn store(&mut self, instruction: Instr, data: &mut PageHint) -> Step
-        requires { IsFrom Store instruction }
-        ensures { instr_result self.old instruction ≡ record { step = result; machine = self.new } }
-    {
-        match instruction {
             Instr::Sb { rs1, rs2, imm } => self.store_1(
                 data,
                 self.address(rs1, imm),
@@ -116,16 +85,6 @@ impl Machine {
                 self.address(rs1, imm),
                 self.reg(rs2),
             ),
-            _ => self.compute_immediate(instruction),
-        }
-    }
-
-    #[tactic(auto, unfolding(crate::specs::Machine::instr_result))]
-    fn compute_immediate(&mut self, instruction: Instr) -> Step
-        requires { IsFrom Immediate instruction }
-        ensures { instr_result self.old instruction ≡ record { step = result; machine = self.new } }
-    {
-        match instruction {
             Instr::Lui { rd, imm } => self.put(rd, word_of(imm)),
             Instr::Auipc { rd, imm } => self.put(rd, self.pc_relative(imm)),
             Instr::Addi { rd, rs1, imm } => self.put(rd, self.reg(rs1).wrapping_add(word_of(imm))),
@@ -137,16 +96,6 @@ impl Machine {
             Instr::Slli { rd, rs1, shift } => self.put(rd, sll(self.reg(rs1), u64::from(shift))),
             Instr::Srli { rd, rs1, shift } => self.put(rd, srl(self.reg(rs1), u64::from(shift))),
             Instr::Srai { rd, rs1, shift } => self.put(rd, sra(self.reg(rs1), u64::from(shift))),
-            _ => self.compute(instruction),
-        }
-    }
-
-    #[tactic(auto, unfolding(crate::specs::Machine::instr_result))]
-    fn compute(&mut self, instruction: Instr) -> Step
-        requires { IsFrom Register instruction }
-        ensures { instr_result self.old instruction ≡ record { step = result; machine = self.new } }
-    {
-        match instruction {
             Instr::Add { rd, rs1, rs2 } => self.put(rd, self.reg(rs1).wrapping_add(self.reg(rs2))),
             Instr::Sub { rd, rs1, rs2 } => self.put(rd, self.reg(rs1).wrapping_sub(self.reg(rs2))),
             Instr::Sll { rd, rs1, rs2 } => self.put(rd, sll(self.reg(rs1), self.reg(rs2))),
@@ -157,16 +106,6 @@ impl Machine {
             Instr::Sra { rd, rs1, rs2 } => self.put(rd, sra(self.reg(rs1), self.reg(rs2))),
             Instr::Or { rd, rs1, rs2 } => self.put(rd, self.reg(rs1) | self.reg(rs2)),
             Instr::And { rd, rs1, rs2 } => self.put(rd, self.reg(rs1) & self.reg(rs2)),
-            _ => self.compute_32(instruction),
-        }
-    }
-
-    #[tactic(auto, unfolding(crate::specs::Machine::instr_result))]
-    fn compute_32(&mut self, instruction: Instr) -> Step
-        requires { IsFrom Word instruction }
-        ensures { instr_result self.old instruction ≡ record { step = result; machine = self.new } }
-    {
-        match instruction {
             Instr::Addiw { rd, rs1, imm } => self.put(rd, addw(self.reg(rs1), word_of(imm))),
             Instr::Slliw { rd, rs1, shift } => self.put(rd, sllw(self.reg(rs1), u64::from(shift))),
             Instr::Srliw { rd, rs1, shift } => self.put(rd, srlw(self.reg(rs1), u64::from(shift))),
@@ -176,17 +115,6 @@ impl Machine {
             Instr::Sllw { rd, rs1, rs2 } => self.put(rd, sllw(self.reg(rs1), self.reg(rs2))),
             Instr::Srlw { rd, rs1, rs2 } => self.put(rd, srlw(self.reg(rs1), self.reg(rs2))),
             Instr::Sraw { rd, rs1, rs2 } => self.put(rd, sraw(self.reg(rs1), self.reg(rs2))),
-            _ => self.multiply(instruction),
-        }
-    }
-
-    // Multiplies and divides.
-    #[tactic(auto, unfolding(crate::specs::Machine::instr_result))]
-    fn multiply(&mut self, instruction: Instr) -> Step
-        requires { IsFrom Multiply instruction }
-        ensures { instr_result self.old instruction ≡ record { step = result; machine = self.new } }
-    {
-        match instruction {
             Instr::Mul { rd, rs1, rs2 } => self.put(rd, self.reg(rs1).wrapping_mul(self.reg(rs2))),
             Instr::Mulh { rd, rs1, rs2 } => self.put(rd, mulh(self.reg(rs1), self.reg(rs2))),
             Instr::Mulhsu { rd, rs1, rs2 } => self.put(rd, mulhsu(self.reg(rs1), self.reg(rs2))),
@@ -195,23 +123,11 @@ impl Machine {
             Instr::Divu { rd, rs1, rs2 } => self.put(rd, divu(self.reg(rs1), self.reg(rs2))),
             Instr::Rem { rd, rs1, rs2 } => self.put(rd, rem(self.reg(rs1), self.reg(rs2))),
             Instr::Remu { rd, rs1, rs2 } => self.put(rd, remu(self.reg(rs1), self.reg(rs2))),
-            _ => self.multiply_word(instruction),
-        }
-    }
-
-    // Multiplies and divides 32 bits.
-    #[tactic(auto, unfolding(crate::specs::Machine::instr_result))]
-    fn multiply_word(&mut self, instruction: Instr) -> Step
-        requires { IsFrom MultiplyWord instruction }
-        ensures { instr_result self.old instruction ≡ record { step = result; machine = self.new } }
-    {
-        match instruction {
             Instr::Mulw { rd, rs1, rs2 } => self.put(rd, mulw(self.reg(rs1), self.reg(rs2))),
             Instr::Divw { rd, rs1, rs2 } => self.put(rd, divw(self.reg(rs1), self.reg(rs2))),
             Instr::Divuw { rd, rs1, rs2 } => self.put(rd, divuw(self.reg(rs1), self.reg(rs2))),
             Instr::Remw { rd, rs1, rs2 } => self.put(rd, remw(self.reg(rs1), self.reg(rs2))),
             Instr::Remuw { rd, rs1, rs2 } => self.put(rd, remuw(self.reg(rs1), self.reg(rs2))),
-            _ => unreachable!(),
         }
     }
 }

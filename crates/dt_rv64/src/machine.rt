@@ -6,10 +6,10 @@ ghost use Rattle.dt_rv64.specs.Effects.{address, machine_after_answer, machine_a
 ghost use Rattle.dt_rv64.specs.Machine.{exec};
 ghost use Rattle.dt_rv64.specs.Valid.{IsMachine};
 
-use crate::decoder::decode;
+use crate::hints::Hints;
 use crate::words::word_of;
 use dt_base::abi::{A0, SIGBUS, SIGSEGV};
-use dt_space::{PageHint, Space};
+use dt_space::Space;
 
 /// What a step came to. Only `Ran` changes the machine.
 #[derive(Clone, Copy, Debug, PartialEq, Eq)]
@@ -76,12 +76,13 @@ impl Machine {
         ensures stepped { exec self.old ≡ record { step = result; machine = self.new } }
         ensures sound { IsMachine self.old → IsMachine self.new }
     {
-        self.step_hinted(&mut PageHint::new(), &mut PageHint::new())
+        self.step_hinted(&mut Hints::new())
     }
 
-    /// Takes one step, with page hints where code and data stand. No answer depends on them.
+    /// Takes one step, with what was kept from others. No answer depends on that.
+    #[inline(always)]
     #[tactic(auto, unfolding(crate::specs::Machine::exec))]
-    pub fn step_hinted(&mut self, code: &mut PageHint, data: &mut PageHint) -> Step
+    pub(crate) fn step_hinted(&mut self, hints: &mut Hints) -> Step
         ensures stays { result ≢ Step.Ran → self.new ≡ self.old }
         ensures stepped { exec self.old ≡ record { step = result; machine = self.new } }
         ensures sound { IsMachine self.old → IsMachine self.new }
@@ -89,8 +90,8 @@ impl Machine {
         if self.pc % 4 != 0 {
             return Step::Fault(SIGBUS);
         }
-        match self.space.fetch_hinted(code, self.pc) {
-            Ok(word) => self.execute(decode(word), data),
+        match self.space.fetch_hinted(&mut hints.code, self.pc) {
+            Ok(word) => self.execute(hints.memo.instruction(word), &mut hints.data),
             Err(_) => Step::Fault(SIGSEGV),
         }
     }

@@ -2,7 +2,7 @@
 use Rattle.std.specs.Prelude.{ℕ, ◌≡◌, ◌-◌, ◌<◌, ◌≤◌, ◌==◌, Bool, true, false, not, ◌&&◌, ◌||◌, List, [], ◌∷◌, map, length, nat_le, nat_lt, Option, Some, None, IsTrue, if◌then◌else◌}
 use Rattle.dt_base.specs.declared.event.Verdict.{Verdict}
 use Rattle.dt_base.specs.declared.event.Verdict.TheVariants.{Ended, Budget}
-use Rattle.dt_base.specs.declared.limits.TheConstants.{SEGMENT_LIMIT}
+use Rattle.dt_base.specs.declared.limits.TheConstants.{FIRST_PID, SEGMENT_LIMIT}
 use Rattle.dt_sched.specs.declared.queue.TheConstants.{QUEUE_LIMIT}
 use Rattle.dt_sched.specs.declared.process.Process.{Process}
 use Rattle.dt_sched.specs.declared.process.Phase.{Phase}
@@ -31,7 +31,7 @@ owing_process vpid = record { vpid = vpid; phase = Owes }
 
 -- at first there is the process 1, which owes a segment
 abbrev pub first_core : ℕ → CoreView
-first_core budget = core_of (owing_process 1 ∷ []) 0 budget None
+first_core budget = core_of (owing_process FIRST_PID ∷ []) 0 budget None
 
 -- a process of this virtual pid stands in the queue
 abbrev pub is_queued : ℕ → List Process → Bool
@@ -166,7 +166,7 @@ has_room queue (Stopped number) = true
 
 -- no turn has ended the run: process 1 lives, and fewer turns in a row were blocked than there are live processes
 pub record IsOngoing (core : CoreView) : Type 0 where
-  pub first : IsTrue (is_queued 1 core.queue)
+  pub first : IsTrue (is_queued FIRST_PID core.queue)
   pub blocked : core.blocked < length core.queue
 
 -- the queue holds each live process once, as many as it has room for, with counts that segments have; without a verdict no

@@ -1,5 +1,6 @@
 -- What a turn of its head makes of the queue: the order of turns, the blocked turns in a row, and the verdict.
 use Rattle.std.specs.Prelude.{ℕ, ◌+◌, ◌==◌, List, [], ◌∷◌, ◌++◌, drop, length, Option, Some, None, if◌then◌else◌}
+use Rattle.dt_base.specs.declared.limits.TheConstants.{FIRST_PID}
 use Rattle.dt_base.specs.declared.event.Verdict.{Verdict}
 use Rattle.dt_base.specs.declared.event.Verdict.TheVariants.{Ended, Deadlock, Unsupported}
 use Rattle.dt_sched.specs.declared.settled.Settled.{Settled}
@@ -7,7 +8,7 @@ use Rattle.dt_sched.specs.declared.settled.Settled.TheVariants.{Again, Child, La
 
 -- at the end of process 1 nobody is left, at the end of another one these are
 abbrev pub order_after_end : {X : Type 0} → ℕ → List X → List X
-order_after_end vpid others = if vpid == 1 then [] else others
+order_after_end vpid others = if vpid == FIRST_PID then [] else others
 
 -- a process that lives goes to the tail; then its child goes to the tail, also where the process has ended, but for process 1;
 -- at an unsupported call all stays. An order may be one of pids, or of pids and what stands beside each: `was` stands in it
@@ -37,10 +38,10 @@ blocked_after blocked (Stopped number) = blocked
 abbrev pub verdict_after : ℕ → ℕ → ℕ → Settled → Option Verdict
 verdict_after vpid blocked count Again = None
 verdict_after vpid blocked count (Child child) = None
-verdict_after vpid blocked count (LastChild child) = if vpid == 1 then Some Ended else None
+verdict_after vpid blocked count (LastChild child) = if vpid == FIRST_PID then Some Ended else None
 verdict_after vpid blocked count Waits = if blocked == count then Some Deadlock else None
 verdict_after vpid blocked count Moved = None
-verdict_after vpid blocked count Gone = if vpid == 1 then Some Ended else None
+verdict_after vpid blocked count Gone = if vpid == FIRST_PID then Some Ended else None
 verdict_after vpid blocked count (Stopped number) = Some (Unsupported vpid number)
 
 -- what decides whose turn comes, and whether one does: the pids of the live processes in the order of their turns, the

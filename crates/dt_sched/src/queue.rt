@@ -1,4 +1,5 @@
 // The live processes in the order of their turns, in a table that is made once.
+ghost use Rattle.dt_base.specs.declared.limits.TheConstants.{FIRST_PID};
 ghost use Rattle.std.specs.Prelude.{◌≡◌, ◌<◌, ◌≤◌, ◌++◌, ◌∷◌, [], IfOk, IsTrue, false, length, vec_len, vec_capacity};
 ghost use Rattle.std.specs.Prelude.{map, if◌then◌else◌, ◌==◌};
 ghost use Rattle.std.specs.List.{Contains, slice_index_or};
@@ -10,7 +11,7 @@ ghost use Rattle.dt_sched.specs.inner.Queue.{owing_indices};
 
 use crate::process::{Phase, Process};
 use crate::settled::Settled;
-use dt_base::NoMemory;
+use dt_base::{FIRST_PID, NoMemory};
 use std::alloc::Global;
 use std::collections::VecDeque;
 use std::marker::Model;
@@ -120,18 +121,18 @@ fn owe(owed: &mut Vec<u32>, indices: &mut Vec<usize>, process: Process, index: u
 }
 
 impl Queue {
-    /// Process 1 alone, which owes a segment.
+    /// The first process alone, which owes a segment.
     pub fn new(alloc: Global) -> Result<Self, NoMemory>
-        ensures { IfOk result (λ queue. queue ≡ owing_process 1 ∷ []) }
+        ensures { IfOk result (λ queue. queue ≡ owing_process FIRST_PID ∷ []) }
     {
         let mut processes = VecDeque::with_capacity(alloc, QUEUE_LIMIT)?;
         let mut owed = Vec::with_capacity(alloc, QUEUE_LIMIT)?;
         let mut indices = Vec::with_capacity(alloc, QUEUE_LIMIT)?;
         processes.push_back(Process {
-            vpid: 1,
+            vpid: FIRST_PID,
             phase: Phase::Owes,
         })?;
-        owed.push(1)?;
+        owed.push(FIRST_PID)?;
         indices.push(0)?;
         Ok(Queue {
             processes,
@@ -231,11 +232,11 @@ impl Queue {
         self.indices.clear();
     }
 
-    // The head has ended, and with process 1 all others.
+    // The head has ended, and with the first process all others.
     fn end(&mut self, vpid: u32)
-        ensures { self.new ≡ (if vpid == 1 then [] else self.old) }
+        ensures { self.new ≡ (if vpid == FIRST_PID then [] else self.old) }
     {
-        if vpid == 1 {
+        if vpid == FIRST_PID {
             self.clear();
         }
     }

@@ -11,7 +11,7 @@ ghost use Rattle.dt_sched.specs.Laws.{ArrivalsCommute, ArrivalBesideTurn, HeadSt
 use crate::process::{Phase, Process};
 use crate::queue::Queue;
 use crate::settled::{Head, Settled};
-use dt_base::{NoMemory, Verdict};
+use dt_base::{FIRST_PID, NoMemory, Verdict};
 use std::alloc::Global;
 use std::marker::Model;
 
@@ -68,7 +68,7 @@ fn verdict_after(vpid: u32, blocked: usize, count: usize, turn: Settled) -> Opti
     ensures { result ≡ verdict_after vpid blocked count turn }
 {
     match turn {
-        Settled::LastChild(_) | Settled::Gone if vpid == 1 => Some(Verdict::Ended),
+        Settled::LastChild(_) | Settled::Gone if vpid == FIRST_PID => Some(Verdict::Ended),
         Settled::Waits if blocked == count => Some(Verdict::Deadlock),
         Settled::Stopped(number) => Some(Verdict::Unsupported(vpid, number)),
         Settled::Again
@@ -81,7 +81,7 @@ fn verdict_after(vpid: u32, blocked: usize, count: usize, turn: Settled) -> Opti
 }
 
 impl Core {
-    /// The process 1 alone, which owes a segment, and a budget in instructions. There is room for 64 processes, so that
+    /// The first process alone, which owes a segment, and a budget in instructions. There is room for 64 processes, so that
     /// no other call takes memory; NoMemory where there is none for them.
     pub fn new(alloc: Global, budget: u64) -> Result<Self, NoMemory>
         ensures { IfOk result (λ core. core ≡ first_core budget) }

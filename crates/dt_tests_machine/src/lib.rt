@@ -44,3 +44,5 @@ mod stacks;
 mod standards;
 #[cfg(test)]
 mod vectors;
+#[cfg(test)]
+mod workers;

@@ -3,7 +3,7 @@
 use crate::assembler::put_numbers;
 use crate::expect::same_at;
 use dt_elf::{ElfErr, read_elf};
-use dt_rv64::{Machine, Seg, Stop, segment};
+use dt_rv64::{Hints, Machine, Seg, Stop, segment};
 use dt_space::Space;
 use std::alloc::{AllocError, Global};
 use std::test::Fail;
@@ -89,7 +89,12 @@ fn a_segment_has_65536_steps_at_most(rt: HostRuntime) -> Result<(), Fail> {
         (BASE, 65_536, Stop::Slice),
     ] {
         let mut machine = counting_machine(rt.alloc(), pc, 32_767)?;
-        same_at(&rt, pc, segment(&mut machine)?, Seg { count, stop });
+        same_at(
+            &rt,
+            pc,
+            segment(&mut machine, &mut Hints::new())?,
+            Seg { count, stop },
+        );
     }
     Ok(())
 }

@@ -1,17 +1,15 @@
 // Calls of a container that no run makes: a machine that is taken away, and what is shown before a turn.
 ghost use Rattle.dt_host.specs.World.{IsEmptyStart};
 
-use crate::copies::INDEX;
+use crate::copies::{INDEX, run_options};
 use crate::expect::same;
 use dt_asm::hello;
-use dt_base::{Command, Image};
+use dt_base::{Command, FIRST_PID, Image};
 use dt_calls::{Container, Launch};
 use dt_host::{Host, HostErr};
 use dt_image::read_image;
 use dt_memhost::{MemHost, MemStore, Picker};
-use dt_options::read_options;
-use dt_procs::FIRST_PID;
-use dt_rv64::{Seg, Stop};
+use dt_rv64::{Hints, Seg, Stop};
 use std::alloc::Global;
 use std::test::Fail;
 
@@ -31,7 +29,7 @@ fn first_segment<H: Host>(
         Launch::Started => {
             let machine = container.take_machine(FIRST_PID);
             container.give_machine(FIRST_PID, machine);
-            let segment = container.run_segment(FIRST_PID)?;
+            let segment = container.run_segment(FIRST_PID, &mut Hints::new())?;
             Ok(Some((segment, container.events().len())))
         }
     }
@@ -44,11 +42,7 @@ fn a_machine_that_was_away_runs_from_its_start(rt: HostRuntime) -> Result<(), Fa
     store.put("img/image.json", INDEX)?;
     store.put("img/hello", hello(alloc)?.elf()?.as_slice())?;
     let image = read_image(alloc, &mut store, "img")?;
-    let mut words = Vec::new(alloc);
-    for word in ["run", "img", "--", "/hello"] {
-        words.push(String::from_str(alloc, word)?)?;
-    }
-    let command = read_options(alloc, &words)?.command;
+    let command = run_options(alloc, &["run", "img", "--", "/hello"])?.command;
     let mut host = MemHost::new(alloc, Picker::new(Vec::new(alloc), 1), Vec::new(alloc))?;
     match first_segment(alloc, &mut host, &image, &command)? {
         Some((segment, events)) => {

@@ -3,12 +3,29 @@ use crate::expect::same;
 use dt_base::{Blob, What};
 use dt_image::read_image;
 use dt_memhost::{MemStore, Picker};
-use dt_options::read_options;
+use dt_options::{Options, RunOptions, UsageErr, read_options};
+use std::alloc::{AllocError, Global};
 use std::test::Fail;
 
 // An index of one file, `/hello`.
 pub const INDEX: &[u8] =
     b"{\"version\":1,\"entries\":[{\"path\":\"/hello\",\"type\":\"file\",\"mode\":493,\"blob\":\"hello\"}]}";
+
+fn words(alloc: Global, given: &[&str]) -> Result<Vec<String>, AllocError> {
+    let mut words = Vec::new(alloc);
+    for word in given {
+        words.push(String::from_str(alloc, word)?)?;
+    }
+    Ok(words)
+}
+
+/// What words ask of a run.
+pub fn run_options(alloc: Global, given: &[&str]) -> Result<RunOptions, UsageErr> {
+    match read_options(alloc, &words(alloc, given)?)? {
+        Options::Run(options) => Ok(options),
+        Options::Demo(_) => Err(UsageErr::Refused),
+    }
+}
 
 #[test]
 fn a_copy_of_an_image_has_its_entries(rt: HostRuntime) -> Result<(), Fail> {
@@ -36,15 +53,12 @@ fn a_copy_of_an_image_has_its_entries(rt: HostRuntime) -> Result<(), Fail> {
 #[test]
 fn a_copy_of_a_command_has_its_words(rt: HostRuntime) -> Result<(), Fail> {
     let alloc = rt.alloc();
-    let mut words = Vec::new(alloc);
-    for word in ["run", "img", "--", "A=1", "B=2", "/hello", "x"] {
-        words.push(String::from_str(alloc, word)?)?;
-    }
-    let options = read_options(alloc, &words)?;
+    let options = run_options(alloc, &["run", "img", "--", "A=1", "B=2", "/hello", "x"])?;
     let image = options.image.copy()?;
     same(&rt, image.as_str(), "img");
     same(&rt, options.seed, 0);
     same(&rt, options.budget, 100_000_000);
+    same(&rt, options.workers, 4);
     same(&rt, options.host, None);
     let command = options.command.copy()?;
     let (args, env) = (command.args(), command.env());

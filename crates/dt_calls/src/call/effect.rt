@@ -14,9 +14,8 @@ ghost use Rattle.dt_calls.specs.Sound.{IsSound, HasEffect, left};
 
 use crate::container::Served;
 use crate::shared::Shared;
-use dt_base::{Blob, End, Errno, Event, NoMemory};
+use dt_base::{Blob, End, Errno, Event, FIRST_PID, NoMemory};
 use dt_host::{Host, HostErr};
-use dt_procs::FIRST_PID;
 use dt_rv64::Machine;
 use std::alloc::Global;
 

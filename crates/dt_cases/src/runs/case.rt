@@ -9,6 +9,7 @@ use crate::steps::shown::with_verdict;
 use crate::steps::trial::{add_wrong, is_report, readable, tree};
 use crate::text::{bytes, split_word, unreadable};
 use std::alloc::Global;
+use std::thread::Threads;
 
 /// A case, as far as its lines were read.
 #[derive(Drop)]
@@ -23,7 +24,8 @@ pub struct Case {
     host_fails: Option<u64>,
     out_room: Option<u64>,
     err_room: Option<u64>,
-    // What comes on the error stream.
+    // What comes on standard output where there is no report, and on the error stream.
+    out: Vec<u8>,
     err: Vec<u8>,
 }
 
@@ -39,6 +41,7 @@ impl Case {
             host_fails: None,
             out_room: None,
             err_room: None,
+            out: Vec::new(alloc),
             err: Vec::new(alloc),
         })
     }
@@ -54,6 +57,7 @@ impl Case {
             "host-fails" => self.host_fails = Some(count(numbers, rest)?),
             "out-room" => self.out_room = Some(count(numbers, rest)?),
             "err-room" => self.err_room = Some(count(numbers, rest)?),
+            "stdout" => self.out = bytes(self.alloc, rest)?,
             "stderr" => self.err = bytes(self.alloc, rest)?,
             _ => self.plan.read(numbers, line)?,
         }
@@ -76,7 +80,11 @@ impl Case {
     }
 
     /// Makes its runs, one under each host, and counts them.
-    pub fn run(&self, tally: &mut Tally) -> Result<(), CaseErr> {
+    pub fn run<R: AllocGlobal + Threads + Sync>(
+        &self,
+        rt: &R,
+        tally: &mut Tally,
+    ) -> Result<(), CaseErr> {
         let Some(status) = self.plan.status else {
             return Err(unreadable(self.alloc, "no status"));
         };
@@ -88,7 +96,7 @@ impl Case {
         let out = cut(&report, self.out_room);
         let err = cut(&self.err, self.err_room);
         for host in &self.plan.hosts {
-            let came = self.came(*host)?;
+            let came = self.came(rt, *host)?;
             tally.runs = tally.runs.saturating_add(1);
             if came.status != status
                 || !self.is_wanted(&came.out, out)
@@ -112,11 +120,11 @@ impl Case {
         }
     }
 
-    // The whole report: nothing where the run has no verdict.
+    // What comes on standard output: the whole report, or where the run has no verdict what is said of it.
     fn report(&self) -> Result<Vec<u8>, CaseErr> {
         let plan = &self.plan;
         if plan.verdict.is_empty() {
-            return Ok(Vec::new(self.alloc));
+            return Ok(Vec::from_slice(self.alloc, &self.out)?);
         }
         let mut report = with_verdict(self.alloc, &plan.shown, plan.verdict.as_str())?;
         report.extend_from_slice(tree(self.alloc, plan, &[], &[])?.as_bytes())?;
@@ -124,7 +132,7 @@ impl Case {
     }
 
     // What comes of a run.
-    fn came(&self, host: Words) -> Result<Came, CaseErr> {
+    fn came<R: AllocGlobal + Threads + Sync>(&self, rt: &R, host: Words) -> Result<Came, CaseErr> {
         let files = self.files()?;
         let mut listed = Vec::new(self.alloc);
         for file in &files {
@@ -136,7 +144,7 @@ impl Case {
         call.host_fails = self.host_fails;
         call.out_room = self.out_room;
         call.err_room = self.err_room;
-        call.make(self.alloc)
+        call.make(rt)
     }
 
     // The index of the image, and its blobs.

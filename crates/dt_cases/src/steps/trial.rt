@@ -7,6 +7,7 @@ use crate::steps::shown::with_verdict;
 use crate::text::{split_word, unreadable};
 use sha2::{Digest, Sha256};
 use std::alloc::{AllocError, Global};
+use std::thread::Threads;
 
 // More calls of the host than a run makes.
 const FAULT_LIMIT: u64 = 10_000;
@@ -54,16 +55,20 @@ impl<'a> Trial<'a> {
     }
 
     /// Makes all runs of the case, and counts them.
-    pub fn run(&self, tally: &mut Tally) -> Result<(), CaseErr> {
+    pub fn run<R: AllocGlobal + Threads + Sync>(
+        &self,
+        rt: &R,
+        tally: &mut Tally,
+    ) -> Result<(), CaseErr> {
         tally.cases = tally.cases.saturating_add(1);
         if self.plan.turns.is_empty() {
             let words = self.words(None)?;
-            self.under_hosts(tally, &words, &self.outcome(&self.plan.shown)?)?;
+            self.under_hosts(rt, tally, &words, &self.outcome(&self.plan.shown)?)?;
         } else {
-            self.with_budgets(tally)?;
+            self.with_budgets(rt, tally)?;
         }
         match self.plan.faults {
-            Some(least) => self.with_faults(tally, least),
+            Some(least) => self.with_faults(rt, tally, least),
             None => Ok(()),
         }
     }
@@ -93,7 +98,11 @@ impl<'a> Trial<'a> {
 
     // A turn for which the budget lacks one instruction shows nothing, and the run is over; so it is where the budget
     // is spent by the turns before it. Where it covers all turns the run ends as it has to.
-    fn with_budgets(&self, tally: &mut Tally) -> Result<(), CaseErr> {
+    fn with_budgets<R: AllocGlobal + Threads + Sync>(
+        &self,
+        rt: &R,
+        tally: &mut Tally,
+    ) -> Result<(), CaseErr> {
         let mut spent = 0u64;
         for turn in &self.plan.turns {
             let before = self.plan.shown.get(..turn.start).unwrap_or(&[]);
@@ -102,24 +111,29 @@ impl<'a> Trial<'a> {
                 status: 10,
             };
             if 0 < spent {
-                self.under_hosts(tally, &self.words(Some(spent))?, &stopped)?;
+                self.under_hosts(rt, tally, &self.words(Some(spent))?, &stopped)?;
             }
             spent = spent.saturating_add(turn.cost);
             let short = spent.saturating_sub(1);
-            self.under_hosts(tally, &self.words(Some(short))?, &stopped)?;
+            self.under_hosts(rt, tally, &self.words(Some(short))?, &stopped)?;
         }
         let words = self.words(Some(spent))?;
-        self.under_hosts(tally, &words, &self.outcome(&self.plan.shown)?)
+        self.under_hosts(rt, tally, &words, &self.outcome(&self.plan.shown)?)
     }
 
     // Each call of the host fails once, until none is left that fails: a report is cut short, and the run ends with a
     // fault. The run at which none fails is as it has to be.
-    fn with_faults(&self, tally: &mut Tally, least: u64) -> Result<(), CaseErr> {
+    fn with_faults<R: AllocGlobal + Threads + Sync>(
+        &self,
+        rt: &R,
+        tally: &mut Tally,
+        least: u64,
+    ) -> Result<(), CaseErr> {
         let words = self.words(None)?;
         let whole = self.report(&self.outcome(&self.plan.shown)?.shown)?;
         let mut failed = 0u64;
         for number in 1..FAULT_LIMIT {
-            let came = self.came(&words, Words::Stream(1), Some(number))?;
+            let came = self.came(rt, &words, Words::Stream(1), Some(number))?;
             tally.runs = tally.runs.saturating_add(1);
             let ended = came.status == self.status;
             if !(ended && is_report(self.plan, &came.out, &whole) || is_cut(&came, &whole)) {
@@ -145,15 +159,16 @@ impl<'a> Trial<'a> {
     }
 
     // Runs it under each host, and adds what comes otherwise.
-    fn under_hosts(
+    fn under_hosts<R: AllocGlobal + Threads + Sync>(
         &self,
+        rt: &R,
         tally: &mut Tally,
         words: &[String],
         outcome: &Outcome,
     ) -> Result<(), CaseErr> {
         let want = self.report(&outcome.shown)?;
         for host in &self.plan.hosts {
-            let came = self.came(words, *host, None)?;
+            let came = self.came(rt, words, *host, None)?;
             tally.runs = tally.runs.saturating_add(1);
             if !is_report(self.plan, &came.out, &want)
                 || came.status != outcome.status
@@ -174,8 +189,9 @@ impl<'a> Trial<'a> {
     }
 
     // What comes of a run.
-    fn came(
+    fn came<R: AllocGlobal + Threads + Sync>(
         &self,
+        rt: &R,
         words: &[String],
         choices: Words,
         host_fails: Option<u64>,
@@ -190,7 +206,7 @@ impl<'a> Trial<'a> {
         let mut call = Call::new(words, &files);
         call.choices = choices;
         call.host_fails = host_fails;
-        call.make(self.alloc)
+        call.make(rt)
     }
 }
 

@@ -1,36 +1,58 @@
-// The words before `--`, which clap reads: the arguments of `run`.
+// The words that clap reads: the arguments of `run` and of `demo`.
 ghost use Rattle.std.specs.Prelude.{◌≡◌, Option, false, map, string_bytes, codes, IfOk, option_and_then, unwrap_or};
 ghost use Rattle.clap.specs.Words.{FailsBy, app_of, fault_of, found_of, one_of, rows_of, rule_of, shape_of};
 ghost use Rattle.clap.specs.Words.{subcommand_of, subcommand_rows_of};
 ghost use Rattle.clap.specs.declared.builder.command.Command.TheViews.{out-Command as fields_of};
-ghost use Rattle.dt_options.specs.Options.{image_rule, number_rule, budget_rule, run_shape, program_app, image_in};
-ghost use Rattle.dt_options.specs.Options.{number_in, default_seed, default_budget};
+ghost use Rattle.dt_options.specs.Arguments.{image_rule, demo_rule, number_rule, budget_rule, workers_rule, run_shape};
+ghost use Rattle.dt_options.specs.Arguments.{demo_shape, run_app, demo_app, image_in, number_in};
+ghost use Rattle.dt_options.specs.Arguments.{default_seed, default_budget, default_workers};
 
+use super::WORKERS_LIMIT;
 use clap::{Arg, ArgMatches, Command, Error};
 use dt_base::BUDGET_LIMIT;
 use std::alloc::{AllocError, Global};
 
-// The seed and the budget of a run whose words give none.
+// The seed, the budget and the number of workers where the words give none.
 const SEED: u64 = 0;
 
 const BUDGET: u64 = 100_000_000;
 
-/// What clap makes of the words before `--`.
-pub fn read_arguments<'a>(alloc: Global, words: &'a [String]) -> Result<ArgMatches<'a>, Error>
-    ensures refused { FailsBy (fault_of program_app (map string_bytes words.entry.now)) result }
+const WORKERS: u64 = 4;
+
+/// What clap makes of the words of a run before `--`.
+pub fn read_run_arguments<'a>(alloc: Global, words: &'a [String]) -> Result<ArgMatches<'a>, Error>
+    ensures refused { FailsBy (fault_of run_app (map string_bytes words.entry.now)) result }
     ensures exact { IfOk result (λ m.
-        subcommand_rows_of m ≡ subcommand_of program_app (map string_bytes words.entry.now)) }
+        subcommand_rows_of m ≡ subcommand_of run_app (map string_bytes words.entry.now)) }
 {
-    program_command(alloc)?.try_get_matches_from(words)
+    run_program(alloc)?.try_get_matches_from(words)
 }
 
-fn program_command<'a>(alloc: Global) -> Result<Command<'a>, AllocError>
-    ensures { IfOk result (λ c. app_of c ≡ program_app) }
+/// What clap makes of the words of a demonstration.
+pub fn read_demo_arguments<'a>(alloc: Global, words: &'a [String]) -> Result<ArgMatches<'a>, Error>
+    ensures refused { FailsBy (fault_of demo_app (map string_bytes words.entry.now)) result }
+    ensures exact { IfOk result (λ m.
+        subcommand_rows_of m ≡ subcommand_of demo_app (map string_bytes words.entry.now)) }
+{
+    demo_program(alloc)?.try_get_matches_from(words)
+}
+
+fn run_program<'a>(alloc: Global) -> Result<Command<'a>, AllocError>
+    ensures { IfOk result (λ c. app_of c ≡ run_app) }
 {
     Command::new(alloc, "dettrace")
         .no_binary_name(true)
         .subcommand_required(true)
         .subcommand(run_command(alloc)?)
+}
+
+fn demo_program<'a>(alloc: Global) -> Result<Command<'a>, AllocError>
+    ensures { IfOk result (λ c. app_of c ≡ demo_app) }
+{
+    Command::new(alloc, "dettrace")
+        .no_binary_name(true)
+        .subcommand_required(true)
+        .subcommand(demo_command(alloc)?)
 }
 
 fn run_command<'a>(alloc: Global) -> Result<Command<'a>, AllocError>
@@ -41,6 +63,17 @@ fn run_command<'a>(alloc: Global) -> Result<Command<'a>, AllocError>
         .arg(image_arg(alloc))?
         .arg(number_arg(alloc, "seed"))?
         .arg(budget_arg(alloc))?
+        .arg(workers_arg(alloc))?
+        .arg(number_arg(alloc, "host"))
+}
+
+fn demo_command<'a>(alloc: Global) -> Result<Command<'a>, AllocError>
+    ensures shape { IfOk result (λ c. shape_of c ≡ demo_shape) }
+    ensures local { IfOk result (λ c. (fields_of c).has_globals ≡ false) }
+{
+    Command::new(alloc, "demo")
+        .arg(demo_arg(alloc))?
+        .arg(workers_arg(alloc))?
         .arg(number_arg(alloc, "host"))
 }
 
@@ -49,6 +82,15 @@ fn image_arg<'a>(alloc: Global) -> Arg<'a>
     ensures local { result.global ≡ false }
 {
     Arg::new(alloc, "image").required(true)
+}
+
+fn demo_arg<'a>(alloc: Global) -> Arg<'a>
+    ensures rule { rule_of result ≡ demo_rule }
+    ensures local { result.global ≡ false }
+{
+    Arg::new(alloc, "number")
+        .required(true)
+        .value_parser(clap::value_parser!(u64))
 }
 
 fn number_arg<'a>(alloc: Global, name: &'a str) -> Arg<'a>
@@ -69,6 +111,15 @@ fn budget_arg<'a>(alloc: Global) -> Arg<'a>
         .value_parser(clap::value_parser!(u64).range(1..=BUDGET_LIMIT as i64))
 }
 
+fn workers_arg<'a>(alloc: Global) -> Arg<'a>
+    ensures rule { rule_of result ≡ workers_rule }
+    ensures local { result.global ≡ false }
+{
+    Arg::new(alloc, "workers")
+        .long("workers")
+        .value_parser(clap::value_parser!(u64).range(1..=WORKERS_LIMIT as i64))
+}
+
 /// IMAGE, as `run` was given it.
 pub fn image<'a>(run: &ArgMatches<'a>) -> &'a str
     ensures { result.now ≡ image_in (rows_of (found_of run.now)) }
@@ -76,11 +127,11 @@ pub fn image<'a>(run: &ArgMatches<'a>) -> &'a str
     run.get_str("image").unwrap_or("")
 }
 
-/// The number of one of the options `--seed`, `--budget` and `--host`, if it was given.
-pub fn number(run: &ArgMatches<'_>, name: &str) -> Option<u64>
-    ensures { result ≡ number_in name.now (rows_of (found_of run.now)) }
+/// The number of a demonstration, or of an option, if it was given.
+pub fn number(found: &ArgMatches<'_>, name: &str) -> Option<u64>
+    ensures { result ≡ number_in name.now (rows_of (found_of found.now)) }
 {
-    run.get_one::<u64>(name)
+    found.get_one::<u64>(name)
 }
 
 /// The number of `--seed`, or what a run has without it.
@@ -95,4 +146,11 @@ pub fn budget(run: &ArgMatches<'_>) -> u64
     ensures { result ≡ unwrap_or (number_in (codes "budget") (rows_of (found_of run.now))) default_budget }
 {
     number(run, "budget").unwrap_or(BUDGET)
+}
+
+/// The number of `--workers`, or what there is without it.
+pub fn workers(found: &ArgMatches<'_>) -> usize
+    ensures { result ≡ unwrap_or (number_in (codes "workers") (rows_of (found_of found.now))) default_workers }
+{
+    number(found, "workers").unwrap_or(WORKERS) as usize
 }

@@ -1,6 +1,6 @@
 // The words of the command line.
 use crate::expect::{same, same_at};
-use dt_options::{Options, UsageErr, read_options};
+use dt_options::{DemoOptions, Options, RunOptions, UsageErr, read_options};
 use std::alloc::{AllocError, Global};
 use std::process::Abort;
 
@@ -31,8 +31,24 @@ const LINES: &[(&str, bool)] = &[
     ("run img --budget 1000000001 -- /p", false),
     ("run img --seed 18446744073709551616 -- /p", false),
     ("run img --seed 1 --seed 1 -- /p", false),
-    ("run img --workers 1 -- /p", false),
+    ("run img --workers 64 -- /p", true),
+    ("run img --workers 0 -- /p", false),
+    ("run img --workers 65 -- /p", false),
+    ("run img --workers  -- /p", false),
+    ("run img --workers 2 --workers 2 -- /p", false),
     ("run --help -- /p", false),
+    ("demo 18446744073709551615 --workers 1 --host 0", true),
+    ("demo --host=5 0", true),
+    ("demo", false),
+    ("demo 1 2", false),
+    ("demo -1", false),
+    ("demo 18446744073709551616", false),
+    ("demo x", false),
+    ("demo 1 --seed 1", false),
+    ("demo 1 --budget 1", false),
+    ("demo 1 --workers 65", false),
+    ("demo 1 --", false),
+    ("demo 1 -- /p", false),
 ];
 
 // Why the words of a line are refused; None where they are taken.
@@ -59,21 +75,34 @@ fn lines_are_taken_or_refused(rt: HostRuntime) -> Result<(), UsageErr> {
     expect_lines(&rt, rt.alloc(), LINES)
 }
 
-// What the words of a line say.
-fn options(alloc: Global, line: &str) -> Result<Options, UsageErr> {
-    read_options(alloc, &words(alloc, line)?)
+// What the words of a line ask of a run, if they do.
+fn run_options(alloc: Global, line: &str) -> Result<Option<RunOptions>, UsageErr> {
+    match read_options(alloc, &words(alloc, line)?)? {
+        Options::Run(options) => Ok(Some(options)),
+        Options::Demo(_) => Ok(None),
+    }
 }
 
-// The seed, the budget and the number of the host.
-fn numbers(options: &Options) -> (u64, u64, Option<u64>) {
-    (options.seed, options.budget, options.host)
+// What the words of a line ask of a demonstration, if they do.
+fn demo_options(alloc: Global, line: &str) -> Result<Option<DemoOptions>, UsageErr> {
+    match read_options(alloc, &words(alloc, line)?)? {
+        Options::Run(_) => Ok(None),
+        Options::Demo(options) => Ok(Some(options)),
+    }
+}
+
+// The seed, the budget, the workers and the number of the host.
+fn numbers(options: &RunOptions) -> (u64, u64, usize, Option<u64>) {
+    (options.seed, options.budget, options.workers, options.host)
 }
 
 #[test]
 fn words_are_read(rt: HostRuntime) -> Result<(), UsageErr> {
-    let line = "run img --seed 7 --host +9 -- A=1 A=2 /p -x A=3";
-    let options = options(rt.alloc(), line)?;
-    same(&rt, numbers(&options), (7, 100_000_000, Some(9)));
+    let line = "run img --seed 7 --workers 3 --host +9 -- A=1 A=2 /p -x A=3";
+    let Some(options) = run_options(rt.alloc(), line)? else {
+        return Err(UsageErr::Refused);
+    };
+    same(&rt, numbers(&options), (7, 100_000_000, 3, Some(9)));
     same(&rt, options.image.as_str(), "img");
     let args = options.command.args();
     assert_eq!(rt; args.len(), 3);
@@ -84,7 +113,24 @@ fn words_are_read(rt: HostRuntime) -> Result<(), UsageErr> {
 
 #[test]
 fn numbers_that_are_not_given_have_defaults(rt: HostRuntime) -> Result<(), UsageErr> {
-    let options = options(rt.alloc(), "run img -- /p")?;
-    same(&rt, numbers(&options), (0, 100_000_000, None));
+    let Some(options) = run_options(rt.alloc(), "run img -- /p")? else {
+        return Err(UsageErr::Refused);
+    };
+    same(&rt, numbers(&options), (0, 100_000_000, 4, None));
+    Ok(())
+}
+
+#[test]
+fn words_of_a_demonstration_are_read(rt: HostRuntime) -> Result<(), UsageErr> {
+    let want = DemoOptions {
+        number: 7,
+        workers: 4,
+        host: Some(9),
+    };
+    same(
+        &rt,
+        demo_options(rt.alloc(), "demo 7 --host 9")?,
+        Some(want),
+    );
     Ok(())
 }

@@ -7,7 +7,7 @@ use Rattle.dt_run.proofs.Ending.{launched-home}
 use Rattle.dt_run.proofs.run.play.Goals as goal
 
 pub run_from-requires-clause-home : goal.run_from-requires-clause-home
-run_from-requires-clause-home g c = launched-home _ _ c.launch.new.self (g.H.Host.view c.launch.new.host) _ c.in_ok-launch.ensures.ok
+run_from-requires-clause-home g c = λ _ _. launched-home _ _ c.launch.new.self (g.H.Host.view c.launch.new.host) _ c.in_ok-launch.ensures.ok
 
 pub returns-clause-ok : goal.returns-clause-ok
 returns-clause-ok g c =

@@ -7,7 +7,7 @@ use Rattle.dt_run.proofs.Ending.{first-run, first-good}
 use Rattle.dt_run.proofs.run.run_from.Goals as goal
 
 pub run_turns-requires-clause-good : goal.run_turns-requires-clause-good
-run_turns-requires-clause-good g c =
+run_turns-requires-clause-good g c = λ _ _.
     first-good c.args.container (g.H.Host.view c.args.host.now) c.args.budget c.in_ok-new-in-Started.field-0
     c.in_ok-new-in-Started.ensures c.requires.sound (c.requires.home c.in-Started.is)
 

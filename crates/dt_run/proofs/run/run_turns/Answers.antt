@@ -3,14 +3,14 @@ use Rattle.dt_run.proofs.Queued.{owed-head, ready-head}
 use Rattle.dt_run.proofs.Ending.{after-turn, after-arrival, over-run}
 use Rattle.dt_run.proofs.run.run_turns.Goals as goal
 
-pub loop-state-preserved-in_ok-arrive_next-in-NotArrived : goal.loop-state-preserved-in_ok-arrive_next-in-NotArrived
-loop-state-preserved-in_ok-arrive_next-in-NotArrived g c =
+pub loop-state-preserved-in_ok-let_arrive-in-NotArrived : goal.loop-state-preserved-in_ok-let_arrive-in-NotArrived
+loop-state-preserved-in_ok-let_arrive-in-NotArrived g c =
     let running = owed-head c.loop-state.state.core _ (sym c.head.ensures.head ∙ c.in-NotArrived.is) in
     record {
-      whole = after-arrival _ _ _ _ _ _ c.loop-state.invariant.whole running.0 c.in_ok-arrive_next-in-NotArrived.ensures.verdict c.in_ok-arrive_next-in-NotArrived.ensures.alike;
-      sound = c.in_ok-arrive_next-in-NotArrived.ensures.sound c.loop-state.invariant.sound;
-      good = c.in_ok-arrive_next-in-NotArrived.ensures.good;
-      later = omega (arith, c.loop-state.invariant.later, c.arrive_next.ensures.cause.later);
+      whole = after-arrival _ _ _ _ _ _ c.loop-state.invariant.whole running.0 c.in_ok-let_arrive-in-NotArrived.ensures.verdict c.in_ok-let_arrive-in-NotArrived.ensures.alike;
+      sound = c.in_ok-let_arrive-in-NotArrived.ensures.sound c.loop-state.invariant.sound;
+      good = c.in_ok-let_arrive-in-NotArrived.ensures.good;
+      later = omega (arith, c.loop-state.invariant.later, c.let_arrive.ensures.cause.later);
     }
 
 pub loop-state-preserved : goal.loop-state-preserved

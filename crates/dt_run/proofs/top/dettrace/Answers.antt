@@ -26,6 +26,9 @@ returns-in-Ok-clause-store g c = record {
   rose = λ is. absurd (ran.never c.in-Ok.status STORE_FAULT (ran.status-of _ _ _ _ _ _ c.in-Ok.ensures.completed) refl is);
 }
 
+pub returns-in-Ok-clause-reads : goal.returns-in-Ok-clause-reads
+returns-in-Ok-clause-reads g c = λ is. absurd (ran.never c.in-Ok.status STORE_FAULT (ran.status-of _ _ _ _ _ _ c.in-Ok.ensures.completed) refl is)
+
 pub returns-in-Ok-clause-host : goal.returns-in-Ok-clause-host
 returns-in-Ok-clause-host g c = record {
   later = c.run_words.ensures.host.later;
@@ -64,6 +67,9 @@ returns-in-Err-clause-nothing g c = failing.nothing _ _ _ _ _ _ c.write_failure.
 
 pub returns-in-Err-clause-usage : goal.returns-in-Err-clause-usage
 returns-in-Err-clause-usage g c = failing.usage _ _ _ _ _ _ c.write_failure.ensures.status c.in-Err.ensures.failed
+
+pub returns-in-Err-clause-reads : goal.returns-in-Err-clause-reads
+returns-in-Err-clause-reads g c = failing.reads _ _ _ _ _ _ c.write_failure.ensures.status c.in-Err.ensures.failed
 
 pub returns-in-Err-clause-complete : goal.returns-in-Err-clause-complete
 returns-in-Err-clause-complete g c =

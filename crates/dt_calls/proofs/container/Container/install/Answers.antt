@@ -4,7 +4,7 @@ use Rattle.std.specs.Ordering.{nat_cmp}
 use Rattle.std.specs.FinMap.{FinMap, empty, get, insert}
 use Rattle.dt_host.specs.declared.error.HostErr.TheVariants.{Failed, NoMemory}
 use Rattle.dt_host.proofs.Asking.{passed_on}
-use Rattle.dt_procs.specs.declared.member.TheConstants.{FIRST_PID}
+use Rattle.dt_base.specs.declared.limits.TheConstants.{FIRST_PID}
 use Rattle.dt_rv64.specs.declared.machine.Machine.{Machine}
 use Rattle.dt_calls.specs.Container.{first_shared}
 use Rattle.dt_calls.specs.InCode.{machines_at_home}

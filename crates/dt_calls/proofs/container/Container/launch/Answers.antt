@@ -1,7 +1,7 @@
 use Rattle.std.proofs.Common.{sym, subst}
 use Rattle.std.specs.Prelude.{IsSome}
 use Rattle.std.specs.FinMap.{get}
-use Rattle.dt_procs.specs.declared.member.TheConstants.{FIRST_PID}
+use Rattle.dt_base.specs.declared.limits.TheConstants.{FIRST_PID}
 use Rattle.dt_calls.specs.InCode.{ContainerView}
 use Rattle.dt_calls.specs.Sound.{IsSoundContainer}
 use Rattle.dt_calls.proofs.Serving.{launches}

@@ -2,7 +2,7 @@ use Rattle.std.proofs.Common.{sym, ap, subst, ◌∙◌}
 use Rattle.std.specs.Prelude.{IsSome}
 use Rattle.std.specs.FinMap.{empty, get, insert}
 use Rattle.dt_fds.specs.OpenFiles.{pipes_at}
-use Rattle.dt_procs.specs.declared.member.TheConstants.{FIRST_PID}
+use Rattle.dt_base.specs.declared.limits.TheConstants.{FIRST_PID}
 use Rattle.dt_tree.specs.Table.{Stands, tree_of}
 use Rattle.dt_calls.specs.Container.{blank_task}
 use Rattle.dt_calls.proofs.Started.{sound-first, none-held}

@@ -1,6 +1,6 @@
 use Rattle.std.proofs.Common.{◌≡◌, refl, subst, sym}
 use Rattle.clap.specs.Words.{found_of, rows_of}
-use Rattle.dt_options.specs.Options.{image_in}
+use Rattle.dt_options.specs.Arguments.{image_in}
 use Rattle.dt_options.proofs.Matches.{one_image}
 use Rattle.dt_options.proofs.options.arguments.image.Goals as goal
 

@@ -1,6 +1,6 @@
-use Rattle.std.proofs.Common.{◌≡◌, ◌<◌, sym, ap, subst, ◌∙◌}
+use Rattle.std.proofs.Common.{◌<◌, sym, ap, subst, ◌∙◌}
 use Rattle.std.specs.Prelude.{IsTrue}
-use Rattle.dt_sched.specs.Core.{CoreView, head, has_room, core_after_turn}
+use Rattle.dt_sched.specs.Core.{head, has_room, core_after_turn}
 use Rattle.dt_run.specs.declared.state.State.{State as StateInCode}
 use Rattle.dt_run.specs.Turn.{settled_of}
 use Rattle.dt_run.specs.inner.InCode.{stops_after}

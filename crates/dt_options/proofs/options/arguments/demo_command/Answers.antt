@@ -1,0 +1,19 @@
+use Rattle.std.proofs.Common.{ap}
+use Rattle.clap.specs.Words.{App}
+use Rattle.dt_options.proofs.Commands.{added, stays_local, if_ok}
+use Rattle.dt_options.proofs.options.arguments.demo_command.Goals as goal
+
+pub returns-clause-shape : goal.returns-clause-shape
+returns-clause-shape c = if_ok c.arg-3.result
+    (λ new adds. ap (λ (app : App). app.top)
+    (added adds c.number_arg.ensures.local c.number_arg.ensures.rule
+    (added c.in_ok-arg-2.ensures c.workers_arg.ensures.local c.workers_arg.ensures.rule
+    (added c.in_ok-arg.ensures c.demo_arg.ensures.local c.demo_arg.ensures.rule c.new.ensures.app))))
+    c.arg-3.ensures
+
+pub returns-clause-local : goal.returns-clause-local
+returns-clause-local c = if_ok c.arg-3.result
+    (λ new adds. stays_local adds c.number_arg.ensures.local
+    (stays_local c.in_ok-arg-2.ensures c.workers_arg.ensures.local
+    (stays_local c.in_ok-arg.ensures c.demo_arg.ensures.local c.new.ensures.local)))
+    c.arg-3.ensures

@@ -1,0 +1,72 @@
+// Words decoded before.
+ghost use Rattle.std.specs.Prelude.{◌≡◌, ◌<◌};
+ghost use Rattle.dt_rv64.specs.Instruction.{instr};
+
+use crate::decoder::decode;
+use crate::instruction::Instr;
+use std::marker::Model;
+
+/// How many entries a memo has.
+const ENTRIES: usize = 1024;
+
+// A word with its instruction.
+#[derive(Clone, Copy, Debug)]
+pub struct Entry {
+    word: u32,
+    instruction: Instr,
+}
+
+/// Words whose instructions are known. What a word is depends on nothing else, so an entry stays right for ever.
+#[derive(Debug, Drop)]
+pub struct Memo {
+    entries: [Entry; ENTRIES],
+}
+
+impl Model for Memo {
+    ghost use Rattle.std.specs.Prelude.{◌≡◌, List, length};
+    ghost use Rattle.dt_rv64.specs.declared.memo.Entry.{Entry};
+    ghost use Rattle.dt_rv64.specs.declared.memo.TheConstants.{ENTRIES};
+    ghost use Rattle.dt_rv64.specs.inner.Memo.{AreDecoded};
+
+    ghost Value = { List Entry };
+
+    ghost view = { λ m. m.entries };
+
+    ghost invariant = { λ m. AreDecoded m.entries };
+}
+
+impl Memo {
+    /// A memo of nothing yet: each entry is that of the word 0.
+    pub fn new() -> Self {
+        Memo {
+            entries: [Entry {
+                word: 0,
+                instruction: Instr::Unknown,
+            }; ENTRIES],
+        }
+    }
+
+    /// The instruction of a word.
+    #[inline(always)]
+    pub fn instruction(&mut self, word: u32) -> Instr
+        ensures { result ≡ instr word }
+    {
+        let index = (word.wrapping_mul(0x9e37_79b1) >> 22) as usize;
+        let entry = &self.entries[index];
+        if entry.word == word {
+            return entry.instruction;
+        }
+        self.decode(index, word)
+    }
+
+    // Decodes a word, and keeps it in an entry.
+    #[inline(never)]
+    fn decode(&mut self, index: usize, word: u32) -> Instr
+        requires { index < ENTRIES }
+        ensures { result ≡ instr word }
+    {
+        let instruction = decode(word);
+        self.entries[index] = Entry { word, instruction };
+        instruction
+    }
+}
