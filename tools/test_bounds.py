@@ -14,7 +14,7 @@ from pathlib import Path
 from program import TOP
 
 SECONDS = 100
-BOUNDS = ("R: Threads + Sync", "H: Host + Send", "O: Sink + Send", "G: Gate + Sync")
+BOUNDS = ("R: AllocGlobal + Threads + Sync", "H: Host + Send", "O: Sink + Send", "G: Gate + Sync")
 UNMET = "error[unsatisfied-bound]: the trait bound `{}` is not satisfied"
 
 
@@ -40,7 +40,7 @@ class BoundsTest(unittest.TestCase):
 
     def expect_refusal(self, crate: str, file: str, line: str, bound: str) -> None:
         """The crate is refused once its line no longer has the last part of the bound, as in `H: Host + Send`."""
-        kept, lost = bound.split(" + ")
+        kept, lost = bound.rsplit(" + ", 1)
         path = self.top / "crates" / crate / file
         text = path.read_text()
         self.assertEqual((text.count(line), line.count(bound)), (1, 1))
