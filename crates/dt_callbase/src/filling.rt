@@ -6,7 +6,7 @@ ghost use Rattle.dt_callbase.specs.Sound.{Sound, HasReply, stage, scene};
 use crate::fs::Fs;
 use dt_base::{Answer, Caller, Errno};
 use dt_host::{Host, HostErr};
-use dt_space::Space;
+use dt_space::{Space, WriteErr};
 
 /// Fills a buffer, and answers this value: EFAULT where one of its bytes may not be written.
 pub fn fill<H: Host>(
@@ -23,8 +23,9 @@ pub fn fill<H: Host>(
         (stage fs.now (H.view host.now) caller.now space.old) (stage fs.now (H.view host.now) caller.now space.new)
         result (H.count host.now) (H.count host.now) }
 {
-    if space.write_bytes(buffer, bytes).is_err() {
-        return Ok(Answer::Refused(Errno::Fault));
+    match space.write_bytes(buffer, bytes) {
+        Ok(()) => Ok(Answer::Value(value)),
+        Err(WriteErr::Miss(_)) => Ok(Answer::Refused(Errno::Fault)),
+        Err(WriteErr::NoMemory) => Err(HostErr::NoMemory),
     }
-    Ok(Answer::Value(value))
 }

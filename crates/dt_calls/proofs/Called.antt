@@ -1,6 +1,6 @@
 -- A call on a process's own signals, once its answer is given.
 use Rattle.std.proofs.Common.{◌≡◌, ℕ, sym, ◌∙◌}
-use Rattle.std.specs.Prelude.{IfOk, Result, Ok, Err}
+use Rattle.std.specs.Prelude.{IfOk, OnOk, Result, Ok, Err}
 use Rattle.dt_base.specs.declared.answer.Answer.{Answer}
 use Rattle.dt_base.specs.declared.memory.NoMemory.{NoMemory}
 use Rattle.dt_rv64.specs.declared.machine.Machine.{Machine}
@@ -19,3 +19,8 @@ pub called-served : (r : SignalCallResult) (c : Shared) (p : ℕ) (m mid new : M
 called-served r c p m mid new number after given (Ok e) d is =
     (λ i. effect_of_answer (record c { tasks = sym d.tasks i }) (sym d.machine i) number (sym d.answer i)) ∙ is
 called-served r c p m mid new number after given (Err x) d is = is
+
+-- what it left is as it was left, once its answer is given
+pub called-kept : {P : Type 0} → (result : Result EffectInCode NoMemory) → P → OnOk result P
+called-kept (Ok e) is = is
+called-kept (Err x) is = tt

@@ -1,5 +1,5 @@
 // What is done with the machine of a process in its place: a machine is too big to be moved in each turn.
-ghost use Rattle.std.specs.Prelude.{◌≡◌, IsSome, IfSome, IsOk, IfOk};
+ghost use Rattle.std.specs.Prelude.{◌≡◌, IsSome, IfSome, IfOk};
 ghost use Rattle.std.specs.FinMap.{get};
 ghost use Rattle.dt_rv64.specs.Segment.{segment_of};
 ghost use Rattle.dt_calls.specs.Settle.{effect_of_turn};
@@ -22,8 +22,7 @@ pub(crate) fn run_at(
     hints: &mut Hints,
 ) -> Result<Seg, NoMemory>
     requires { IsSome (get (machines_at_home places.old) vpid) }
-    ensures always { IsOk result }
-    ensures run { IfOk result (RunsAt places.old places.new vpid) }
+    ensures { IfOk result (RunsAt places.old places.new vpid) }
 {
     match places.get_mut(u64::from(vpid)) {
         Some(place) => run_in(place, hints),
@@ -57,7 +56,6 @@ pub(crate) fn serve_at<H: Host>(
 // Runs a segment of the machine in a place.
 fn run_in(place: &mut Option<Machine>, hints: &mut Hints) -> Result<Seg, NoMemory>
     requires { IsSome place.old }
-    ensures always { IsOk result }
     ensures stays { IsSome place.new }
     ensures run { IfOk result (λ seg. IfSome place.old (λ was. IfSome place.new (λ now.
         segment_of was ≡ record { count = seg.count; stop = seg.stop; machine = now }))) }

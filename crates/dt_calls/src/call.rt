@@ -55,7 +55,7 @@ pub fn serve_and_deliver<H: Host>(
         return Ok(effect);
     }
     let forced = forced_signal(stop);
-    match deliver_at(&mut shared.tasks, vpid, machine, forced, effect.served) {
+    match deliver_at(&mut shared.tasks, vpid, machine, forced, effect.served)? {
         Delivery::Nothing => Ok(effect),
         Delivery::Handler => {
             effect.served = effect.served.at_handler();

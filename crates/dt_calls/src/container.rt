@@ -1,5 +1,5 @@
 // A container as a whole: its start, the launch of its program, and the turns of its processes.
-ghost use Rattle.std.specs.Prelude.{◌≡◌, [], None, Some, IsSome, IsOk, IfOk, IsErrOf};
+ghost use Rattle.std.specs.Prelude.{◌≡◌, [], None, Some, IsSome, IfOk, IsErrOf};
 ghost use Rattle.std.specs.FinMap.{get, insert, remove};
 ghost use Rattle.dt_host.specs.Cause.{HasCause};
 ghost use Rattle.dt_host.specs.World.{IsEmptyStart};
@@ -160,7 +160,6 @@ impl Container {
     /// Runs a segment of a process whose machine is at home. No answer depends on the hints.
     pub fn run_segment(&mut self, vpid: u32, hints: &mut Hints) -> Result<Seg, NoMemory>
         requires { IsSome (get (machines_at_home self.old.places) vpid) }
-        ensures always { IsOk result }
         ensures run { IfOk result (RunsAt self.old.places self.new.places vpid) }
         ensures rest { self.new ≡ record self.old { places = self.new.places } }
     {

@@ -1,5 +1,5 @@
 // Delivery of a signal to a process whose stop was served.
-ghost use Rattle.std.specs.Prelude.{◌≡◌, IsSome};
+ghost use Rattle.std.specs.Prelude.{◌≡◌, IsSome, IfOk};
 ghost use Rattle.std.specs.FinMap.{get};
 ghost use Rattle.dt_signals.specs.Delivery.{delivery_of, delivery_result};
 ghost use Rattle.dt_calls.specs.Container.{task_in, with_signals};
@@ -8,6 +8,7 @@ ghost use Rattle.dt_calls.specs.InCode.{DeliveredAt};
 
 use crate::container::Served;
 use crate::task::Task;
+use dt_base::NoMemory;
 use dt_rv64::{Machine, Stop};
 use dt_signals::{CallState, Delivery, deliver};
 use dt_tables::Numbered;
@@ -20,10 +21,10 @@ pub fn deliver_at(
     machine: &mut Machine,
     forced: Option<u8>,
     served: Served,
-) -> Delivery
+) -> Result<Delivery, NoMemory>
     requires { IsSome (get tasks.old vpid) }
-    ensures { DeliveredAt (delivery_of forced (call_state (task_in tasks.old vpid) served)
-        (task_in tasks.old vpid).signals machine.old) vpid tasks.old tasks.new machine.new result }
+    ensures { IfOk result (DeliveredAt (delivery_of forced (call_state (task_in tasks.old vpid) served)
+        (task_in tasks.old vpid).signals machine.old) vpid tasks.old tasks.new machine.new) }
 {
     match tasks.get_mut(u64::from(vpid)) {
         Some(task) => deliver_to(task, machine, forced, served),
@@ -37,19 +38,21 @@ fn deliver_to(
     machine: &mut Machine,
     forced: Option<u8>,
     served: Served,
-) -> Delivery
-    ensures delivered { delivery_of forced (call_state task.old served) task.old.signals machine.old
-        ≡ delivery_result result task.new.signals machine.new }
-    ensures task { task.new ≡ task_after_delivery result (with_signals task.old task.new.signals) }
+) -> Result<Delivery, NoMemory>
+    ensures delivered { IfOk result (λ came.
+        delivery_of forced (call_state task.old served) task.old.signals machine.old
+        ≡ delivery_result came task.new.signals machine.new) }
+    ensures task { IfOk result (λ came.
+        task.new ≡ task_after_delivery came (with_signals task.old task.new.signals)) }
 {
     let call = call_state(task, served);
-    match deliver(machine, &mut task.signals, forced, call) {
-        Delivery::Nothing => Delivery::Nothing,
+    match deliver(machine, &mut task.signals, forced, call)? {
+        Delivery::Nothing => Ok(Delivery::Nothing),
         Delivery::Handler => {
             task.caller.done = 0;
-            Delivery::Handler
+            Ok(Delivery::Handler)
         }
-        Delivery::Ends(signal) => Delivery::Ends(signal),
+        Delivery::Ends(signal) => Ok(Delivery::Ends(signal)),
     }
 }
 

@@ -20,7 +20,7 @@ use dt_base::{Answer, Blob, Caller, Errno, NoMemory};
 use dt_callbase::Fs;
 use dt_fds::{DescKind, Spot};
 use dt_host::{Host, HostErr};
-use dt_space::Space;
+use dt_space::{Space, WriteErr};
 use dt_tree::{Listed, Tree};
 use std::alloc::Global;
 
@@ -251,8 +251,10 @@ fn fill_records<H: Host>(
         (stage fs.old (H.view host.now) caller.now space.old) (stage fs.new (H.view host.now) caller.now space.new)
         result (H.count host.now) (H.count host.now) }
 {
-    if space.write_bytes(buffer, bytes).is_err() {
-        return Ok(Answer::Refused(Errno::Fault));
+    match space.write_bytes(buffer, bytes) {
+        Ok(()) => {}
+        Err(WriteErr::Miss(_)) => return Ok(Answer::Refused(Errno::Fault)),
+        Err(WriteErr::NoMemory) => return Err(HostErr::NoMemory),
     }
     fs.files.set_place(caller.vpid, fd, Spot::After(Some(last)));
     Ok(Answer::Value(bytes.len() as u64))

@@ -13,7 +13,7 @@ use dt_callbase::Fs;
 use dt_fds::Flow;
 use dt_host::{CallErr, Host, HostErr};
 use dt_pipes::PIPE_NUMBER_LIMIT;
-use dt_space::Space;
+use dt_space::{Space, WriteErr};
 
 /// Bytes of the two descriptors that pipe2(2) tells.
 const PAIR_LEN: usize = 8;
@@ -109,7 +109,8 @@ fn make_pipe<H: Host>(
     }
     match space.write_bytes(buffer, &bytes) {
         Ok(()) => Ok(Answer::Value(0)),
-        Err(_) => unreachable!(),
+        Err(WriteErr::Miss(_)) => unreachable!(),
+        Err(WriteErr::NoMemory) => Err(HostErr::NoMemory),
     }
 }
 

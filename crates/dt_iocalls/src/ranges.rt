@@ -1,5 +1,5 @@
 //! Buffers of a process in several ranges, which a call takes one after the other as one (readv(2), writev(2)).
-ghost use Rattle.std.specs.Prelude.{◌≡◌, ◌-◌, ◌^◌, Ok, Err, IsOk, IfOk, IfErr, OnErr, MatchResult, length, take, drop};
+ghost use Rattle.std.specs.Prelude.{◌≡◌, ◌-◌, ◌^◌, Ok, Err, IsOk, IfOk, IfErr, OnOk, OnErr, MatchResult, length, take, drop};
 ghost use Rattle.std.specs.Prelude.{min};
 ghost use Rattle.dt_iocalls.specs.Ranges.{total_len, cut_to, iovec_at, iovecs_at, ranges_at, gathered_bytes};
 ghost use Rattle.dt_iocalls.specs.Ranges.{scattered_pages};
@@ -7,7 +7,7 @@ ghost use Rattle.dt_iocalls.specs.Ranges.{IsGatherErr};
 
 use dt_base::abi::{IOV_MAX, TRANSFER_LIMIT};
 use dt_base::{Errno, NoMemory};
-use dt_space::{Miss, ReadErr, Space};
+use dt_space::{Miss, ReadErr, Space, WriteErr};
 use std::alloc::Global;
 
 /// The length of `struct iovec` (readv(2)).
@@ -167,16 +167,24 @@ pub(crate) fn gather_piece(
     Ok(piece)
 }
 
-// Puts bytes into ranges, as far as the bytes go; at a miss none, and the space stays.
-pub(crate) fn scatter(space: &mut Space, ranges: &[Range], bytes: &[u8]) -> Result<(), Miss>
-    ensures scattered { MatchResult result
+// Puts bytes into ranges, as far as the bytes go; at a miss none, and the space stays. Memory is wanting only where all
+// of them may be put; then some ranges may be filled.
+pub(crate) fn scatter(
+    space: &mut Space,
+    ranges: &[Range],
+    bytes: &[u8],
+) -> Result<Result<(), Miss>, NoMemory>
+    ensures scattered { IfOk result (λ came. MatchResult came
         (λ _. scattered_pages space.old ranges.now bytes.now ≡ Ok space.new)
-        (λ miss. scattered_pages space.old ranges.now bytes.now ≡ Err miss) }
-    ensures kept { OnErr result (space.new ≡ space.old) }
+        (λ miss. scattered_pages space.old ranges.now bytes.now ≡ Err miss)) }
+    ensures kept { IfOk result (λ came. OnErr came (space.new ≡ space.old)) }
+    ensures memory { OnErr result (IsOk (scattered_pages space.old ranges.now bytes.now)) }
 {
-    may_scatter(space, ranges, bytes)?;
-    put(space, ranges, bytes);
-    Ok(())
+    if let Err(miss) = may_scatter(space, ranges, bytes) {
+        return Ok(Err(miss));
+    }
+    put(space, ranges, bytes)?;
+    Ok(Ok(()))
 }
 
 // Whether bytes may be put into ranges; else the first miss.
@@ -196,20 +204,22 @@ pub(crate) fn may_scatter(space: &Space, ranges: &[Range], bytes: &[u8]) -> Resu
     Ok(())
 }
 
-// Puts bytes into ranges where they may be.
-pub(crate) fn put(space: &mut Space, ranges: &[Range], bytes: &[u8])
+// Puts bytes into ranges where they may be. Where memory is wanting some ranges may be filled.
+pub(crate) fn put(space: &mut Space, ranges: &[Range], bytes: &[u8]) -> Result<(), NoMemory>
     requires { IsOk (scattered_pages space.old ranges.now bytes.now) }
-    ensures { scattered_pages space.old ranges.now bytes.now ≡ Ok space.new }
+    ensures { OnOk result (scattered_pages space.old ranges.now bytes.now ≡ Ok space.new) }
 {
     let mut left = bytes;
     for range in ranges {
         let (part, rest) = divided(left, range.len);
         match space.write_bytes(range.address, part) {
             Ok(()) => {}
-            Err(_) => unreachable!(),
+            Err(WriteErr::Miss(_)) => unreachable!(),
+            Err(WriteErr::NoMemory) => return Err(NoMemory),
         }
         left = rest;
     }
+    Ok(())
 }
 
 // The first bytes, so many or all where they are fewer, and those behind them.

@@ -195,7 +195,7 @@ fn read_through<H: Host>(
         Err(_) => return Ok(Answer::Refused(Errno::Fault)),
     }
     let answer = pipe_answer(fs.files.pipe_read(host, caller.vpid, fd, buf))?;
-    put(space, ranges, buf);
+    put(space, ranges, buf)?;
     Ok(answer)
 }
 
@@ -246,7 +246,7 @@ fn receive<H: Host>(
         (stage fs.new (H.view host.now) caller.now space.new) result
         (H.count host.now) (H.count host.now) }
 {
-    if scatter(space, ranges, bytes).is_err() {
+    if scatter(space, ranges, bytes)?.is_err() {
         return Ok(Answer::Refused(Errno::Fault));
     }
     let count = bytes.len() as u64;
@@ -350,7 +350,7 @@ fn fill_ranges<H: Host>(
         (stage fs.now (H.view host.now) caller.now space.new) result
         (H.count host.now) (H.count host.now) }
 {
-    if scatter(space, ranges, bytes).is_err() {
+    if scatter(space, ranges, bytes)?.is_err() {
         return Ok(Answer::Refused(Errno::Fault));
     }
     Ok(Answer::Value(bytes.len() as u64))

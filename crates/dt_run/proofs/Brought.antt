@@ -5,7 +5,7 @@ use Rattle.std.specs.List.{Contains}
 use Rattle.std.specs.FinMap.{get, insert}
 use Rattle.std.proofs.lemmas.List.{length-map, get_or-map}
 use Rattle.std.proofs.lemmas.List.Edits.{length-remove}
-use Rattle.std.proofs.lemmas.List.Elements.{Contains-get_or}
+use Rattle.std.proofs.lemmas.List.Elements.{Contains-get_or, length_all_zip, AllZip-get_or}
 use Rattle.dt_base.specs.declared.memory.NoMemory.{NoMemory}
 use Rattle.dt_rv64.specs.declared.machine.Machine.{Machine}
 use Rattle.dt_rv64.specs.declared.segments.Seg.{Seg}
@@ -15,20 +15,20 @@ use Rattle.dt_sched.proofs.Tables.{owed-removed}
 use Rattle.dt_calls.specs.InCode.{machines_at_home}
 use Rattle.dt_calls.proofs.Homes.{home-given, home-there}
 use Rattle.dt_workers.specs.declared.slot.Slot.{Slot}
-use Rattle.dt_workers.specs.Slots.{slot_after}
+use Rattle.dt_workers.specs.Slots.{IsOutcome, IsSlotAfter}
 use Rattle.dt_run.specs.declared.state.State.{State}
 use Rattle.dt_run.specs.Ahead.{with_all_segments}
 use Rattle.dt_run.specs.inner.InCode.{state_of}
 use Rattle.dt_run.specs.inner.Round.{slot_vpids, places_with, with_slots, with_arrival, HavePlaces, IsRound}
 use Rattle.dt_run.proofs.Aheads.{ran-ahead}
 use Rattle.dt_run.proofs.Arriving.{IsOwed, HasArrived, owed, arrive-ran, arrive-good, arrive-sound, arrive-smaller}
-use Rattle.dt_run.proofs.Rounds.{IsOnce, owing-once, places-brought, machine-lent, map-removed, places-stay, all-removed, all-at}
+use Rattle.dt_run.proofs.Rounds.{IsOnce, owing-once, places-brought, machine-lent, map-removed, zip-removed, places-stay, all-removed, all-at}
 
--- the segment that a slot holds
-seg-in : Seg → Option (Result Seg NoMemory) → Seg
-seg-in d None = d
-seg-in d (Some (Ok seg)) = seg
-seg-in d (Some (Err wanting)) = d
+-- what came of a segment is there
+some-outcome : (old new : Machine) (result : Option (Result Seg NoMemory)) → IsOutcome old new result → IsSome result
+some-outcome old new None came = absurd came
+some-outcome old new (Some (Ok seg)) came = refl
+some-outcome old new (Some (Err wanting)) came = refl
 
 module _ (before now : State) (slots : List Slot) (k : ℕ) (d : Slot) (r : IsRound before slots now)
     (once : IsTrue (is_distinct now.core.queue)) (inside : k < length (owing_vpids now.core.queue)) where
@@ -37,7 +37,7 @@ module _ (before now : State) (slots : List Slot) (k : ℕ) (d : Slot) (r : IsRo
   from = get_or r.lent k d
 
   many : length slots ≡ length r.lent
-  many = ap (λ (xs : List Slot). length xs) r.ran ∙ length-map r.lent slot_after
+  many = sym (length_all_zip IsSlotAfter r.lent slots r.ran)
 
   within-lent : k < length r.lent
   within-lent =
@@ -75,26 +75,18 @@ module _ (before now : State) (slots : List Slot) (k : ℕ) (d : Slot) (r : IsRo
 
   -- the slot after its segment
   module _ (slot : Slot) (taken : slot ≡ get_or slots k d) where
-    pub slot-is : slot ≡ slot_after from
-    slot-is = taken ∙ ap (λ xs. get_or xs k d) r.ran ∙ get_or-map slot_after r.lent k d d within-lent
+    slot-is : IsSlotAfter from slot
+    slot-is = subst (IsSlotAfter from) (sym taken) (AllZip-get_or IsSlotAfter r.lent slots k d d r.ran within-lent)
 
     pub vpid-is : slot.vpid ≡ from.vpid
-    unfolding slot_after
-    vpid-is = ap (λ (s : Slot). s.vpid) slot-is
+    vpid-is = slot-is.vpid
 
     pub has-result : IsSome slot.result
-    unfolding slot_after
-    has-result = subst (λ (s : Slot). IsSome s.result) (sym slot-is) refl
+    has-result = some-outcome from.machine slot.machine slot.result slot-is.outcome
 
     pub ran-so : (seg : Seg) → slot.result ≡ Some (Ok seg)
         → segment_of from.machine ≡ record { count = seg.count; stop = seg.stop; machine = slot.machine }
-    unfolding slot_after seg-in
-    ran-so seg given =
-        let run = segment_of from.machine in
-        let result : Some (Ok (record { count = run.count; stop = run.stop })) ≡ slot.result = ap (λ (s : Slot). s.result) (sym slot-is) in
-        let same : record { count = run.count; stop = run.stop } ≡ seg = ap (seg-in seg) (result ∙ given) in
-        let machine : run.machine ≡ slot.machine = ap (λ (s : Slot). s.machine) (sym slot-is) in
-        λ i. record { count = (same i).count; stop = (same i).stop; machine = machine i }
+    ran-so seg given = subst (IsOutcome from.machine slot.machine) given slot-is.outcome
 
   module _ (m : Machine) (seg : Seg) (run : segment_of from.machine ≡ record { count = seg.count; stop = seg.stop; machine = m }) where
     abbrev old : State
@@ -128,7 +120,7 @@ module _ (before now : State) (slots : List Slot) (k : ℕ) (d : Slot) (r : IsRo
         let fewer = length-remove slots k within in
         record {
           lent = remove r.lent k;
-          ran = ap (λ xs. remove xs k) r.ran ∙ sym (map-removed slot_after r.lent k);
+          ran = zip-removed IsSlotAfter r.lent slots k r.ran;
           vpids = map-removed (λ (slot : Slot). slot.vpid) r.lent k
               ∙ ap (λ xs. remove xs k) r.vpids
               ∙ subst (λ p. remove (owing_vpids now.core.queue) k ≡ owing_vpids (core_after_arrival p seg.count now.core).queue)
@@ -158,8 +150,7 @@ module _ (before now : State) (slots : List Slot) (k : ℕ) (d : Slot) (r : IsRo
 
 -- once all have come home there are no slots that the run lacks
 pub none-lent : (before now : State) (slots : List Slot) → (r : IsRound before slots now) → length slots ≡ 0 → r.lent ≡ []
-none-lent before now slots r none = empty-is r.lent (sym (length-map r.lent slot_after)
-    ∙ sym (ap (λ (xs : List Slot). length xs) r.ran) ∙ none)
+none-lent before now slots r none = empty-is r.lent (length_all_zip IsSlotAfter r.lent slots r.ran ∙ none)
   where
     empty-is : (xs : List Slot) → length xs ≡ 0 → xs ≡ []
     empty-is [] is = refl

@@ -1,7 +1,7 @@
 -- Machines that are lent in a round, and what their way home comes to.
 use Rattle.std.proofs.Common.{◌≡◌, ◌≢◌, ℕ, zero, suc, ◌<◌, true, false, cond, List, [], ◌∷◌, ◌++◌, map, length, get_or, remove, take, Option, Some, None, refl, sym, ap, subst, ◌∙◌, arith}
 use Rattle.std.specs.Prelude.{⊤, IsSome, IsTrue}
-use Rattle.std.specs.List.{AllByRecursion}
+use Rattle.std.specs.List.{AllByRecursion, AllZip}
 use Rattle.std.specs.Option.{option_flatten}
 use Rattle.std.specs.Cmp.{nat_cmp_total}
 use Rattle.std.specs.FinMap.{get, insert, same_map, nat_cmp-IsAntisymmetric}
@@ -173,6 +173,15 @@ all-removed P [] zero all = tt
 all-removed P [] (suc k) all = tt
 all-removed P (x ∷ xs) zero all = all.1
 all-removed P (x ∷ xs) (suc k) all = (all.0, all-removed P xs k all.1)
+
+-- two lists that agree at each place do so without one of them
+pub zip-removed : {X : Type 0} → (R : X → X → Type 0) (xs ys : List X) (k : ℕ) → AllZip R xs ys → AllZip R (remove xs k) (remove ys k)
+zip-removed R [] [] zero zip = tt
+zip-removed R [] [] (suc k) zip = tt
+zip-removed R [] (y ∷ ys) k zip = absurd zip
+zip-removed R (x ∷ xs) [] k zip = absurd zip
+zip-removed R (x ∷ xs) (y ∷ ys) zero zip = zip.1
+zip-removed R (x ∷ xs) (y ∷ ys) (suc k) zip = (zip.0, zip-removed R xs ys k zip.1)
 
 pub all-at : {X : Type 0} → (P : X → Type 0) (xs : List X) (k : ℕ) (d : X) → k < length xs → AllByRecursion P xs → P (get_or xs k d)
 all-at P [] k d within all = absurd (omega arith)

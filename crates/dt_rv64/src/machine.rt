@@ -1,13 +1,15 @@
 // The machine: registers, a program counter and a space, and one step of it.
-ghost use Rattle.std.specs.Prelude.{◌≡◌, ◌≢◌};
+ghost use Rattle.std.specs.Prelude.{◌≡◌, ◌≢◌, ◌<◌, IfOk, OnErr};
 ghost use Rattle.dt_rv64.specs.Effects.{register, with_register, register_result, jump_result, branch_result};
 ghost use Rattle.dt_rv64.specs.Effects.{advance_result, pc_relative, even};
 ghost use Rattle.dt_rv64.specs.Effects.{address, machine_after_answer, machine_after_counter};
 ghost use Rattle.dt_rv64.specs.Machine.{exec};
 ghost use Rattle.dt_rv64.specs.Valid.{IsMachine};
+ghost use Rattle.dt_rv64.specs.inner.Registers.{HasZero};
 
 use crate::hints::Hints;
 use crate::words::word_of;
+use dt_base::NoMemory;
 use dt_base::abi::{A0, SIGBUS, SIGSEGV};
 use dt_space::Space;
 
@@ -52,6 +54,30 @@ impl Machine {
         }
     }
 
+    // What a register holds, where 0 is kept for register 0.
+    #[inline(always)]
+    #[tactic(auto, using(crate::proofs::First::reads_and_writes))]
+    pub(crate) fn read(&self, index: u8) -> u64
+        requires within { index < 32 }
+        requires zero { HasZero self.now }
+        ensures { result ≡ register self.now index }
+    {
+        self.regs[usize::from(index)]
+    }
+
+    // Writes a register, where 0 is kept for register 0, as it is after it.
+    #[inline(always)]
+    #[tactic(auto, using(crate::proofs::First::reads_and_writes))]
+    fn write(&mut self, index: u8, value: u64)
+        requires within { index < 32 }
+        requires zero { HasZero self.old }
+        ensures written { self.new ≡ with_register self.old index value }
+        ensures zero { HasZero self.new }
+    {
+        self.regs[usize::from(index)] = value;
+        self.regs[0] = 0;
+    }
+
     /// Ends a system call: its answer in a0, and on to the next instruction.
     pub fn answer(&mut self, value: u64)
         ensures answered { self.new ≡ machine_after_answer self.old value }
@@ -70,35 +96,45 @@ impl Machine {
         self.pc = self.pc.wrapping_add(4);
     }
 
-    /// Takes one step. At any answer but `Ran` the machine stays.
-    pub fn step(&mut self) -> Step
-        ensures stays { result ≢ Step.Ran → self.new ≡ self.old }
-        ensures stepped { exec self.old ≡ record { step = result; machine = self.new } }
+    /// Takes one step. At any answer but `Ran`, and at want of memory, the machine stays.
+    pub fn step(&mut self) -> Result<Step, NoMemory>
+        ensures stays { IfOk result (λ step. step ≢ Step.Ran → self.new ≡ self.old) }
+        ensures stepped { IfOk result (λ step. exec self.old ≡ record { step = step; machine = self.new }) }
+        ensures kept { OnErr result (self.new ≡ self.old) }
         ensures sound { IsMachine self.old → IsMachine self.new }
     {
-        self.step_hinted(&mut Hints::new())
+        let first = self.regs[0];
+        self.regs[0] = 0;
+        let step = self.step_hinted(&mut Hints::new());
+        self.regs[0] = first;
+        step
     }
 
-    /// Takes one step, with what was kept from others. No answer depends on that.
+    /// Takes one step where 0 is kept for register 0. No answer depends on the hints.
     #[inline(always)]
     #[tactic(auto, unfolding(crate::specs::Machine::exec))]
-    pub(crate) fn step_hinted(&mut self, hints: &mut Hints) -> Step
-        ensures stays { result ≢ Step.Ran → self.new ≡ self.old }
-        ensures stepped { exec self.old ≡ record { step = result; machine = self.new } }
-        ensures sound { IsMachine self.old → IsMachine self.new }
+    pub(crate) fn step_hinted(&mut self, hints: &mut Hints) -> Result<Step, NoMemory>
+        requires zero { HasZero self.old }
+        ensures stepped { IfOk result (λ step. exec self.old ≡ record { step = step; machine = self.new }) }
+        ensures kept { OnErr result (self.new ≡ self.old) }
+        ensures zero { HasZero self.new }
     {
         if self.pc % 4 != 0 {
-            return Step::Fault(SIGBUS);
+            return Ok(Step::Fault(SIGBUS));
         }
         match self.space.fetch_hinted(&mut hints.code, self.pc) {
-            Ok(word) => self.execute(hints.memo.instruction(word), &mut hints.data),
-            Err(_) => Step::Fault(SIGSEGV),
+            Ok(word) => {
+                let index = hints.memo.index(word);
+                self.execute(hints.memo.instruction(index), &mut hints.data)
+            }
+            Err(_) => Ok(Step::Fault(SIGSEGV)),
         }
     }
 
     /// Goes on to the next instruction.
     pub(crate) fn advance(&mut self) -> Step
-        ensures { advance_result self.old ≡ record { step = result; machine = self.new } }
+        ensures ran { advance_result self.old ≡ record { step = result; machine = self.new } }
+        ensures registers { self.new.regs ≡ self.old.regs }
     {
         self.pc = self.pc.wrapping_add(4);
         Step::Ran
@@ -106,21 +142,27 @@ impl Machine {
 
     /// Writes a register.
     pub(crate) fn put(&mut self, rd: u8, value: u64) -> Step
-        ensures { register_result self.old rd value ≡ record { step = result; machine = self.new } }
+        requires within { rd < 32 }
+        requires zero { HasZero self.old }
+        ensures ran { register_result self.old rd value ≡ record { step = result; machine = self.new } }
+        ensures zero { HasZero self.new }
     {
-        self.set_reg(rd, value);
+        self.write(rd, value);
         self.pc = self.pc.wrapping_add(4);
         Step::Ran
     }
 
     /// Jumps, and keeps the address after the jump.
     pub(crate) fn jump(&mut self, rd: u8, target: u64) -> Step
-        ensures { jump_result self.old rd target ≡ record { step = result; machine = self.new } }
+        requires within { rd < 32 }
+        requires zero { HasZero self.old }
+        ensures ran { jump_result self.old rd target ≡ record { step = result; machine = self.new } }
+        ensures zero { HasZero self.new }
     {
         if target % 4 != 0 {
             return Step::Fault(SIGBUS);
         }
-        self.set_reg(rd, self.pc.wrapping_add(4));
+        self.write(rd, self.pc.wrapping_add(4));
         self.pc = target;
         Step::Ran
     }
@@ -134,8 +176,12 @@ impl Machine {
 
     /// Jumps to an offset from what a register held before the jump, with bit 0 cleared.
     pub(crate) fn jump_register(&mut self, rd: u8, rs1: u8, imm: i64) -> Step
-        ensures { jump_result self.old rd (even (address self.old rs1 imm)) ≡
+        requires written { rd < 32 }
+        requires read { rs1 < 32 }
+        requires zero { HasZero self.old }
+        ensures ran { jump_result self.old rd (even (address self.old rs1 imm)) ≡
             record { step = result; machine = self.new } }
+        ensures zero { HasZero self.new }
     {
         let target = even(self.address(rs1, imm));
         self.jump(rd, target)
@@ -143,8 +189,10 @@ impl Machine {
 
     /// Jumps by an offset where the branch is taken.
     pub(crate) fn branch(&mut self, taken: bool, offset: i64) -> Step
-        ensures { branch_result self.old taken (pc_relative self.old offset) ≡
+        requires zero { HasZero self.old }
+        ensures ran { branch_result self.old taken (pc_relative self.old offset) ≡
             record { step = result; machine = self.new } }
+        ensures zero { HasZero self.new }
     {
         if taken {
             self.jump(0, self.pc_relative(offset))

@@ -1,6 +1,8 @@
 // Words decoded before.
 ghost use Rattle.std.specs.Prelude.{◌≡◌, ◌<◌};
 ghost use Rattle.dt_rv64.specs.Instruction.{instr};
+ghost use Rattle.dt_rv64.specs.inner.Memo.{word_at};
+ghost use Rattle.dt_rv64.specs.inner.Registers.{HasRegisters};
 
 use crate::decoder::decode;
 use crate::instruction::Instr;
@@ -46,27 +48,36 @@ impl Memo {
         }
     }
 
-    /// The instruction of a word.
+    /// The index of a word's entry. If another word stands there, this one is decoded and takes its place.
     #[inline(always)]
-    pub fn instruction(&mut self, word: u32) -> Instr
-        ensures { result ≡ instr word }
+    pub fn index(&mut self, word: u32) -> usize
+        ensures within { result < ENTRIES }
+        ensures is { word_at self.new result ≡ word }
     {
         let index = (word.wrapping_mul(0x9e37_79b1) >> 22) as usize;
-        let entry = &self.entries[index];
-        if entry.word == word {
-            return entry.instruction;
+        if self.entries[index].word != word {
+            self.keep(index, word);
         }
-        self.decode(index, word)
+        index
     }
 
     // Decodes a word, and keeps it in an entry.
     #[inline(never)]
-    fn decode(&mut self, index: usize, word: u32) -> Instr
+    fn keep(&mut self, index: usize, word: u32)
         requires { index < ENTRIES }
-        ensures { result ≡ instr word }
+        ensures { word_at self.new index ≡ word }
     {
         let instruction = decode(word);
         self.entries[index] = Entry { word, instruction };
-        instruction
+    }
+
+    /// The instruction of the word that stands at an index.
+    #[inline(always)]
+    pub fn instruction(&self, index: usize) -> &Instr
+        requires { index < ENTRIES }
+        ensures is { result.now ≡ instr (word_at self.now index) }
+        ensures registers { HasRegisters result.now }
+    {
+        &self.entries[index].instruction
     }
 }

@@ -1,5 +1,5 @@
 -- What a call on a process's signals leaves and answers.
-use Rattle.std.specs.Prelude.{ℕ, ◌==◌, List, Result, Ok, Err, if◌then◌else◌}
+use Rattle.std.specs.Prelude.{◌≡◌, ℕ, ◌==◌, List, Result, Ok, Err, if◌then◌else◌}
 use Rattle.dt_base.specs.declared.answer.Answer.{Answer}
 use Rattle.dt_base.specs.declared.answer.Answer.TheVariants.{Value, Refused}
 use Rattle.dt_base.specs.declared.errno.Errno.{Errno}
@@ -22,6 +22,10 @@ signal_call_result g pages answer = record { signals = g; pages = pages; answer 
 -- the call was refused, and all stays
 abbrev pub refused_signal_call : Sig → List PageView → Errno → SignalCallResult
 refused_signal_call g pages errno = record { signals = g; pages = pages; answer = Refused errno }
+
+-- the call was done: it answers 0
+abbrev pub IsDone : SignalCallResult → Type 0
+IsDone called = called.answer ≡ Value 0
 
 -- the old value was put into its buffer, and then the signal state is this; EFAULT where it can't be put there, and all
 -- stays

@@ -1,12 +1,12 @@
 // Buffers that a call fills.
-ghost use Rattle.std.specs.Prelude.{◌≡◌, MatchResult, Ok, Err, OnErr};
+ghost use Rattle.std.specs.Prelude.{◌≡◌, MatchResult, Ok, OnErr};
 ghost use Rattle.dt_space.specs.Space.{IsSpace};
-ghost use Rattle.dt_space.specs.Write.{miss_of};
+ghost use Rattle.dt_space.specs.Write.{IsWriteErr};
 ghost use Rattle.dt_sigcalls.specs.Called.{after_store_unless_null};
 
 use dt_space::{Space, WriteErr};
 
-/// Puts bytes into a buffer, unless its address is 0. At a miss the space stays.
+/// Puts bytes into a buffer, unless its address is 0. At an error the space stays.
 pub(crate) fn store_unless_null(
     space: &mut Space,
     address: u64,
@@ -14,7 +14,7 @@ pub(crate) fn store_unless_null(
 ) -> Result<(), WriteErr>
     ensures told { MatchResult result
         (λ _. after_store_unless_null space.old address bytes.now ≡ Ok space.new)
-        (λ error. after_store_unless_null space.old address bytes.now ≡ Err (miss_of error)) }
+        (IsWriteErr (after_store_unless_null space.old address bytes.now)) }
     ensures kept { OnErr result (space.new ≡ space.old) }
     ensures sound { IsSpace space.new }
 {

@@ -1,5 +1,5 @@
 // Delivery of a signal at the end of a process's turn.
-ghost use Rattle.std.specs.Prelude.{◌≡◌, ◌≤◌, IfSome};
+ghost use Rattle.std.specs.Prelude.{◌≡◌, ◌≤◌, IfOk, OnErr};
 ghost use Rattle.dt_rv64.specs.Valid.{IsMachine};
 ghost use Rattle.dt_signals.specs.Signals.{action_of};
 ghost use Rattle.dt_signals.specs.Delivery.{delivery_result, after_interrupt, at_handler, handler_entry, action_result};
@@ -8,10 +8,11 @@ ghost use Rattle.dt_signals.specs.Delivery.{forced_delivery, delivery_of};
 use crate::action::Action;
 use crate::frame::{frame_address, frame_of};
 use crate::signals::{Sig, bit_of, is_in, is_signal};
-use dt_base::Errno;
 use dt_base::abi::{A0, A1, A2, RA, SA_RESTART, SIGNAL_LIMIT, SIGSEGV, SP};
+use dt_base::{Errno, NoMemory};
 use dt_elf::layout::TRAMPOLINE;
 use dt_rv64::Machine;
+use dt_space::WriteErr;
 
 /// Whether a process is in a call that waits, which a handler interrupts.
 #[derive(Clone, Copy, Debug, PartialEq, Eq)]
@@ -33,15 +34,18 @@ pub enum Delivery {
 
 /// Delivers the signal of a fault, which ends the process where it is masked or ignored; else drops the pending signals
 /// that would do nothing, and delivers the lowest that is left and not masked (signal(7)). A call that waits is over
-/// before a handler runs.
+/// before a handler runs. At want of memory for its frame nothing is delivered, and all stays.
 #[tactic(auto, unfolding(crate::specs::Delivery::delivery_of))]
 pub fn deliver(
     machine: &mut Machine,
     sig: &mut Sig,
     forced: Option<u8>,
     call: CallState,
-) -> Delivery
-    ensures delivered { delivery_of forced call sig.old machine.old ≡ delivery_result result sig.new machine.new }
+) -> Result<Delivery, NoMemory>
+    ensures delivered { IfOk result (λ delivery.
+        delivery_of forced call sig.old machine.old ≡ delivery_result delivery sig.new machine.new) }
+    ensures machine { OnErr result (machine.new ≡ machine.old) }
+    ensures signals { OnErr result (sig.new ≡ sig.old) }
     ensures sound { IsMachine machine.old → IsMachine machine.new }
 {
     match forced {
@@ -51,46 +55,83 @@ pub fn deliver(
 }
 
 // Delivers the signal of a fault.
-fn force(machine: &mut Machine, sig: &mut Sig, signal: u8, call: CallState) -> Delivery
-    ensures forced { forced_delivery sig.old signal call machine.old ≡ delivery_result result sig.new machine.new }
+fn force(
+    machine: &mut Machine,
+    sig: &mut Sig,
+    signal: u8,
+    call: CallState,
+) -> Result<Delivery, NoMemory>
+    ensures forced { IfOk result (λ delivery.
+        forced_delivery sig.old signal call machine.old ≡ delivery_result delivery sig.new machine.new) }
+    ensures machine { OnErr result (machine.new ≡ machine.old) }
+    ensures signals { OnErr result (sig.new ≡ sig.old) }
     ensures sound { IsMachine machine.old → IsMachine machine.new }
 {
     if !is_signal(signal) || is_in(signal, sig.mask) {
-        return Delivery::Ends(signal);
+        return Ok(Delivery::Ends(signal));
     }
     act(machine, sig, signal, call)
 }
 
 // Delivers the lowest pending signal that can be delivered.
 #[tactic(auto, unfolding(crate::specs::Delivery::delivery_of))]
-fn deliver_pending(machine: &mut Machine, sig: &mut Sig, call: CallState) -> Delivery
-    ensures delivered { delivery_of None call sig.old machine.old ≡ delivery_result result sig.new machine.new }
+fn deliver_pending(
+    machine: &mut Machine,
+    sig: &mut Sig,
+    call: CallState,
+) -> Result<Delivery, NoMemory>
+    ensures delivered { IfOk result (λ delivery.
+        delivery_of None call sig.old machine.old ≡ delivery_result delivery sig.new machine.new) }
+    ensures machine { OnErr result (machine.new ≡ machine.old) }
+    ensures signals { OnErr result (sig.new ≡ sig.old) }
     ensures sound { IsMachine machine.old → IsMachine machine.new }
 {
+    let pending = sig.pending;
     sig.drop_ignored();
     match sig.deliverable() {
         Some(signal) => {
             sig.take(signal);
-            act(machine, sig, signal, call)
+            match act(machine, sig, signal, call) {
+                Ok(delivery) => Ok(delivery),
+                Err(error) => {
+                    sig.pending = pending;
+                    Err(error)
+                }
+            }
         }
-        None => Delivery::Nothing,
+        None => Ok(Delivery::Nothing),
     }
 }
 
 // A signal acts: its handler is entered, or it ends the process.
-fn act(machine: &mut Machine, sig: &mut Sig, signal: u8, call: CallState) -> Delivery
+fn act(
+    machine: &mut Machine,
+    sig: &mut Sig,
+    signal: u8,
+    call: CallState,
+) -> Result<Delivery, NoMemory>
     requires least { 1 ≤ signal }
     requires greatest { signal ≤ SIGNAL_LIMIT }
-    ensures acted { action_result sig.old signal (action_of sig.old signal) call machine.old
-        ≡ delivery_result result sig.new machine.new }
+    ensures acted { IfOk result (λ delivery. action_result sig.old signal (action_of sig.old signal) call machine.old
+        ≡ delivery_result delivery sig.new machine.new) }
+    ensures machine { OnErr result (machine.new ≡ machine.old) }
+    ensures signals { OnErr result (sig.new ≡ sig.old) }
     ensures sound { IsMachine machine.old → IsMachine machine.new }
 {
     let action = sig.action(signal);
     if !action.has_handler() {
-        return Delivery::Ends(signal);
+        return Ok(Delivery::Ends(signal));
     }
+    let (regs, pc) = (machine.regs, machine.pc);
     interrupt(machine, call, action);
-    enter(machine, sig, signal, action)
+    match enter(machine, sig, signal, action) {
+        Ok(delivery) => Ok(delivery),
+        Err(error) => {
+            machine.regs = regs;
+            machine.pc = pc;
+            Err(error)
+        }
+    }
 }
 
 // Ends the call that waits: with how many bytes it has moved, else it is made again or refused.
@@ -110,16 +151,26 @@ fn interrupt(machine: &mut Machine, call: CallState, action: Action)
 }
 
 // Enters a handler, if its frame can be written.
-fn enter(machine: &mut Machine, sig: &mut Sig, signal: u8, action: Action) -> Delivery
+fn enter(
+    machine: &mut Machine,
+    sig: &mut Sig,
+    signal: u8,
+    action: Action,
+) -> Result<Delivery, NoMemory>
     requires least { 1 ≤ signal }
     requires greatest { signal ≤ SIGNAL_LIMIT }
-    ensures entered { handler_entry sig.old signal action machine.old ≡ delivery_result result sig.new machine.new }
+    ensures entered { IfOk result (λ delivery.
+        handler_entry sig.old signal action machine.old ≡ delivery_result delivery sig.new machine.new) }
+    ensures machine { OnErr result (machine.new ≡ machine.old) }
+    ensures signals { OnErr result (sig.new ≡ sig.old) }
     ensures sound { IsMachine machine.old → IsMachine machine.new }
 {
     let at = frame_address(machine.reg(SP));
     let frame = frame_of(signal, machine, sig.mask);
-    if machine.space.write_bytes(at, &frame).is_err() {
-        return Delivery::Ends(SIGSEGV);
+    match machine.space.write_bytes(at, &frame) {
+        Ok(()) => {}
+        Err(WriteErr::Miss(_)) => return Ok(Delivery::Ends(SIGSEGV)),
+        Err(WriteErr::NoMemory) => return Err(NoMemory),
     }
     machine.regs[usize::from(SP)] = at;
     machine.regs[usize::from(RA)] = TRAMPOLINE;
@@ -128,5 +179,5 @@ fn enter(machine: &mut Machine, sig: &mut Sig, signal: u8, action: Action) -> De
     machine.regs[usize::from(A2)] = 0;
     machine.pc = action.handler;
     sig.set_mask(sig.mask | action.mask | bit_of(signal));
-    Delivery::Handler
+    Ok(Delivery::Handler)
 }

@@ -425,7 +425,7 @@ fn loaded(alloc: Global, number: i64) -> Result<(u64, u32), Fail> {
     let mut machine = start_machine(alloc, file.get(HEADERS..).unwrap_or(&[]))?;
     let mut ran = 0;
     for step in 1..10 {
-        if machine.step() != Step::Ran {
+        if machine.step()? != Step::Ran {
             break;
         }
         ran = step;

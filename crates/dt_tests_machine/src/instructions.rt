@@ -23,7 +23,7 @@ fn each_vector_is_met(rt: HostRuntime) -> Result<(), Fail> {
         let b = number(fields.next())?;
         let expected = number(fields.next())?;
         let mut machine = machine_before(rt.alloc(), word, a, b)?;
-        same(&rt, machine.step(), Step::Ran);
+        same(&rt, machine.step()?, Step::Ran);
         same_at(&rt, (word, a, b), result_of(&machine, word)?, expected);
     }
     Ok(())

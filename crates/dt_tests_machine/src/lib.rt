@@ -35,6 +35,8 @@ mod running;
 #[cfg(test)]
 mod segments;
 #[cfg(test)]
+mod sharing;
+#[cfg(test)]
 mod sizes;
 #[cfg(test)]
 mod spaces;

@@ -7,12 +7,13 @@ ghost use Rattle.dt_space.specs.Space.{byte_at};
 
 use crate::expect::same;
 use crate::files::start_hello;
+use dt_base::NoMemory;
 use dt_rv64::{Machine, Step};
 use dt_space::Miss;
 use std::test::Fail;
 
 // Ends the read of a counter and a call, and takes a step.
-fn go_on(machine: &mut Machine, rd: u8, value: u64) -> Step
+fn go_on(machine: &mut Machine, rd: u8, value: u64) -> Result<Step, NoMemory>
     ensures { IsMachine machine.old → IsMachine machine.new }
 {
     machine.read_counter(rd, value);
@@ -38,9 +39,9 @@ fn far_words() -> (u64, u64)
 #[test]
 fn a_machine_stays_one(rt: HostRuntime) -> Result<(), Fail> {
     let mut machine = start_hello(rt.alloc())?;
-    same(&rt, go_on(&mut machine, 0, 7), Step::Ran);
+    same(&rt, go_on(&mut machine, 0, 7)?, Step::Ran);
     same(&rt, machine.reg(0), 0);
-    same(&rt, go_on(&mut machine, 5, u64::MAX), Step::Call);
+    same(&rt, go_on(&mut machine, 5, u64::MAX)?, Step::Call);
     same(&rt, machine.reg(5), u64::MAX);
     Ok(())
 }

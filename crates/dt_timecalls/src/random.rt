@@ -9,7 +9,7 @@ use dt_base::abi::{GRND_ALL, byte_count, low_word};
 use dt_base::{Answer, Caller, Errno};
 use dt_callbase::Fs;
 use dt_host::{Host, HostErr};
-use dt_space::Space;
+use dt_space::{Space, WriteErr};
 use std::alloc::Global;
 
 /// getrandom(2): fills a buffer with the next bytes of the seed's words, and answers how many these are: the length,
@@ -62,6 +62,7 @@ fn draw<H: Host>(
     fs.rand.fill(&mut bytes);
     match space.write_bytes(buffer, &bytes) {
         Ok(()) => Ok(Answer::Value(count)),
-        Err(_) => unreachable!(),
+        Err(WriteErr::Miss(_)) => unreachable!(),
+        Err(WriteErr::NoMemory) => Err(HostErr::NoMemory),
     }
 }

@@ -15,7 +15,7 @@ use dt_base::{Answer, Caller, Errno, put64};
 use dt_callbase::Fs;
 use dt_callbase::wall_time::{FIRST_SECOND, NANOSECONDS, SECOND_TICKS};
 use dt_host::{Host, HostErr};
-use dt_space::{Space, fill_unless_null, is_writable_or_null};
+use dt_space::{Space, WriteErr, fill_unless_null, is_writable_or_null};
 use dt_virt::{Clock, TICK_LIMIT};
 
 /// Nanoseconds of a microsecond.
@@ -166,8 +166,10 @@ fn tell_time<H: Host>(
         (stage fs.old (H.view host.now) caller.now space.old) (stage fs.new (H.view host.now) caller.now space.new)
         result (H.count host.now) (H.count host.now) }
 {
-    if space.write_bytes(buffer, bytes).is_err() {
-        return Ok(Answer::Refused(Errno::Fault));
+    match space.write_bytes(buffer, bytes) {
+        Ok(()) => {}
+        Err(WriteErr::Miss(_)) => return Ok(Answer::Refused(Errno::Fault)),
+        Err(WriteErr::NoMemory) => return Err(HostErr::NoMemory),
     }
     fs.clock.read();
     Ok(Answer::Value(0))
@@ -214,9 +216,9 @@ fn tell_time_of_day<H: Host>(
         (H.count host.now) (H.count host.now) }
 {
     if time != 0 {
-        fill_unless_null(space, time, &timeval(fs.clock.read()));
+        fill_unless_null(space, time, &timeval(fs.clock.read()))?;
     }
-    fill_unless_null(space, zone, &[0; TIMEZONE_LEN]);
+    fill_unless_null(space, zone, &[0; TIMEZONE_LEN])?;
     Ok(Answer::Value(0))
 }
 

@@ -1,6 +1,5 @@
 // A slot: a machine on loan, and its segment.
-ghost use Rattle.std.specs.Prelude.{◌≡◌};
-ghost use Rattle.dt_workers.specs.Slots.{slot_after};
+ghost use Rattle.dt_workers.specs.Slots.{IsSlotAfter};
 
 use dt_base::NoMemory;
 use dt_rv64::{Hints, Machine, Seg, segment};
@@ -15,9 +14,8 @@ pub struct Slot {
 
 impl Slot {
     // Runs the segment of its machine, with what was kept from others.
-    #[tactic(auto, unfolding(crate::specs::Slots::slot_after))]
     pub(crate) fn run(&mut self, hints: &mut Hints)
-        ensures { self.new ≡ slot_after self.old }
+        ensures { IsSlotAfter self.old self.new }
     {
         self.result = Some(segment(&mut self.machine, hints));
     }

@@ -21,6 +21,7 @@ use dt_base::{Errno, NoMemory};
 use dt_host::{Host, HostErr};
 use dt_procs::ProcErr;
 use dt_rv64::Machine;
+use dt_space::WriteErr;
 use std::alloc::Global;
 
 /// clone(2) of a process (fork(2)): EAGAIN where 64 processes and zombies are there.
@@ -59,11 +60,15 @@ fn is_supported(flags: u64) -> bool
 }
 
 // The machine with a pid at an address, if a flag asks for it; an address that can't be written is ignored.
-fn put_pid(machine: &mut Machine, flag: bool, address: u64, vpid: u32)
-    ensures { machine.new ≡ with_pid flag address vpid machine.old }
+fn put_pid(machine: &mut Machine, flag: bool, address: u64, vpid: u32) -> Result<(), NoMemory>
+    ensures { OnOk result (machine.new ≡ with_pid flag address vpid machine.old) }
 {
-    if flag {
-        let _ = machine.space.write_bytes(address, &vpid.to_le_bytes());
+    if !flag {
+        return Ok(());
+    }
+    match machine.space.write_bytes(address, &vpid.to_le_bytes()) {
+        Ok(()) | Err(WriteErr::Miss(_)) => Ok(()),
+        Err(WriteErr::NoMemory) => Err(NoMemory),
     }
 }
 
@@ -96,7 +101,7 @@ fn copy_machine(alloc: Global, machine: &mut Machine, vpid: u32) -> Result<Effec
         flags & CLONE_CHILD_SETTID == CLONE_CHILD_SETTID,
         machine.reg(A4),
         vpid,
-    );
+    )?;
     let address = machine.reg(A2);
     machine.answer(u64::from(vpid));
     put_pid(
@@ -104,7 +109,7 @@ fn copy_machine(alloc: Global, machine: &mut Machine, vpid: u32) -> Result<Effec
         flags & CLONE_PARENT_SETTID == CLONE_PARENT_SETTID,
         address,
         vpid,
-    );
+    )?;
     Ok(Effect {
         child: Some(child),
         events: Vec::new(alloc),

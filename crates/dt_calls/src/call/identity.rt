@@ -12,6 +12,7 @@ use crate::shared::Shared;
 use dt_base::abi::{A0, A1, ROBUST_LIST_SIZE};
 use dt_base::{Errno, NoMemory};
 use dt_rv64::Machine;
+use dt_space::WriteErr;
 use std::alloc::Global;
 
 /// Tells the process's pid, which is also the id of its one thread (getpid(2), gettid(2), set_tid_address(2)).
@@ -58,10 +59,11 @@ pub fn uname(alloc: Global, machine: &mut Machine) -> Result<Effect, NoMemory>
 {
     let name = utsname(alloc)?;
     let buffer = machine.reg(A0);
-    if machine.space.write_bytes(buffer, &name).is_err() {
-        return Ok(Effect::refused(alloc, machine, Errno::Fault));
+    match machine.space.write_bytes(buffer, &name) {
+        Ok(()) => Ok(Effect::done(alloc, machine, 0)),
+        Err(WriteErr::Miss(_)) => Ok(Effect::refused(alloc, machine, Errno::Fault)),
+        Err(WriteErr::NoMemory) => Err(NoMemory),
     }
-    Ok(Effect::done(alloc, machine, 0))
 }
 
 // A `struct utsname`: system, node, release, version, machine, domain.

@@ -1,5 +1,5 @@
 // The calls of a process on its own signals.
-ghost use Rattle.std.specs.Prelude.{◌≡◌, None, IsSome, IfOk};
+ghost use Rattle.std.specs.Prelude.{◌≡◌, None, IsSome, IfOk, OnOk};
 ghost use Rattle.std.specs.FinMap.{get};
 ghost use Rattle.dt_host.specs.World.{World};
 ghost use Rattle.dt_sigcalls.specs.Sigaction.{sigaction_of};
@@ -35,10 +35,10 @@ pub fn rt_sigaction(
     ensures served { (w : World) → IfOk result
         (λ e. sigaction_call (shared_of shared.old w) vpid machine.old
         ≡ effect_as (shared_of shared.new w) machine.new e) }
-    ensures kept { ChangesTasks shared.old shared.new }
+    ensures kept { OnOk result (ChangesTasks shared.old shared.new) }
     ensures child { IfOk result (λ e. e.child ≡ None) }
 {
-    let answer = change_action(&mut shared.tasks, vpid, machine);
+    let answer = change_action(&mut shared.tasks, vpid, machine)?;
     give_answer(alloc, machine, RT_SIGACTION, answer)
 }
 
@@ -54,10 +54,10 @@ pub fn rt_sigprocmask(
     ensures served { (w : World) → IfOk result
         (λ e. sigprocmask_call (shared_of shared.old w) vpid machine.old
         ≡ effect_as (shared_of shared.new w) machine.new e) }
-    ensures kept { ChangesTasks shared.old shared.new }
+    ensures kept { OnOk result (ChangesTasks shared.old shared.new) }
     ensures child { IfOk result (λ e. e.child ≡ None) }
 {
-    let answer = change_mask(&mut shared.tasks, vpid, machine);
+    let answer = change_mask(&mut shared.tasks, vpid, machine)?;
     give_answer(alloc, machine, RT_SIGPROCMASK, answer)
 }
 
@@ -84,11 +84,15 @@ pub fn rt_sigreturn<H: Host>(
 }
 
 // Does what rt_sigaction asks for.
-fn change_action(tasks: &mut Numbered<Task>, vpid: u32, machine: &mut Machine) -> Answer
+fn change_action(
+    tasks: &mut Numbered<Task>,
+    vpid: u32,
+    machine: &mut Machine,
+) -> Result<Answer, NoMemory>
     requires { IsSome (get tasks.old vpid) }
-    ensures { CalledAt (sigaction_of (task_in tasks.old vpid).signals machine.old.space
+    ensures { IfOk result (CalledAt (sigaction_of (task_in tasks.old vpid).signals machine.old.space
         (register machine.old A0) (register machine.old A1) (register machine.old A2) (register machine.old A3))
-        vpid tasks.old tasks.new machine.old machine.new result }
+        vpid tasks.old tasks.new machine.old machine.new) }
 {
     let (number, act) = (machine.reg(A0), machine.reg(A1));
     let (old, size) = (machine.reg(A2), machine.reg(A3));
@@ -106,11 +110,15 @@ fn change_action(tasks: &mut Numbered<Task>, vpid: u32, machine: &mut Machine) -
 }
 
 // Does what rt_sigprocmask asks for.
-fn change_mask(tasks: &mut Numbered<Task>, vpid: u32, machine: &mut Machine) -> Answer
+fn change_mask(
+    tasks: &mut Numbered<Task>,
+    vpid: u32,
+    machine: &mut Machine,
+) -> Result<Answer, NoMemory>
     requires { IsSome (get tasks.old vpid) }
-    ensures { CalledAt (sigprocmask_of (task_in tasks.old vpid).signals machine.old.space
+    ensures { IfOk result (CalledAt (sigprocmask_of (task_in tasks.old vpid).signals machine.old.space
         (register machine.old A0) (register machine.old A1) (register machine.old A2) (register machine.old A3))
-        vpid tasks.old tasks.new machine.old machine.new result }
+        vpid tasks.old tasks.new machine.old machine.new) }
 {
     let (how, set) = (machine.reg(A0), machine.reg(A1));
     let (old, size) = (machine.reg(A2), machine.reg(A3));

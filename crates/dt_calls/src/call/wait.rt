@@ -117,7 +117,7 @@ fn reap<H: Host>(
     let _next = shared.pids.next();
     let which = which_child(low_word(machine.reg(A0)));
     shared.pids.wait_for(host, vpid, which)?;
-    fill_unless_null(&mut machine.space, status, &status_of(end).to_le_bytes());
-    fill_unless_null(&mut machine.space, usage, &[0; RUSAGE_SIZE]);
+    fill_unless_null(&mut machine.space, status, &status_of(end).to_le_bytes())?;
+    fill_unless_null(&mut machine.space, usage, &[0; RUSAGE_SIZE])?;
     Ok(Effect::done(alloc, machine, u64::from(child)))
 }

@@ -1,6 +1,6 @@
 -- Inner words: the machines of the processes that owe a segment, in slots while workers run these.
 use Rattle.std.specs.Prelude.{◌≡◌, ◌≤◌, ◌+◌, ℕ, List, [], ◌∷◌, map, length, Some, IsSome}
-use Rattle.std.specs.List.{AllByRecursion}
+use Rattle.std.specs.List.{AllByRecursion, AllZip}
 use Rattle.std.specs.FinMap.{get, insert}
 use Rattle.dt_host.specs.World.{World}
 use Rattle.dt_rv64.specs.declared.machine.Machine.{Machine}
@@ -9,7 +9,7 @@ use Rattle.dt_sched.specs.Core.{owing_vpids, core_after_arrival}
 use Rattle.dt_calls.specs.AtHome.{Places}
 use Rattle.dt_calls.specs.Sound.{IsSoundContainer}
 use Rattle.dt_workers.specs.declared.slot.Slot.{Slot}
-use Rattle.dt_workers.specs.Slots.{slot_after}
+use Rattle.dt_workers.specs.Slots.{IsSlotAfter}
 use Rattle.dt_run.specs.declared.state.State.{State}
 use Rattle.dt_run.specs.Ahead.{with_all_segments}
 use Rattle.dt_run.specs.inner.InCode.{state_of}
@@ -46,11 +46,11 @@ pub record HasLent (before : State) (slots : List Slot) (now : State) : Type 0 w
   pub places : HavePlaces now.container.places (slot_vpids slots)
   pub home : with_slots slots now ≡ before
 
--- slots were lent and their segments run, of which some have arrived and these have not: with the machines that they had
--- the run is good and sound, and the same as before once all segments were run
+-- slots were lent and their segments run, or cut short by want of memory; some have arrived, and these have not: with the
+-- machines that they had the run is good and sound, and the same as before once all segments were run
 pub record IsRound (before : State) (slots : List Slot) (now : State) : Type 0 where
   pub lent : List Slot
-  pub ran : slots ≡ map slot_after lent
+  pub ran : AllZip IsSlotAfter lent slots
   pub vpids : slot_vpids lent ≡ owing_vpids now.core.queue
   pub places : HavePlaces now.container.places (slot_vpids lent)
   pub good : IsGood (with_slots lent now)

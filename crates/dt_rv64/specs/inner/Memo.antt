@@ -8,3 +8,7 @@ use Rattle.dt_rv64.specs.Instruction.{instr}
 abbrev pub AreDecoded : List Entry → Type 0
 AreDecoded entries =
     (i : ℕ) → let e = slice_index_or entries i (record { word = 0; instruction = Unknown }) in instr e.word ≡ e.instruction
+
+-- the word that stands at an index
+abbrev pub word_at : List Entry → ℕ → ℕ
+word_at entries index = let e = slice_index_or entries index (record { word = 0; instruction = Unknown }) in e.word

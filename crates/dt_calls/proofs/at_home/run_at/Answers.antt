@@ -13,8 +13,8 @@ pub unreachable-requires : goal.unreachable-requires
 unreachable-requires c =
     not-missing c.args.places.now c.args.vpid (ap (get c.args.places.now) (sym c.from.ensures) ∙ sym c.get_mut.ensures.value ∙ ap option_copied_mut c.in-None.is) c.requires
 
-pub returns-clause-run : goal.returns-clause-run
-returns-clause-run c =
+pub returns : goal.returns
+returns c =
     let there : get c.args.places.now c.args.vpid ≡ Some c.in-Some.place.now = ap (get c.args.places.now) (sym c.from.ensures) ∙ sym c.get_mut.ensures.value ∙ ap option_copied_mut c.in-Some.is in
     all-runs c.args.places.now _ c.args.vpid c.in-Some.place.now c.run_in.new.place c.run_in.result there
     (ap (λ n. insert c.args.places.now n c.run_in.new.place) c.from.ensures)

@@ -39,7 +39,7 @@ returns-in-Nothing g c =
     let forced = c.forced_signal-forced.result in
     subst (λ (f : Option ℕ). HasEffect p (effect_after_delivery f p defined) shared (left (record mid { tasks = c.deliver_at.new.tasks }) v c.deliver_at.new.machine) (Ok e) (g.H.Host.count c.args.host.now) (g.H.Host.count c.serve_stop.new.host)) c.forced_signal-forced.ensures
     (serves-nothing p forced defined shared mid v c.serve_stop.new.machine e (g.H.Host.count c.args.host.now) (g.H.Host.count c.serve_stop.new.host)
-    c.in_ok-effect.ensures takes lives c.deliver_at.new.tasks c.deliver_at.new.machine c.deliver_at.result c.deliver_at.ensures c.in-Nothing.is)
+    c.in_ok-effect.ensures takes lives c.deliver_at.new.tasks c.deliver_at.new.machine c.in_ok-deliver_at.field-0 c.in_ok-deliver_at.ensures c.in-Nothing.is)
 
 pub returns-in-Handler : goal.returns-in-Handler
 returns-in-Handler g c =
@@ -56,7 +56,7 @@ returns-in-Handler g c =
     let forced = c.forced_signal-forced.result in
     subst (λ (f : Option ℕ). HasEffect p (effect_after_delivery f p defined) shared (left (record mid { tasks = c.deliver_at.new.tasks }) v c.deliver_at.new.machine) (Ok (record e { served = c.at_handler-effect.result })) (g.H.Host.count c.args.host.now) (g.H.Host.count c.serve_stop.new.host)) c.forced_signal-forced.ensures
     (serves-handler p forced defined shared mid v c.serve_stop.new.machine e (g.H.Host.count c.args.host.now) (g.H.Host.count c.serve_stop.new.host)
-    c.in_ok-effect.ensures takes lives c.deliver_at.new.tasks c.deliver_at.new.machine c.deliver_at.result c.deliver_at.ensures c.at_handler-effect.result c.in-Handler.is c.at_handler-effect.ensures)
+    c.in_ok-effect.ensures takes lives c.deliver_at.new.tasks c.deliver_at.new.machine c.in_ok-deliver_at.field-0 c.in_ok-deliver_at.ensures c.at_handler-effect.result c.in-Handler.is c.at_handler-effect.ensures)
 
 pub end-requires-clause-sound : goal.end-requires-clause-sound
 end-requires-clause-sound g c =
@@ -72,7 +72,7 @@ end-requires-clause-sound g c =
     let lives = c.in_ok-effect.ensures.kept.tasks p (takes-lives p e.served p takes) c.requires.lives in
     let forced = c.forced_signal-forced.result in
     let kept = keeps-delivered p forced defined shared mid v c.serve_stop.new.machine e (g.H.Host.count c.args.host.now) (g.H.Host.count c.serve_stop.new.host)
-    c.in_ok-effect.ensures takes lives c.deliver_at.new.tasks c.deliver_at.new.machine c.deliver_at.result c.deliver_at.ensures in
+    c.in_ok-effect.ensures takes lives c.deliver_at.new.tasks c.deliver_at.new.machine c.in_ok-deliver_at.field-0 c.in_ok-deliver_at.ensures in
     kept.sound
 
 pub end-requires-clause-lives : goal.end-requires-clause-lives
@@ -89,7 +89,7 @@ end-requires-clause-lives g c =
     let lives = c.in_ok-effect.ensures.kept.tasks p (takes-lives p e.served p takes) c.requires.lives in
     let forced = c.forced_signal-forced.result in
     let kept = keeps-delivered p forced defined shared mid v c.serve_stop.new.machine e (g.H.Host.count c.args.host.now) (g.H.Host.count c.serve_stop.new.host)
-    c.in_ok-effect.ensures takes lives c.deliver_at.new.tasks c.deliver_at.new.machine c.deliver_at.result c.deliver_at.ensures in
+    c.in_ok-effect.ensures takes lives c.deliver_at.new.tasks c.deliver_at.new.machine c.in_ok-deliver_at.field-0 c.in_ok-deliver_at.ensures in
     kept.tasks p lives
 
 pub returns-in_ok-end-in-Ends : goal.returns-in_ok-end-in-Ends
@@ -109,5 +109,5 @@ returns-in_ok-end-in-Ends g c =
     let later = c.end.ensures.cause.later in
     subst (λ (f : Option ℕ). HasEffect p (effect_after_delivery f p defined) shared (left c.end.new.shared (g.H.Host.view c.end.new.host) c.deliver_at.new.machine) (Ok c.end.new.self) (g.H.Host.count c.args.host.now) (g.H.Host.count c.end.new.host)) c.forced_signal-forced.ensures
     (serves-signal p forced defined shared mid v c.serve_stop.new.machine e (g.H.Host.count c.args.host.now) (g.H.Host.count c.serve_stop.new.host)
-    c.in_ok-effect.ensures takes lives c.deliver_at.new.tasks c.deliver_at.new.machine c.deliver_at.result c.deliver_at.ensures c.in-Ends.signal c.end.new.shared (g.H.Host.view c.end.new.host) c.end.new.self (g.H.Host.count c.end.new.host) c.in-Ends.is
+    c.in_ok-effect.ensures takes lives c.deliver_at.new.tasks c.deliver_at.new.machine c.in_ok-deliver_at.field-0 c.in_ok-deliver_at.ensures c.in-Ends.signal c.end.new.shared (g.H.Host.view c.end.new.host) c.end.new.self (g.H.Host.count c.end.new.host) c.in-Ends.is
     (done.ended c.deliver_at.new.machine) done.sound done.next (λ q first apart. done.others q first apart) later)

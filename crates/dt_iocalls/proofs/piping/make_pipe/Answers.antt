@@ -17,8 +17,8 @@ unreachable-requires g c =
     no-refusal c.args.caller.now.vpid c.args.flags (holding_at (at fs.files fs.tree w)) c.args.ends _ c.pipe.result c.in-Err-Errno.field-0-0 c.requires.free made.made
     (c.in-Err-Errno.is ∙ ap Err c.in-Err-Errno.field-0-is)
 
-pub returns : goal.returns
-returns g c =
+pub returns-in-Ok-write_bytes : goal.returns-in-Ok-write_bytes
+returns-in-Ok-write_bytes g c =
     let w = g.H.Host.view c.args.host.now in
     let v = g.H.Host.view c.pipe.new.host in
     let fs = c.args.fs.now in

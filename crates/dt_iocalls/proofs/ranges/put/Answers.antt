@@ -3,8 +3,10 @@ use Rattle.dt_iocalls.proofs.ranges.put.Goals as goal
 
 pub unreachable-requires : goal.unreachable-requires
 unreachable-requires c =
-    scattered-missed c.loop-range.space _ c.args.ranges.now c.loop-range.range-index _ c.loop-range.left.now c.divided.result.0.now _
-    c.loop-range-test.true c.divided.ensures.first c.in-Err.ensures.stored c.loop-range.invariant c.requires
+    let stored = c.in-Err-Miss.ensures.stored in
+    let missed = rw c.in-Err-Miss.field-0-is at stored in
+    scattered-missed c.loop-range.space _ c.args.ranges.now c.loop-range.range-index _ c.loop-range.left.now c.divided.result.0.now c.in-Err-Miss.field-0-0
+    c.loop-range-test.true c.divided.ensures.first missed c.loop-range.invariant c.requires
 
 pub loop-range-preserved : goal.loop-range-preserved
 loop-range-preserved c =

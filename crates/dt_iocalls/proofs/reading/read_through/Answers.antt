@@ -61,5 +61,5 @@ returns g c =
     let call = pipe_read_call p c.args.fd (length c.args.buf.now) in
     let fewer : pipe_read_call p c.args.fd most h ≡ call h = sym (call-fewer h p c.args.fd most held c.requires.of_pipe refl) ∙ ap (λ n. pipe_read_call p c.args.fd n h) (sym c.requires.size) in
     reaches_same (pipe_read_reply c.args.fd c.args.ranges.now s) (flow_reply (record s { space = pages }) (call h)) (stage fs w c.args.caller.now c.args.space.now) new _ (g.H.Host.count c.args.host.now) (g.H.Host.count c.pipe_read.new.host)
-    (read-done c.args.fd c.args.ranges.now s (call h) c.pipe_read.new.buf pages (no_zero most c.requires.some) fewer (sym came) c.put.ensures)
+    (read-done c.args.fd c.args.ranges.now s (call h) c.pipe_read.new.buf pages (no_zero most c.requires.some) fewer (sym came) c.in_ok-put.ensures)
     (reaches_made fs c.pipe_read.new.self w v c.args.caller.now c.args.space.now pages call c.pipe_read.result c.in_ok-answer.answer (g.H.Host.count c.args.host.now) (g.H.Host.count c.pipe_read.new.host) c.requires.sound made is)

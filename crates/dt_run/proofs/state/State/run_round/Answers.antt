@@ -1,9 +1,13 @@
-use Rattle.std.proofs.Common.{◌<◌, length, sym, subst, ◌∙◌, arith}
+use Rattle.std.proofs.Common.{◌≡◌, ◌<◌, length, sym, ap, subst, ◌∙◌, arith}
 use Rattle.std.specs.Prelude.{IsSome}
 use Rattle.std.proofs.lemmas.Bool.Decides.{nat_tests}
 use Rattle.std.specs.FinMap.{get}
 use Rattle.std.specs.List.{Contains}
+use Rattle.dt_host.specs.World.{World}
 use Rattle.dt_sched.specs.Core.{owing_vpids}
+use Rattle.dt_calls.specs.Sound.{IsSoundContainer}
+use Rattle.dt_run.specs.Ahead.{with_all_segments}
+use Rattle.dt_run.specs.inner.InCode.{state_of}
 use Rattle.dt_run.specs.inner.Good.{IsGood}
 use Rattle.dt_run.specs.inner.Round.{with_slots}
 use Rattle.dt_run.proofs.Arriving.{run-counts}
@@ -74,3 +78,24 @@ returns-clause-good g c =
     subst (λ slots. IsGood (with_slots slots c.loop-host.self))
     (none-lent c.args.self.now c.loop-host.self c.loop-host.slots.items c.loop-host.invariant.round (grind (arith, nat_tests, c.is_empty.ensures, c.loop-host-test.false)))
     c.loop-host.invariant.round.good
+
+pub returns-clause-alike : goal.returns-clause-alike
+returns-clause-alike g c =
+    let before = c.args.self.now in
+    let now = c.loop-host.self in
+    let w = g.H.Host.view c.loop-host.host in
+    let round = c.loop-host.invariant.round in
+    subst (λ slots. with_all_segments (state_of (with_slots slots now) w) ≡ with_all_segments (state_of before w))
+    (none-lent before now c.loop-host.slots.items round (grind (arith, nat_tests, c.is_empty.ensures, c.loop-host-test.false)))
+    (round.alike w)
+    ∙ ap (λ (v : World). with_all_segments (state_of before v)) c.loop-host.invariant.stays
+
+pub returns-clause-sound : goal.returns-clause-sound
+returns-clause-sound g c = λ was.
+    let before = c.args.self.now in
+    let now = c.loop-host.self in
+    let w = g.H.Host.view c.loop-host.host in
+    let round = c.loop-host.invariant.round in
+    subst (λ slots. IsSoundContainer (let s = with_slots slots now in s.container) w)
+    (none-lent before now c.loop-host.slots.items round (grind (arith, nat_tests, c.is_empty.ensures, c.loop-host-test.false)))
+    (round.sound w (subst (IsSoundContainer before.container) (sym c.loop-host.invariant.stays) was))
