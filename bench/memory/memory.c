@@ -1,14 +1,30 @@
-/* Pages that come and go: memory start COUNT executes itself anew, COUNT times; memory KIND COUNT PAGES holds so many
- * pages, and has a page come and go COUNT times: brk-above moves the break up and down with the pages below it, brk-below
- * with the pages mapped above it, map-above and map-below map a page and unmap it, above the pages and below them. Its
- * path is /memory. It needs no C library. build.sh has the command line of its compiler. */
+/* Pages that come and go. Its path is /memory, it needs no C library, and build.sh has the command line of its compiler.
+ *
+ * memory start COUNT executes itself anew, COUNT times. memory KIND COUNT PAGES does COUNT times what its kind says:
+ * brk-above, brk-below  a page comes and goes at the break, with so many pages below it or mapped above it;
+ * map-above, map-below  a page is mapped and unmapped, above so many pages or below them;
+ * fresh                 so many pages are mapped and unmapped, which nobody writes;
+ * children              a process that has written so many pages makes a child, which ends at once, and waits for it;
+ * stores                the same, but the child writes to each of these pages;
+ * readers               COUNT children at a time read each of these pages. */
 
 typedef unsigned long u64;
 typedef long i64;
 
-enum { SYS_exit = 93, SYS_brk = 214, SYS_munmap = 215, SYS_execve = 221, SYS_mmap = 222 };
+enum {
+    SYS_close = 57,
+    SYS_pipe2 = 59,
+    SYS_read = 63,
+    SYS_exit = 93,
+    SYS_brk = 214,
+    SYS_munmap = 215,
+    SYS_clone = 220,
+    SYS_execve = 221,
+    SYS_mmap = 222,
+    SYS_wait4 = 260
+};
 
-enum { PROT_READ_WRITE = 3, MAP_PRIVATE_ANONYMOUS = 0x22, PAGE = 4096 };
+enum { PROT_READ_WRITE = 3, MAP_PRIVATE_ANONYMOUS = 0x22, PAGE = 4096, SIGCHLD = 17 };
 
 /* The digits of a count. */
 static char digits[24];
@@ -128,29 +144,115 @@ static void start(char **argv, u64 count)
     call(SYS_exit, 3, 0, 0, 0);
 }
 
+/* Writes a byte to each page, or reads one. */
+static void store(i64 address, u64 pages)
+{
+    for (u64 page = 0; page < pages; page++)
+        *(volatile char *)(address + (i64)(page * PAGE)) = 1;
+}
+
+static void load(i64 address, u64 pages)
+{
+    for (u64 page = 0; page < pages; page++)
+        (void)*(volatile char *)(address + (i64)(page * PAGE));
+}
+
+/* Makes a child, which touches each page and ends. */
+static void make_child(void (*touch)(i64, u64), i64 address, u64 pages)
+{
+    i64 child = call(SYS_clone, SIGCHLD, 0, 0, 0);
+    if (child < 0)
+        call(SYS_exit, 3, 0, 0, 0);
+    if (child > 0)
+        return;
+    touch(address, pages);
+    call(SYS_exit, 0, 0, 0, 0);
+}
+
+static void wait_for_child(void)
+{
+    if (call(SYS_wait4, -1, 0, 0, 0) < 0)
+        call(SYS_exit, 3, 0, 0, 0);
+}
+
+/* Makes so many children one after another, each of which touches so many pages of those that were written. */
+static void children(u64 count, u64 pages, void (*touch)(i64, u64), u64 touched)
+{
+    i64 address = map(pages);
+    store(address, pages);
+    for (u64 turn = 0; turn < count; turn++) {
+        make_child(touch, address, touched);
+        wait_for_child();
+    }
+}
+
+/* Makes so many children that live at a time: each reads the pages, and then waits at a pipe until all are made. */
+static void readers(u64 count, u64 pages)
+{
+    static unsigned ends[2];
+    static char byte;
+    i64 address = map(pages);
+    store(address, pages);
+    expect(call(SYS_pipe2, (i64)ends, 0, 0, 0), 0);
+    for (u64 turn = 0; turn < count; turn++) {
+        i64 child = call(SYS_clone, SIGCHLD, 0, 0, 0);
+        if (child == 0) {
+            load(address, pages);
+            expect(call(SYS_close, ends[1], 0, 0, 0), 0);
+            expect(call(SYS_read, ends[0], (i64)&byte, 1, 0), 0);
+            call(SYS_exit, 0, 0, 0, 0);
+        }
+        if (child < 0)
+            call(SYS_exit, 3, 0, 0, 0);
+    }
+    expect(call(SYS_close, ends[1], 0, 0, 0), 0);
+    for (u64 turn = 0; turn < count; turn++)
+        wait_for_child();
+}
+
+static void fresh(u64 count, u64 pages)
+{
+    for (u64 turn = 0; turn < count; turn++)
+        expect(call(SYS_munmap, map(pages), (i64)(pages * PAGE), 0, 0), 0);
+}
+
+static int is(const char *word, const char *name)
+{
+    while (*word && *word == *name)
+        word++, name++;
+    return *word == *name;
+}
+
 int main(int argc, char **argv)
 {
-    if (argc < 3 || (argv[1][0] != 's' && argc < 4))
+    if (argc < 3)
         return 2;
+    const char *kind = argv[1];
     u64 count = number(argv[2]);
-    if (argv[1][0] == 's') {
+    if (is(kind, "start")) {
         start(argv, count);
         return 0;
     }
+    if (argc < 4)
+        return 2;
     u64 pages = number(argv[3]);
-    switch (argv[1][0] + argv[1][4]) {
-    case 'b' + 'a':
+    if (is(kind, "brk-above"))
         brk_above(count, pages);
-        break;
-    case 'b' + 'b':
-        map(pages);
-        move_break(count);
-        break;
-    case 'm' + 'a':
+    else if (is(kind, "brk-below"))
+        map(pages), move_break(count);
+    else if (is(kind, "map-above"))
         map_above(count, pages);
-        break;
-    default:
+    else if (is(kind, "map-below"))
         map_below(count, pages);
-    }
+    else if (is(kind, "fresh"))
+        fresh(count, pages);
+    else if (is(kind, "children"))
+        children(count, pages, load, 0);
+    else if (is(kind, "stores"))
+        children(count, pages, store, pages);
+    else if (is(kind, "readers"))
+        readers(count, pages);
+    else
+        return 2;
     return 0;
 }

@@ -2,10 +2,13 @@
 """How the times of memory grow: run.py PROGRAM.
 
 Each figure stands at two sizes, with the ratio of both times and that of the sizes: the start of a program by execve,
-and a round of two calls by which one page comes and goes while many others are held above or below it. Each is the time
-of many less the time of none, the best of five runs. The guest is memory, beside this script."""
+a round of two calls by which one page comes and goes while many others are held above or below it, pages that nobody
+writes, and a child of a process that has written many. Each is the time of many less the time of none, the best of five
+runs. The last line is the most memory that the program held while many children read the pages of one process. The
+guest is memory, beside this script."""
 import os
 import struct
+import subprocess
 import sys
 
 HERE = os.path.dirname(os.path.abspath(__file__))
@@ -25,6 +28,14 @@ KINDS = [
     ("mmap and munmap above pages", "map-above"),
     ("mmap and munmap below pages", "map-below"),
 ]
+MANY = (256, 15_700)
+# What is done with so many pages, the guest's word for it, and how often.
+WHOLE = [
+    ("mmap and munmap of fresh pages", "fresh", 100),
+    ("clone, exit and wait4, of written pages", "children", 100),
+    ("the same, and the child writes to them", "stores", 20),
+]
+READERS, READ = 60, 4_000
 PAGE, LOAD = 4096, 1
 
 
@@ -69,4 +80,28 @@ def pages(program, top):
         guests.print_growth(what, HELD, times, "n", float)
 
 
-sys.exit(guests.run(starts, pages))
+def whole(program, top):
+    """Prints the times of what is done with many pages at once."""
+    folder = os.path.join(top, "image")
+    guests.write_image(folder, GUEST)
+    command = guests.command(program, folder, GUEST)
+    for what, kind, count in WHOLE:
+        times = [each(command, kind, count, str(size)) for size in MANY]
+        guests.print_growth(what, MANY, times, "n", float)
+
+
+def readers(program, top):
+    """Prints the most memory that the program held while children read the pages of one process."""
+    folder = os.path.join(top, "image")
+    guests.write_image(folder, GUEST)
+    words = guests.command(program, folder, GUEST) + ["readers", str(READERS), str(READ)]
+    with subprocess.Popen(words, stdout=subprocess.DEVNULL) as run:
+        _, status, usage = os.wait4(run.pid, 0)
+        run.returncode = os.waitstatus_to_exitcode(status)
+    if run.returncode != 0:
+        raise subprocess.CalledProcessError(run.returncode, words)
+    print("%d children read the %d pages of one process, of %.1f megabytes: %.1f megabytes at most"
+          % (READERS, READ, READ * PAGE / 1e6, usage.ru_maxrss * 1024 / 1e6))
+
+
+sys.exit(guests.run(starts, pages, whole, readers))
