@@ -7,7 +7,8 @@ use Rattle.std.specs.FinMap.{get, insert, nat_cmp-IsAntisymmetric}
 use Rattle.dt_tables.proofs.Maps.{get-insert_same, get-insert_other, insert_same}
 use Rattle.dt_fds.specs.declared.desc.TheConstants.{DESCRIPTOR_LIMIT}
 use Rattle.dt_fds.specs.declared.desc.Slot.{Slot}
-use Rattle.dt_fds.specs.Descriptions.{Descriptions, Table, table_at, slot_at, with_slot, with_copy, with_table, with_table_if_any, with_shared_table}
+use Rattle.dt_fds.specs.Descriptions.{Descriptions, Table, table_at, slot_at, with_slot, with_table, with_table_if_any, with_shared_table}
+use Rattle.dt_fds.specs.inner.Copies.{with_copy}
 
 -- a table with the slots below a descriptor of another, and the rest free
 abbrev pub partial : Table → ℕ → Table

@@ -200,11 +200,6 @@ with_cloexec f p fd cloexec (Some slot) = with_duplicate f p fd slot cloexec
 abbrev pub without_table : Descriptions → ℕ → Descriptions
 without_table f p = record f { tables = remove f.tables p }
 
--- a descriptor refers to what that slot refers to, if there is one, with the same close-on-exec bit
-abbrev pub with_copy : Descriptions → ℕ → ℕ → Option Slot → Descriptions
-with_copy f p fd None = f
-with_copy f p fd (Some slot) = with_slot f p fd (Some slot)
-
 -- with this table of a process
 abbrev pub with_table : Descriptions → ℕ → Table → Descriptions
 with_table f p table = record f { tables = insert f.tables p table }

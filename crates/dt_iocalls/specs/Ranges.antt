@@ -1,12 +1,10 @@
 -- Buffers of a process in several ranges, which a call takes one after the other as one (readv(2), writev(2)).
-use Rattle.std.specs.Prelude.{◌≡◌, ℕ, ◌+◌, ◌-◌, ◌%◌, ◌^◌, suc, zero, List, [], ◌∷◌, ◌++◌, take, drop, min, Result, Ok, Err, nat_lt, if◌then◌else◌}
+use Rattle.std.specs.Prelude.{ℕ, ◌+◌, ◌-◌, ◌%◌, ◌^◌, suc, zero, List, [], ◌∷◌, ◌++◌, take, drop, min, Result, Ok, Err, nat_lt, if◌then◌else◌}
 use Rattle.std.specs.List.{sum_by}
 use Rattle.dt_base.specs.declared.abi.TheConstants.{IOV_MAX, TRANSFER_LIMIT}
 use Rattle.dt_base.specs.declared.errno.Errno.{Errno}
 use Rattle.dt_base.specs.declared.errno.Errno.TheVariants.{Inval, Fault as BadAddress}
 use Rattle.dt_space.specs.declared.access.Miss.{Miss}
-use Rattle.dt_space.specs.declared.access.ReadErr.{ReadErr}
-use Rattle.dt_space.specs.declared.access.ReadErr.TheVariants as read_err
 use Rattle.dt_space.specs.declared.access.TheConstants.{READ}
 use Rattle.dt_space.specs.Space.{PageView, load, loaded_number}
 use Rattle.dt_space.specs.Write.{pages_after_store}
@@ -37,11 +35,6 @@ joined_bytes (Ok bytes) (Ok rest) = Ok (bytes ++ rest)
 unfoldable pub gathered_bytes : List PageView → List Range → Result (List ℕ) Miss
 gathered_bytes pages [] = Ok []
 gathered_bytes pages (range ∷ ranges) = joined_bytes (load pages READ range.address range.len) (gathered_bytes pages ranges)
-
--- why bytes of ranges were not gathered: the first miss, or want of memory
-abbrev pub IsGatherErr : List PageView → List Range → ReadErr → Type 0
-IsGatherErr pages ranges (read_err.Miss miss) = gathered_bytes pages ranges ≡ Err miss
-IsGatherErr pages ranges read_err.NoMemory = Unit {0}
 
 -- what follows on pages, unless there was a miss
 abbrev pub on_pages : Result (List PageView) Miss → (List PageView → Result (List PageView) Miss) → Result (List PageView) Miss

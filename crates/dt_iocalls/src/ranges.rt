@@ -3,7 +3,7 @@ ghost use Rattle.std.specs.Prelude.{◌≡◌, ◌-◌, ◌^◌, Ok, Err, IsOk, 
 ghost use Rattle.std.specs.Prelude.{min};
 ghost use Rattle.dt_iocalls.specs.Ranges.{total_len, cut_to, iovec_at, iovecs_at, ranges_at, gathered_bytes};
 ghost use Rattle.dt_iocalls.specs.Ranges.{scattered_pages};
-ghost use Rattle.dt_iocalls.specs.Ranges.{IsGatherErr};
+ghost use Rattle.dt_iocalls.specs.inner.Gathered.{IsGatherErr};
 
 use dt_base::abi::{IOV_MAX, TRANSFER_LIMIT};
 use dt_base::{Errno, NoMemory};

@@ -10,7 +10,8 @@ use Rattle.dt_tree.specs.FileTree.{FileTree}
 use Rattle.dt_tree.specs.Shape.{is_dir, is_bare}
 use Rattle.dt_walk.specs.declared.place.Place.{Place}
 use Rattle.dt_walk.specs.Placed.{IsPlaceIn, IsNamedWell, is_special}
-use Rattle.dt_namecalls.specs.Names.{IsNameIn, new_refusal}
+use Rattle.dt_namecalls.specs.Names.{new_refusal}
+use Rattle.dt_namecalls.specs.inner.Names.{IsNameIn}
 use Rattle.dt_namecalls.specs.Rename.{target_refusal, arrive_refusal}
 use Rattle.dt_namecalls.specs.Unlink.{node_refusal}
 

@@ -1,5 +1,5 @@
 -- The calls that make and add names: mkdirat(2), symlinkat(2), linkat(2).
-use Rattle.std.specs.Prelude.{◌≡◌, ℕ, not, List, Option, None, Some, is_some, IsTrue, bit_and, if◌then◌else◌}
+use Rattle.std.specs.Prelude.{ℕ, not, List, Option, None, Some, is_some, bit_and, if◌then◌else◌}
 use Rattle.dt_base.specs.Abi.{has_flag, low_word}
 use Rattle.dt_base.specs.declared.abi.TheConstants.{AT_SYMLINK_FOLLOW}
 use Rattle.dt_base.specs.declared.caller.Caller.{Caller}
@@ -8,9 +8,7 @@ use Rattle.dt_base.specs.declared.errno.Errno.TheVariants.{Exist, Inval, NoEnt, 
 use Rattle.dt_base.specs.declared.image.What.{What}
 use Rattle.dt_base.specs.declared.image.What.TheVariants.{Dir, Link}
 use Rattle.dt_base.specs.declared.limits.TheConstants.{LINK_MODE}
-use Rattle.dt_host.specs.World.{Forest, IsDir, entry}
 use Rattle.dt_tree.specs.Calls.{make_node_of, add_name_of}
-use Rattle.dt_tree.specs.FileTree.{is_entry_name}
 use Rattle.dt_tree.specs.Shape.{is_dir}
 use Rattle.dt_walk.specs.declared.place.Place.{Place}
 use Rattle.dt_namecalls.specs.declared.names.TheConstants.{DIR_MODES}
@@ -75,9 +73,3 @@ linkat_row args s =
     if not (has_only (low_word (argument args 4)) AT_SYMLINK_FOLLOW) then refused_reply s Inval
     else on_path s (argument args 0) (argument args 1) (old_rule (low_word (argument args 4)))
     (λ n. link_reply (argument args 2) (argument args 3) n s)
-
--- a place under a name that an entry may have: its node is the entry's, if there is one
-pub record IsNameIn (v : Forest) (place : Place) : Type 0 where
-  pub is_dir : IsDir v place.parent
-  pub good : IsTrue (is_entry_name place.name)
-  pub found : entry v place.parent place.name ≡ place.node

@@ -7,7 +7,7 @@ ghost use Rattle.dt_tree.specs.Calls.{MayMove};
 ghost use Rattle.dt_tree.specs.Table.{Stands, shape_of};
 ghost use Rattle.dt_callbase.specs.Arguments.{argument, has_only};
 ghost use Rattle.dt_callbase.specs.Places.{IsFound, place_at};
-ghost use Rattle.dt_namecalls.specs.Names.{IsNameIn};
+ghost use Rattle.dt_namecalls.specs.inner.Names.{IsNameIn};
 ghost use Rattle.dt_namecalls.specs.Rename.{replace_refusal, arrive_refusal, target_refusal, move_name_reply};
 ghost use Rattle.dt_namecalls.specs.Rename.{move_node_reply};
 ghost use Rattle.dt_namecalls.specs.Rename.{move_to_path_reply, renameat2_row};

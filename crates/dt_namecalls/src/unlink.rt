@@ -6,7 +6,7 @@ ghost use Rattle.dt_tree.specs.Calls.{MayDrop};
 ghost use Rattle.dt_tree.specs.Table.{Stands, shape_of};
 ghost use Rattle.dt_callbase.specs.Arguments.{argument, has_only};
 ghost use Rattle.dt_callbase.specs.Places.{IsFound, place_at};
-ghost use Rattle.dt_namecalls.specs.Names.{IsNameIn};
+ghost use Rattle.dt_namecalls.specs.inner.Names.{IsNameIn};
 ghost use Rattle.dt_namecalls.specs.Unlink.{special_refusal, node_refusal, drop_name_reply, drop_node_reply};
 ghost use Rattle.dt_namecalls.specs.Unlink.{unlinkat_row};
 ghost use Rattle.dt_callbase.specs.Sound.{Sound, HasRowReply, HasReplyOf, stage, scene};

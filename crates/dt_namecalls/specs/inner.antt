@@ -1,0 +1,2 @@
+-- Words that only proofs and private contracts cite.
+pub mod Names
