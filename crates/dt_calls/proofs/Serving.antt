@@ -15,9 +15,9 @@ use Rattle.dt_calls.specs.Execve.{task_after_start}
 use Rattle.dt_calls.specs.InCode.{ContainerView, machines_at_home, places_after_turn, shared_of, container_of, effect_as, container_turn_as}
 use Rattle.dt_calls.specs.Settle.{with_process_turn, process_turn, effect_of_turn, turn_of_container, turn_of_machine, is_end_of_all, machine_after, with_own, with_child_machine, next_after}
 use Rattle.dt_calls.specs.Sound.{IsSound, IsPaired, IsSoundContainer, LeavesSound}
-use Rattle.dt_calls.specs.AtHome.{Places, Becomes}
+use Rattle.dt_calls.specs.AtHome.{Places, Becomes, KeepPlaces}
 use Rattle.dt_calls.proofs.Homes.{home-given, home-there, home-place, own-over}
-use Rattle.dt_calls.proofs.Settled.{paired-insert, paired-after, homes-after}
+use Rattle.dt_calls.proofs.Settled.{paired-insert, paired-after, homes-after, place-stays}
 use Rattle.dt_calls.proofs.Tasks.{some-task, task-here, still-insert, sound-task}
 
 -- a container that is sound but for how many places it has
@@ -65,6 +65,15 @@ module _ (v s : ContainerView) (w : World) (p : ℕ) (sound : IsSoundContainer v
         (λ is _. subst (λ k. IsSome (get v.shared.tasks k)) (sym is) task-there)
         (λ apart there. sound.paired q (subst (λ x. IsSome (get x q)) same_places there))
         (subst (λ x. IsSome (get x q)) becomes.rest some))
+
+    -- a process that lives on has its place still
+    pub places-kept : (next : ℕ) (e : EffectInCode) (new : ContainerView) (left : Places) → left ≡ places
+        → new.places ≡ places_after_turn left next p e.served e.child → KeepPlaces p e.served v.places new.places
+    places-kept next e new left same_left is q lives there =
+        subst (λ x. IsSome (get x q)) (sym (is ∙ ap (λ x. places_after_turn x next p e.served e.child) (same_left ∙ becomes.rest)))
+        (place-stays (insert s.places p (Some now)) next p e.served e.child q lives
+        (at_insert nat_cmp_total nat_cmp-IsAntisymmetric (λ found. IsSome found) s.places p (Some now) q (λ _. refl)
+        (λ _. subst (λ x. IsSome (get x q)) (sym same_places) there)))
 
     -- and once it was settled the container is sound again
     pub settles : (next : ℕ) (w2 : World) (e : EffectInCode) (shared : SharedInCode) (new : ContainerView) → next ≡ s.shared.pids.next

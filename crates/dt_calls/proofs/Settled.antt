@@ -1,5 +1,5 @@
 -- What a turn leaves of the places for machines.
-use Rattle.std.proofs.Common.{arith, ◌≡◌, ◌≢◌, ℕ, Bool, true, false, cond, Option, None, Some, refl, sym, ap, subst, ◌∙◌}
+use Rattle.std.proofs.Common.{arith, ◌≡◌, ◌≢◌, ◌==◌, ℕ, Bool, true, false, cond, Option, None, Some, refl, sym, ap, subst, ◌∙◌}
 use Rattle.std.proofs.lemmas.Bool.Decides.{nat_tests}
 use Rattle.std.specs.Prelude.{IsSome, IfSome}
 use Rattle.std.specs.Ordering.{nat_cmp}
@@ -87,3 +87,29 @@ paired-after places p served child old new w leaves paired apart = by_all (is_en
     by_all true all = paired-empty new.tasks
     by_all false some = paired-entered new.tasks (cond (has_ended served) (remove places p) places) old.pids.next child (by_end (has_ended served) refl some)
         (born child leaves.child (lives-after p served old.pids.next some (λ _ is. apart (sym is))))
+
+entered-stays : (places : Places) (next : ℕ) (child : Option Machine) (q : ℕ) → IsSome (get places q)
+    → IsSome (get (with_child_place places next child) q)
+entered-stays places next None q there = there
+entered-stays places next (Some m) q there =
+    at_insert nat_cmp_total nat_cmp-IsAntisymmetric (λ found. IsSome found) places next (Some m) q (λ _. refl) (λ _. there)
+
+left-stays : (places : Places) (next p : ℕ) (child : Option Machine) (q : ℕ) (all : Bool) → all ≡ false → q ≢ p
+    → IsSome (get places q) → IsSome (get (cond all empty (with_child_place (remove places p) next child)) q)
+left-stays places next p child q true none apart there = cc
+left-stays places next p child q false none apart there =
+    entered-stays (remove places p) next child q
+    (at_remove nat_cmp_total nat_cmp-IsAntisymmetric (λ found. IsSome found) places p q (λ is. absurd (apart is)) (λ _. there))
+
+-- the place of a process that lives on stays
+pub place-stays : (places : Places) (next p : ℕ) (served : Served) (child : Option Machine) (q : ℕ) → LivesOn p served q
+    → IsSome (get places q) → IsSome (get (places_after_turn places next p served child) q)
+place-stays places next p Done child q lives there = entered-stays places next child q there
+place-stays places next p (Child v) child q lives there = entered-stays places next child q there
+place-stays places next p (LastChild v) child q lives there =
+    let first = lives.first in left-stays places next p child q (p == 1) (grind (arith, nat_tests)) lives.apart there
+place-stays places next p Blocked child q lives there = entered-stays places next child q there
+place-stays places next p Progress child q lives there = entered-stays places next child q there
+place-stays places next p Ended child q lives there =
+    let first = lives.first in left-stays places next p child q (p == 1) (grind (arith, nat_tests)) lives.apart there
+place-stays places next p (Unsupported number) child q lives there = entered-stays places next child q there

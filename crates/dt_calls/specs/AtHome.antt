@@ -1,5 +1,5 @@
 -- What is done with the machine of a process in its place.
-use Rattle.std.specs.Prelude.{◌≡◌, ℕ, Option, Some, Result}
+use Rattle.std.specs.Prelude.{◌≡◌, ℕ, Option, Some, IsSome, Result}
 use Rattle.std.specs.Ordering.{nat_cmp}
 use Rattle.std.specs.FinMap.{FinMap, get, insert}
 use Rattle.dt_host.specs.World.{World}
@@ -8,9 +8,10 @@ use Rattle.dt_rv64.specs.declared.machine.Machine.{Machine}
 use Rattle.dt_rv64.specs.declared.segments.Seg.{Seg}
 use Rattle.dt_rv64.specs.Segment.{segment_of}
 use Rattle.dt_calls.specs.declared.call.effect.Effect.{Effect as EffectInCode}
+use Rattle.dt_calls.specs.declared.container.Served.{Served}
 use Rattle.dt_calls.specs.declared.shared.Shared.{Shared}
 use Rattle.dt_calls.specs.Effect.{Effect}
-use Rattle.dt_calls.specs.Sound.{HasEffect, left}
+use Rattle.dt_calls.specs.Sound.{HasEffect, LivesOn, left}
 
 -- the places for machines
 abbrev pub Places : Type 0
@@ -34,3 +35,7 @@ pub record HasEffectAt (defined : Machine → Effect) (old new : Shared) (world 
   pub now : Machine
   pub becomes : Becomes before after p was now
   pub serves : HasEffect p (defined was) old (left new world now) result count later
+
+-- each process that lives on after a turn of p has a place for its machine still
+abbrev pub KeepPlaces : ℕ → Served → Places → Places → Type 0
+KeepPlaces p served before after = (q : ℕ) → LivesOn p served q → IsSome (get before q) → IsSome (get after q)

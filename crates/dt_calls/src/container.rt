@@ -7,7 +7,7 @@ ghost use Rattle.dt_procs.specs.Table.{members_of};
 ghost use Rattle.dt_procs.specs.Members.{end_of};
 ghost use Rattle.dt_rv64.specs.declared.segments.Stop.TheVariants.{Call as a_call};
 ghost use Rattle.dt_tree.specs.ImageTree.{image_tree};
-ghost use Rattle.dt_calls.specs.AtHome.{RunsAt};
+ghost use Rattle.dt_calls.specs.AtHome.{RunsAt, KeepPlaces};
 ghost use Rattle.dt_calls.specs.Container.{first_container};
 ghost use Rattle.dt_calls.specs.Launch.{launch};
 ghost use Rattle.dt_calls.specs.Settle.{turn_of_container};
@@ -174,6 +174,7 @@ impl Container {
         ensures ok { IfOk result (λ s. turn_of_container (container_of self.old (H.view host.old)) vpid stop
             ≡ Some (container_turn_as (container_of self.new (H.view host.new)) s)) }
         ensures sound { IfOk result (λ _. IsSoundContainer self.new (H.view host.new)) }
+        ensures places { IfOk result (λ s. KeepPlaces vpid s self.old.places self.new.places) }
         ensures cause { HasCause (H.count host.old) (H.count host.new) (IsErrOf result HostErr.Failed) }
     {
         let next = self.shared.pids.next();
@@ -199,6 +200,7 @@ impl Container {
         ensures ok { IfOk result (λ s. turn_of_container (container_of self.old (H.view host.old)) vpid a_call
             ≡ Some (container_turn_as (container_of self.new (H.view host.new)) s)) }
         ensures sound { IfOk result (λ _. IsSoundContainer self.new (H.view host.new)) }
+        ensures places { IfOk result (λ s. KeepPlaces vpid s self.old.places self.new.places) }
         ensures cause { HasCause (H.count host.old) (H.count host.new) (IsErrOf result HostErr.Failed) }
     {
         self.serve(host, vpid, Stop::Call)

@@ -53,7 +53,7 @@ pub record IsOwed (queue : List Process) (machines : Machines) (stops : Stops) (
   pub noted : IsSome (get stops p)
   pub given : p < next
 
-owes-in : (phase : Phase ℕ) → is_owing phase ≡ true → phase ≡ Owes
+pub owes-in : (phase : Phase ℕ) → is_owing phase ≡ true → phase ≡ Owes
 owes-in Owes is = refl
 owes-in (Ran count) is = cc
 owes-in Waits is = cc
@@ -138,13 +138,13 @@ module _ (queue : List Process) (stops : Stops) (p : ℕ) (seg : Seg) where
   abbrev arrived_phases : ℕ → Phase Seg
   arrived_phases = phase_in (map (process_after_arrival p seg.count) queue) (insert stops p seg.stop)
 
-  arrived-only : Only p (phase_in queue stops) arrived_phases
+  pub arrived-only : Only p (phase_in queue stops) arrived_phases
   arrived-only q apart =
       let phases = phase-arrived-other p seg.count q queue apart in
       let stopped = ap noted_stop (get-insert_other nat_cmp_total nat_cmp-IsAntisymmetric stops p seg.stop q apart) in
       λ i. with_stop (phases i) (stopped i)
 
-  arrived-own : is_queued p queue ≡ true → arrived_phases p ≡ Ran seg
+  pub arrived-own : is_queued p queue ≡ true → arrived_phases p ≡ Ran seg
   arrived-own there =
       let phases = phase-arrived p seg.count queue there in
       let stopped = ap noted_stop (get-insert_same nat_cmp_total nat_cmp-IsAntisymmetric stops p seg.stop) in
@@ -183,13 +183,13 @@ arrive-ran s w p m now seg new home owes there run h =
     }
 
 -- where a machine is at home it is once another came home
-home-there : (machines : Machines) (p : ℕ) (m : Machine) (q : ℕ) → IsSome (get machines q)
+pub home-there : (machines : Machines) (p : ℕ) (m : Machine) (q : ℕ) → IsSome (get machines q)
     → IsSome (get (insert machines p m) q)
 home-there machines p m q was = at_insert nat_cmp_total nat_cmp-IsAntisymmetric (λ found. IsSome found) machines p m q
     (λ _. refl) (λ _. was)
 
 -- a stop that is noted is noted once another is
-noted-there : (stops : Stops) (p : ℕ) (stop : Stop) (q : ℕ) → IsSome (get stops q) → IsSome (get (insert stops p stop) q)
+pub noted-there : (stops : Stops) (p : ℕ) (stop : Stop) (q : ℕ) → IsSome (get stops q) → IsSome (get (insert stops p stop) q)
 noted-there stops p stop q was = at_insert nat_cmp_total nat_cmp-IsAntisymmetric (λ found. IsSome found) stops p stop q
     (λ _. refl) (λ _. was)
 
@@ -234,13 +234,13 @@ arrive-good s p m seg new good given h =
     }
 
 -- a place that is filled is one of those that were there
-place-was : (places : FinMap nat_cmp (Option Machine)) (p : ℕ) (place : Option Machine) (q : ℕ) → IsSome (get places p)
+pub place-was : (places : FinMap nat_cmp (Option Machine)) (p : ℕ) (place : Option Machine) (q : ℕ) → IsSome (get places p)
     → IsSome (get (insert places p place) q) → IsSome (get places q)
 place-was places p place q there =
     at_insert nat_cmp_total nat_cmp-IsAntisymmetric (λ found. IsSome found → IsSome (get places q)) places p place q
     (λ e _. subst (λ n. IsSome (get places n)) (sym e) there) (λ _ h. h)
 
-keys-same : (places : FinMap nat_cmp (Option Machine)) (p : ℕ) (place : Option Machine) → IsSome (get places p)
+pub keys-same : (places : FinMap nat_cmp (Option Machine)) (p : ℕ) (place : Option Machine) → IsSome (get places p)
     → length (keys (insert places p place)) ≡ length (keys places)
 keys-same places p place there =
     let sum = total-insert nat_cmp_total (λ (x : Option Machine). 1) places p place in

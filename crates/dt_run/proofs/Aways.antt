@@ -12,7 +12,7 @@ use Rattle.dt_run.specs.Turn.{State, Act, act, works_after_act, is_ended_verdict
 use Rattle.dt_run.specs.Ahead.{Away, with_works, state_with_works, turn_with_works, IsAway, HasHead, TurnAway}
 
 -- the first of two that is there
-abbrev over : Option Work → Option Work → Option Work
+abbrev pub over : Option Work → Option Work → Option Work
 over None y = y
 over (Some x) y = Some x
 
@@ -23,7 +23,7 @@ over-choice false x y z = refl
 over-none : (x y : Option Work) → x ≡ None → over x y ≡ y
 over-none x y is = ap (λ x. over x y) is
 
-get-put_all : (ws : Away) (works : Works) (q : ℕ) → get (with_works ws works) q ≡ over (find nat_cmp q ws) (get works q)
+pub get-put_all : (ws : Away) (works : Works) (q : ℕ) → get (with_works ws works) q ≡ over (find nat_cmp q ws) (get works q)
 get-put_all [] works q = refl
 get-put_all (w ∷ ws) works q =
     get-insert nat_cmp_total (with_works ws works) w.0 w.1 q
@@ -40,7 +40,7 @@ module _ (ws : Away) where
   home-apart s p some away = unless_some (find nat_cmp p ws) (λ h. let none = away.apart p h in cc)
 
   -- two maps that differ by the works that come home still do after an insert at another key
-  over-insert : (m n : Works) (k : ℕ) (w : Work) (q : ℕ) → find nat_cmp k ws ≡ None
+  pub over-insert : (m n : Works) (k : ℕ) (w : Work) (q : ℕ) → find nat_cmp k ws ≡ None
       → get m q ≡ over (find nat_cmp q ws) (get n q)
       → get (insert m k w) q ≡ over (find nat_cmp q ws) (get (insert n k w) q)
   over-insert m n k w q apart is =

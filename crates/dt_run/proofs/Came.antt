@@ -23,7 +23,7 @@ use Rattle.dt_calls.specs.declared.container.Served.{Served}
 use Rattle.dt_calls.specs.declared.container.Served.TheVariants.{Done, Child, LastChild, Blocked, Progress, Ended, Unsupported}
 use Rattle.dt_calls.specs.Container.{Container}
 use Rattle.dt_calls.specs.InCode.{ContainerView, shared_of, container_of, machines_at_home, container_turn_as}
-use Rattle.dt_calls.proofs.Homes.{home-place}
+use Rattle.dt_calls.specs.AtHome.{KeepPlaces}
 use Rattle.dt_calls.specs.Settle as calls
 use Rattle.dt_calls.specs.Settle.{ProcessTurn, ContainerTurn, with_process_turn, turn_of_container, turn_of_machine, machines_after_turn, next_after}
 use Rattle.dt_calls.specs.Sound.{IsSoundContainer}
@@ -35,12 +35,14 @@ use Rattle.dt_run.specs.Work.{Work, Prepared, prepared_of}
 use Rattle.dt_run.specs.Turn.{State, Turn, settled_of, act, turn_of_act, paid_act, unpaid_act, act_of_turn, works_after_act, is_ended_verdict, turn_of_work, turn_of_head, head_pid, turn}
 use Rattle.dt_run.specs.inner.InCode.{work_in, works_in, phase_in, with_stop, noted_stop, due_stop, schedule_of, state_of, turn_as, stops_after}
 use Rattle.dt_run.specs.inner.Good.{IsPlaced, IsPlacedIn, IsGood, steps_left}
+use Rattle.dt_run.specs.InPlay.{IsKeptProcess, IsKeptIn, IsKept}
 use Rattle.dt_run.proofs.Works.{get-works_in}
 use Rattle.dt_calls.proofs.Fits.{Fits, served-fits}
 use Rattle.dt_run.proofs.Noted.{the_work, works_with, works-after}
 use Rattle.dt_run.proofs.Standings.{phase-first}
 use Rattle.dt_run.proofs.Queued.{pids, IsHead, IsSpent, ready-head, schedule-settled, verdict-settled}
-use Rattle.dt_run.proofs.Placed.{once-apart, queue-placed, unheld, room}
+use Rattle.dt_run.proofs.Placed.{once-apart, queue-placed}
+use Rattle.dt_run.proofs.Kept.{unqueued, queue-kept, finds-room}
 
 -- a turn of a head by what it brings, and which the budget pays for
 turn-ready : (s : State) (p : ℕ) (rest : List ℕ) (w : Work) (d : Prepared) → s.schedule.order ≡ p ∷ rest → get s.works p ≡ Some w
@@ -92,7 +94,7 @@ waits-head : (x : Process) (xs : List Process) → is_queued x.vpid xs ≡ false
 waits-head x xs absent = grind (arith, nat_tests, waits-alone x.vpid xs absent)
 
 -- where the head of the queue stands
-head-phase : (s : StateInCode) (x : Process) (rest : List Process) → s.core.queue ≡ x ∷ rest
+pub head-phase : (s : StateInCode) (x : Process) (rest : List Process) → s.core.queue ≡ x ∷ rest
     → phase_in s.core.queue s.stops x.vpid ≡ with_stop x.phase (noted_stop (get s.stops x.vpid))
 head-phase s x rest is =
     ap (λ queue. phase_in queue s.stops x.vpid) is
@@ -127,7 +129,7 @@ ended-alike p blocked count Ended = first-ended (p == 1)
 ended-alike p blocked count (Unsupported number) = refl
 
 -- a process's machine is at home
-the-machine : (found : Option Machine) → IsSome found → (m : Machine) × (found ≡ Some m)
+pub the-machine : (found : Option Machine) → IsSome found → (m : Machine) × (found ≡ Some m)
 the-machine None some = cc
 the-machine (Some m) some = (m, refl)
 
@@ -154,27 +156,30 @@ pub record Came (s : StateInCode) (w : World) (p : ℕ) (to : ContainerView) (no
   pub machine : Machine
   pub home : get (machines_at_home s.container.places) head.first.vpid ≡ Some machine
   pub given : head.first.vpid < s.container.shared.pids.next
-  pub good : IsGood s
+  pub kept : IsKept s
   pub once : IsTrue (sched.is_distinct s.core.queue)
   pub apart : is_queued head.first.vpid head.rest ≡ false
   pub counted : IsTrue (has_segment_count head.first.phase)
   pub is : with_process_turn (container_of s.container w) head.first.vpid (the_settled s w head.first machine)
       ≡ container_turn_as (container_of to now) served
 
--- where each process of the queue is placed its head is
+-- what holds of each process of the queue holds of its head
+pub head-kept : (s : StateInCode) (p : ℕ) (h : IsHead s.core p) → IsKept s → AllByRecursion (IsKeptIn s) (h.first ∷ h.rest)
+head-kept s p h kept = subst (AllByRecursion (IsKeptIn s)) h.queue kept.kept
+
 pub head-placed : (s : StateInCode) (p : ℕ) (h : IsHead s.core p) → IsGood s
     → AllByRecursion (IsPlacedIn s) (h.first ∷ h.rest)
 head-placed s p h good = subst (AllByRecursion (IsPlacedIn s)) h.queue good.placed
 
 pub came : (s : StateInCode) (w : World) (p : ℕ) (to : ContainerView) (now : World) (served : Served)
-    → IsGood s → IsCore s.core → head s.core ≡ Ready p
+    → IsKept s → IsCore s.core → head s.core ≡ Ready p
     → turn_of_container (container_of s.container w) p (due_stop (is_vpid_waiting p s.core.queue) (noted_stop (get s.stops p)))
     ≡ Some (container_turn_as (container_of to now) served)
     → Came s w p to now served
-came s w p to now served good sound ready is =
+came s w p to now served kept sound ready is =
     let h = ready-head s.core p ready in
-    let placed = head-placed s p h good in
-    let found = the-machine (get (machines_at_home s.container.places) h.first.vpid) placed.0.home in
+    let head = head-kept s p h kept in
+    let found = the-machine (get (machines_at_home s.container.places) h.first.vpid) (head.0.home h.arrived) in
     let tests = once-apart (is_queued h.first.vpid h.rest) (sched.is_distinct h.rest)
     (subst (λ l. IsTrue (sched.is_distinct l)) h.queue sound.each_once) in
     let waiting : is_vpid_waiting h.first.vpid s.core.queue ≡ is_waiting h.first.phase =
@@ -189,8 +194,8 @@ came s w p to now served good sound ready is =
       head = h;
       machine = found.0;
       home = found.1;
-      given = placed.0.given;
-      good = good;
+      given = head.0.given;
+      kept = kept;
       once = sound.each_once;
       apart = tests.0;
       counted = first-counted _ _ (subst (λ l. IsTrue (have_segment_counts l)) h.queue sound.counted);
@@ -265,8 +270,8 @@ module _ (s : StateInCode) (w : World) (p : ℕ) (to : ContainerView) (now : Wor
     (c : Came s w p to now served) where
   no-next : is_queued s.container.shared.pids.next c.head.rest ≡ false
   no-next =
-      let placed = head-placed s p c.head c.good in
-      unheld (machines_at_home s.container.places) s.stops s.container.shared.pids.next c.head.rest placed.1
+      let head = head-kept s p c.head c.kept in
+      unqueued s.container.places s.stops s.container.shared.pids.next c.head.rest head.1
 
   -- the turn is the one that is defined
   pub turn-came : let new = turned_state s to c.head.first.vpid served in turn (state_of s w)
@@ -282,16 +287,23 @@ module _ (s : StateInCode) (w : World) (p : ℕ) (to : ContainerView) (now : Wor
       (served-fits _ _ x.vpid _ c.machine) c.apart no-next c.given
       ∙ ap (seen s x.vpid) c.is
 
-  -- all is good then
-  pub good-came : IsGood (turned_state s to c.head.first.vpid served)
-  good-came =
+  abbrev was : ProcessTurn
+  was = the_settled s w c.head.first c.machine
+
+  fits : Fits s.container.shared.pids.next was
+  fits = served-fits _ _ c.head.first.vpid _ c.machine
+
+  homes : machines_after_turn (machines_at_home s.container.places) s.container.shared.pids.next c.head.first.vpid was
+      ≡ machines_at_home to.places
+  homes = ap (λ (t : ContainerTurn). t.container.machines) c.is
+
+  -- where all machines were at home they are then
+  pub good-came : IsGood s → IsGood (turned_state s to c.head.first.vpid served)
+  good-came good =
       let n = c.head.first.vpid in
-      let machines = machines_at_home s.container.places in
-      let next = s.container.shared.pids.next in
-      let r = the_settled s w c.head.first c.machine in
-      let fits : Fits next r = served-fits _ _ n _ c.machine in
-      let placed = queue-placed machines s.stops next c.head.first c.head.rest r.served r.own r.child
-      (calls.is_end_of_all n r.served) refl fits.own fits.child c.apart (head-placed s p c.head c.good) in
+      let placed = queue-placed (machines_at_home s.container.places) s.stops s.container.shared.pids.next c.head.first c.head.rest
+      was.served was.own was.child
+      (calls.is_end_of_all n was.served) refl fits.own fits.child c.apart (head-placed s p c.head good) in
       record {
         placed = subst (λ l. let core = sched.core_after_turn_of s.core l (settled_of served) in AllByRecursion
             (IsPlaced (machines_at_home to.places) (stops_after s.stops n served) to.shared.pids.next) core.queue) (sym c.head.queue)
@@ -300,21 +312,35 @@ module _ (s : StateInCode) (w : World) (p : ℕ) (to : ContainerView) (now : Wor
             (sched.processes_after_turn c.head.first c.head.rest (settled_of t.served))) c.is placed);
       }
 
-  -- a child finds room
-  pub room-came : IsSoundContainer to now → IsTrue (sched.has_room s.core.queue (settled_of served))
-  room-came sound =
-      let n = c.head.first.vpid in
-      let machines = machines_at_home s.container.places in
-      let next = s.container.shared.pids.next in
-      let r = the_settled s w c.head.first c.machine in
-      let fits : Fits next r = served-fits _ _ n _ c.machine in
-      let homes : machines_after_turn machines next n r ≡ machines_at_home to.places = ap (λ (t : ContainerTurn). t.container.machines) c.is in
-      subst (λ (t : ContainerTurn). IsTrue (sched.has_room s.core.queue (settled_of t.served))) c.is
-      (room machines s.stops next n r.own r.child s.core.queue to.places r.served c.once c.good.placed fits.own fits.child sound.few
-      (λ on q there. home-place to.places q
-      (subst IsSome (ap
-      (λ (b : Bool). get (cond b empty (calls.with_child_machine (calls.with_own machines n r.own) next r.child)) q)
-      (sym on) ∙ ap (λ m. get m q) homes) there)))
+  module _ (keeps : KeepPlaces c.head.first.vpid served s.container.places to.places) where
+    keeps-was : KeepPlaces c.head.first.vpid was.served s.container.places to.places
+    keeps-was = subst (λ served. KeepPlaces c.head.first.vpid served s.container.places to.places)
+        (sym (ap (λ (t : ContainerTurn). t.served) c.is)) keeps
+
+    -- what holds of each process of the queue holds then
+    pub kept-came : IsKept (turned_state s to c.head.first.vpid served)
+    kept-came =
+        let n = c.head.first.vpid in
+        let kept = queue-kept s.container.places to.places s.stops s.container.shared.pids.next c.head.first c.head.rest
+        was.served was.own was.child (calls.is_end_of_all n was.served) refl fits.own fits.child keeps-was (sym homes) c.apart
+        (head-kept s p c.head c.kept) in
+        record {
+          kept = subst (λ l. let core = sched.core_after_turn_of s.core l (settled_of served) in AllByRecursion
+              (IsKeptProcess to.places (stops_after s.stops n served) to.shared.pids.next) core.queue) (sym c.head.queue)
+              (subst (λ (t : ContainerTurn). AllByRecursion
+              (IsKeptProcess to.places (stops_after s.stops n t.served) t.container.next)
+              (sched.processes_after_turn c.head.first c.head.rest (settled_of t.served))) c.is kept);
+        }
+
+    -- a child finds room
+    pub room-came : IsSoundContainer to now → IsTrue (sched.has_room s.core.queue (settled_of served))
+    room-came sound =
+        let n = c.head.first.vpid in
+        subst (λ (t : ContainerTurn). IsTrue (sched.has_room s.core.queue (settled_of t.served))) c.is
+        (finds-room s.container.places to.places s.stops s.container.shared.pids.next n was.own was.child s.core.queue was.served
+        c.once c.kept.kept fits.child keeps-was sound.few
+        (λ on. sym homes ∙ ap (λ (b : Bool). cond b empty (calls.with_child_machine
+        (calls.with_own (machines_at_home s.container.places) n was.own) s.container.shared.pids.next was.child)) on))
 
 -- what the code has after a turn
 pub record Has (s : StateInCode) (p : ℕ) (to : ContainerView) (served : Served) (new : StateInCode) : Type 0 where
@@ -342,8 +368,12 @@ module _ (s : StateInCode) (w : World) (p : ℕ) (to : ContainerView) (now : Wor
       turn-came s w p to now served c
       ∙ (λ i. let new = sym same i in turn_as (state_of new now) (sym is i) new.core.verdict)
 
-  pub good-has : IsGood new
-  good-has = subst IsGood (sym same) (good-came s w p to now served c)
+  pub good-has : IsGood s → IsGood new
+  good-has good = subst IsGood (sym same) (good-came s w p to now served c good)
+
+  pub kept-has : KeepPlaces p served s.container.places to.places → IsKept new
+  kept-has keeps = subst IsKept (sym same) (kept-came s w p to now served c
+      (subst (λ n. KeepPlaces n served s.container.places to.places) (sym c.head.vpid) keeps))
 
 -- a turn takes from the budget, and adds few that owe
 length-left : (b : Bool) (ps : List Process) (n : ℕ) → length ps ≤ n → length (cond b [] ps) ≤ n
@@ -380,19 +410,19 @@ steps-came core new p t sound ready is falls =
     fewer-steps core.left new.left (length (owing_vpids core.queue)) (length (owing_vpids new.queue)) falls (omega (arith, old))
 
 -- the machine of a head that is ready is at home
-pub ready-home : (s : StateInCode) (p : ℕ) → IsGood s → head s.core ≡ Ready p
+pub ready-home : (s : StateInCode) (p : ℕ) → IsKept s → head s.core ≡ Ready p
     → IsSome (get (machines_at_home s.container.places) p)
-ready-home s p good ready =
+ready-home s p kept ready =
     let h = ready-head s.core p ready in
-    let placed = head-placed s p h good in
-    subst (λ n. IsSome (get (machines_at_home s.container.places) n)) h.vpid placed.0.home
+    let head = head-kept s p h kept in
+    subst (λ n. IsSome (get (machines_at_home s.container.places) n)) h.vpid (head.0.home h.arrived)
 
 -- and its stop is noted
-pub ready-noted : (s : StateInCode) (p : ℕ) → IsGood s → head s.core ≡ Ready p → IsSome (get s.stops p)
-ready-noted s p good ready =
+pub ready-noted : (s : StateInCode) (p : ℕ) → IsKept s → head s.core ≡ Ready p → IsSome (get s.stops p)
+ready-noted s p kept ready =
     let h = ready-head s.core p ready in
-    let placed = head-placed s p h good in
-    subst (λ n. IsSome (get s.stops n)) h.vpid placed.0.noted
+    let head = head-kept s p h kept in
+    subst (λ n. IsSome (get s.stops n)) h.vpid head.0.noted
 
 -- a turn that the budget doesn't pay for
 unpaid-seen : (s : State) (p : ℕ) (w : Work) → get s.works p ≡ Some w
@@ -402,12 +432,12 @@ unpaid-seen s p w found =
     ap (λ works. turn_as (record s { works = works }) [] (Some verdict.Budget))
     (put_back nat_cmp_total nat_cmp-IsAntisymmetric s.works p w found)
 
-pub spent-turn : (s : StateInCode) (w : World) → IsGood s → IsCore s.core → IsSpent s.core
+pub spent-turn : (s : StateInCode) (w : World) → IsKept s → IsCore s.core → IsSpent s.core
     → turn (state_of s w) ≡ turn_as (state_of s w) [] (Some verdict.Budget)
-spent-turn s w good sound spent =
+spent-turn s w kept sound spent =
     let x = spent.first in
-    let placed = subst (AllByRecursion (IsPlacedIn s)) spent.queue good.placed in
-    let machine = the-machine (get (machines_at_home s.container.places) x.vpid) placed.0.home in
+    let head = subst (AllByRecursion (IsKeptIn s)) spent.queue kept.kept in
+    let machine = the-machine (get (machines_at_home s.container.places) x.vpid) (head.0.home spent.arrived) in
     let found = head-work s x spent.rest machine.0 spent.queue machine.1 in
     let counted = first-counted _ _ (subst (λ l. IsTrue (have_segment_counts l)) spent.queue sound.counted) in
     turn-spent (state_of s w) x.vpid (pids spent.rest) (the_work s.stops x machine.0)

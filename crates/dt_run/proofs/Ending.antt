@@ -35,6 +35,7 @@ use Rattle.dt_run.proofs.Turns.{run-by-turns, runs-alike, after-after}
 use Rattle.dt_run.proofs.Works.{works_in-owing}
 use Rattle.dt_run.proofs.Queued.{IsOver, over-head}
 use Rattle.dt_run.proofs.Standings.{one-owes}
+use Rattle.dt_run.proofs.Kept.{kept-good}
 use Rattle.dt_run.proofs.Came.{spent-turn}
 
 -- after a turn the run is what showed in it, and what is left
@@ -70,7 +71,7 @@ over-rest : (s : StateInCode) (w : World) (v : Verdict) → IsGood s → IsCore 
 over-rest s w v good sound over =
     ⊎_elim (λ e. ap (rest_of (state_of s w)) e)
     (λ e. rest-running (state_of s w) s.core.verdict e.0 ∙ run-by-turns (state_of s w)
-    ∙ ap (λ (t : Turn). run_after_turn t t.verdict run_of_turns) (spent-turn s w good sound e.1.1)
+    ∙ ap (λ (t : Turn). run_after_turn t t.verdict run_of_turns) (spent-turn s w (kept-good s good) sound e.1.1)
     ∙ ap (λ v. record { events = []; verdict = v; last = shared_of s.container.shared w }) (sym e.1.0))
     over
 
@@ -94,13 +95,20 @@ first-owes : (q : ℕ) → first_phases q ≡ Owes
 first-owes q = ap (λ phase. with_stop phase (noted_stop (get (insert first_stops FIRST_PID Slice) q))) (one-owes q FIRST_PID)
 
 -- a run that begins
+pub first-state-is : (c : ContainerView) (w : World) (budget : ℕ) (s : StateInCode)
+    → s ≡ record { container = c; core = first_core budget; stops = insert empty FIRST_PID Slice }
+    → first_state (container_of c w) budget ≡ state_of s w
+first-state-is c w budget s is =
+    ap (λ works. record (first_state (container_of c w) budget) { works = works })
+    (sym (works_in-owing (machines_at_home c.places) first_phases first-owes))
+    ∙ ap (λ (s : StateInCode). state_of s w) (sym is)
+
 pub first-run : (c : ContainerView) (w : World) (budget : ℕ) (s : StateInCode)
     → s ≡ record { container = c; core = first_core budget; stops = insert empty FIRST_PID Slice }
     → run_from budget (container_of c w) Started ≡ rest_of (state_of s w) s.core.verdict
 first-run c w budget s is =
-    ap (λ works. run_of_turns (record (first_state (container_of c w) budget) { works = works }))
-    (sym (works_in-owing (machines_at_home c.places) first_phases first-owes))
-    ∙ ap (λ (s : StateInCode). rest_of (state_of s w) s.core.verdict) (sym is)
+    ap run_of_turns (first-state-is c w budget s is)
+    ∙ ap (rest_of (state_of s w)) (sym (ap (λ (s : StateInCode). s.core.verdict) is))
 
 pub first-good : (c : ContainerView) (w : World) (budget : ℕ) (s : StateInCode)
     → s ≡ record { container = c; core = first_core budget; stops = insert empty FIRST_PID Slice } → IsSoundContainer c w

@@ -32,39 +32,39 @@ all-append P [] ys h k = k
 all-append P (x ∷ xs) ys h k = (h.0, all-append P xs ys h.1 k)
 
 -- a machine at home after a turn
-own-there : (machines : Machines) (p : ℕ) (own : Option Machine) (q : ℕ) → (q ≡ p → IsSome own)
+pub own-there : (machines : Machines) (p : ℕ) (own : Option Machine) (q : ℕ) → (q ≡ p → IsSome own)
     → IsSome (get machines q) → IsSome (get (with_own machines p own) q)
 own-there machines p None q here was = at_remove nat_cmp_total nat_cmp-IsAntisymmetric
     (λ found. IsSome found) machines p q here (λ _. was)
 own-there machines p (Some m) q here was = at_insert nat_cmp_total nat_cmp-IsAntisymmetric
     (λ found. IsSome found) machines p m q (λ _. refl) (λ _. was)
 
-own-home : (machines : Machines) (p : ℕ) (own : Option Machine) → IsSome own → IsSome (get (with_own machines p own) p)
+pub own-home : (machines : Machines) (p : ℕ) (own : Option Machine) → IsSome own → IsSome (get (with_own machines p own) p)
 own-home machines p None some = cc
 own-home machines p (Some m) some = subst IsSome (sym (get-insert_same nat_cmp_total nat_cmp-IsAntisymmetric machines p m)) refl
 
-child-there : (machines : Machines) (next : ℕ) (child : Option Machine) (q : ℕ) → IsSome (get machines q)
+pub child-there : (machines : Machines) (next : ℕ) (child : Option Machine) (q : ℕ) → IsSome (get machines q)
     → IsSome (get (with_child_machine machines next child) q)
 child-there machines next None q was = was
 child-there machines next (Some m) q was = at_insert nat_cmp_total nat_cmp-IsAntisymmetric
     (λ found. IsSome found) machines next m q (λ _. refl) (λ _. was)
 
-child-home : (machines : Machines) (next : ℕ) (child : Option Machine) → IsSome child
+pub child-home : (machines : Machines) (next : ℕ) (child : Option Machine) → IsSome child
     → IsSome (get (with_child_machine machines next child) next)
 child-home machines next None some = cc
 child-home machines next (Some m) some = subst IsSome
     (sym (get-insert_same nat_cmp_total nat_cmp-IsAntisymmetric machines next m)) refl
 
-next-later : (next : ℕ) (child : Option Machine) → next ≤ next_after next child
+pub next-later : (next : ℕ) (child : Option Machine) → next ≤ next_after next child
 next-later next None = omega arith
 next-later next (Some m) = omega arith
 
-next-child : (next : ℕ) (child : Option Machine) → IsSome child → next < next_after next child
+pub next-child : (next : ℕ) (child : Option Machine) → IsSome child → next < next_after next child
 next-child next None some = cc
 next-child next (Some m) some = omega arith
 
 -- a process that isn't in the rest isn't any of it
-held-other : (p : ℕ) (x : Process) (xs : List Process) → is_queued p (x ∷ xs) ≡ false → (x.vpid ≢ p) × (is_queued p xs ≡ false)
+pub held-other : (p : ℕ) (x : Process) (xs : List Process) → is_queued p (x ∷ xs) ≡ false → (x.vpid ≢ p) × (is_queued p xs ≡ false)
 held-other p x xs apart = (λ e. absurd (grind (arith, nat_tests)), grind (arith, nat_tests))
 
 pub once-apart : (a b : Bool) → IsTrue (not a && b) → (a ≡ false) × IsTrue b
@@ -72,7 +72,7 @@ once-apart true b once = cc
 once-apart false b once = (refl, once)
 
 -- a child was made where there is its machine
-born-child : (next : ℕ) (served : Served) (child : Option Machine) → FitsChild next served child → IsTrue (makes_child served)
+pub born-child : (next : ℕ) (served : Served) (child : Option Machine) → FitsChild next served child → IsTrue (makes_child served)
     → IsSome child
 born-child next Done child fits made = cc
 born-child next (Child vpid) child fits made = fits.machine
@@ -151,7 +151,7 @@ module _ (machines : Machines) (stops : Stops) (next : ℕ) (q : Process) (own c
           (own-placed (Unsupported number) q.phase lives tt, rest-placed (Unsupported number) rest apart placed)
 
 -- where all have ended the queue is empty
-none-left : (P : Process → Type 0) (q : Process) (rest : List Process) (served : Served)
+pub none-left : (P : Process → Type 0) (q : Process) (rest : List Process) (served : Served)
     → is_end_of_all q.vpid served ≡ true → AllByRecursion P (sched.processes_after_turn q rest (settled_of served))
 none-left P q rest Done over = cc
 none-left P q rest (Child vpid) over = cc
@@ -202,7 +202,7 @@ still-there m p (x ∷ xs) apart there =
     let tests = held-other p x xs apart in
     (subst IsSome (sym (get-remove_other nat_cmp_total nat_cmp-IsAntisymmetric m p x.vpid tests.0)) there.0, still-there m p xs tests.1 there.1)
 
-no_more : {X : Type 0} (ps : List Process) (m : FinMap nat_cmp X) → IsTrue (is_distinct ps)
+pub no_more : {X : Type 0} (ps : List Process) (m : FinMap nat_cmp X) → IsTrue (is_distinct ps)
     → AllByRecursion (λ (x : Process). IsSome (get m x.vpid)) ps → length ps ≤ total (λ (x : X). 1) m
 no_more [] m once there = omega arith
 no_more {X} (p ∷ ps) m once there =
@@ -251,7 +251,7 @@ module _ (machines : Machines) (stops : Stops) (next p : ℕ) (own child : Optio
       keyed (x ∷ xs) h = (key x.vpid h.0, keyed xs h.1)
 
 -- a child finds room
-room-tests : (held : Bool) (n : ℕ) → held ≡ false → n + 1 ≤ 64 → IsTrue (not held && nat_lt n 64)
+pub room-tests : (held : Bool) (n : ℕ) → held ≡ false → n + 1 ≤ 64 → IsTrue (not held && nat_lt n 64)
 room-tests true n new few = cc
 room-tests false n new few = grind (arith, nat_tests)
 

@@ -19,7 +19,7 @@ use Rattle.dt_run.specs.Turn.{settled_of}
 use Rattle.dt_run.specs.inner.InCode.{Stops, phase_at, noted_stop, with_stop, phase_in, stops_after}
 
 -- a process that isn't among those
-phase-absent : (q : ℕ) (xs : List Process) → is_queued q xs ≡ false → phase_at q xs ≡ Owes
+pub phase-absent : (q : ℕ) (xs : List Process) → is_queued q xs ≡ false → phase_at q xs ≡ Owes
 phase-absent q [] absent = refl
 phase-absent q (x ∷ xs) absent = grind (arith, nat_tests, phase-absent q xs)
 

@@ -4,6 +4,13 @@ pub mod Work
 pub mod Turn
 pub mod Run
 pub mod Ahead
+pub mod Playing
+pub mod Admission
+pub mod Happenings
+pub mod Played
+pub mod Lent
+pub mod InCode
+pub mod InPlay
 pub mod Written
 pub mod Wanted
 pub mod SomeRun

@@ -1,5 +1,8 @@
 // Laws of turns and runs: what the order in which segments are run cannot change.
 ghost use Rattle.dt_run.specs.Ahead.{TurnAhead, RanAhead, TurnAway, RunsAlike};
+ghost use Rattle.dt_run.specs.Lent.{ReturnRuns};
+ghost use Rattle.dt_run.specs.Played.{PlayedTurns};
+ghost use Rattle.dt_run.specs.Playing.{RestAtFirst};
 ghost use Rattle.dt_run.specs.Run.{RunByTurns};
 
 /// A run is a turn and, unless that is the last one, the run from there.
@@ -25,4 +28,19 @@ pub fn turn_does_not_see_machines_that_are_away()
 /// Runs from states that are the same once all segments were run are the same.
 pub fn runs_do_not_see_what_ran_ahead()
     ensures { RunsAlike }
+{}
+
+/// Before the first turn all of a run is left.
+pub fn all_of_a_run_is_left_at_first()
+    ensures { RestAtFirst }
+{}
+
+/// Which segments are run when, and between which turns, changes nothing that a run shows.
+pub fn happenings_come_to_turns()
+    ensures { PlayedTurns }
+{}
+
+/// A machine that was lent and comes back from its segment has run that of its process.
+pub fn machine_that_comes_back_has_run_its_segment()
+    ensures { ReturnRuns }
 {}

@@ -136,8 +136,8 @@ impl State {
         Ok(slots)
     }
 
-    // Brings the machine of a process home from its segment, which arrives.
-    fn bring_home(&mut self, vpid: u32, machine: Machine, seg: Seg)
+    /// Brings the machine of a process home from its segment, which arrives.
+    pub fn bring_home(&mut self, vpid: u32, machine: Machine, seg: Seg)
         requires place { IsSome (get self.old.container.places vpid) }
         requires noted { IsSome (get self.old.stops vpid) }
         requires owing { Contains (owing_vpids self.old.core.queue) vpid }

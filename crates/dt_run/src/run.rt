@@ -148,8 +148,8 @@ fn run_turns<R: AllocGlobal + Threads + Sync, H: Host, G: Gate + Sync>(
     }
 }
 
-// The status of a run by its first process's end.
-fn status_by(end: Option<End>) -> u8
+/// The status of a run by its first process's end.
+pub fn status_by(end: Option<End>) -> u8
     ensures { result ≡ status_by end }
 {
     match end {

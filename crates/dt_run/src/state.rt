@@ -82,8 +82,8 @@ impl State {
         Ok(())
     }
 
-    // Runs the segment that a process owes, and lets it arrive. The answer is how it stopped.
-    fn arrive(&mut self, vpid: u32, hints: &mut Hints) -> Result<Stop, NoMemory>
+    /// Runs the segment that a process owes, and lets it arrive. The answer is how it stopped.
+    pub fn arrive(&mut self, vpid: u32, hints: &mut Hints) -> Result<Stop, NoMemory>
         requires good { IsGood self.old }
         requires core { IsCore self.old.core }
         requires owing { Contains (owing_vpids self.old.core.queue) vpid }

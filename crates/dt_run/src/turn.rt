@@ -4,12 +4,14 @@ ghost use Rattle.std.specs.FinMap.{get};
 ghost use Rattle.dt_host.specs.Cause.{HasCause};
 ghost use Rattle.dt_sched.specs.Core.{head, is_vpid_waiting, IsCore};
 ghost use Rattle.dt_sched.specs.declared.settled.Head.TheVariants.{Ready};
+ghost use Rattle.dt_calls.specs.AtHome.{KeepPlaces};
 ghost use Rattle.dt_calls.specs.InCode.{container_of, machines_at_home, container_turn_as};
 ghost use Rattle.dt_calls.specs.Settle.{turn_of_container};
 ghost use Rattle.dt_calls.specs.Sound.{IsSoundContainer};
 ghost use Rattle.dt_run.specs.Turn.{turn, settled_of};
 ghost use Rattle.dt_run.specs.inner.InCode.{state_of, turn_as, noted_stop, due_stop, stops_after};
 ghost use Rattle.dt_run.specs.inner.Good.{IsGood, steps_left};
+ghost use Rattle.dt_run.specs.InPlay.{IsKept};
 
 use crate::state::State;
 use dt_base::{Event, NoMemory};
@@ -23,13 +25,14 @@ impl State {
     /// Takes the turn of the head of the queue, which is ready, and answers what it shows.
     pub fn turn<H: Host>(&mut self, host: &mut H, vpid: u32) -> Result<Vec<Event>, HostErr>
         requires sound { IsSoundContainer self.old.container (H.view host.old) }
-        requires good { IsGood self.old }
+        requires kept { IsKept self.old }
         requires core { IsCore self.old.core }
         requires ready { head self.old.core ≡ Ready vpid }
         ensures ok { IfOk result (λ events. turn (state_of self.old (H.view host.old))
             ≡ turn_as (state_of self.new (H.view host.new)) events.items self.new.core.verdict) }
         ensures sound { OnOk result (IsSoundContainer self.new.container (H.view host.new)) }
-        ensures good { OnOk result (IsGood self.new) }
+        ensures kept { OnOk result (IsKept self.new) }
+        ensures good { IsGood self.old → OnOk result (IsGood self.new) }
         ensures smaller { OnOk result (steps_left self.new.core < steps_left self.old.core) }
         ensures cause { HasCause (H.count host.old) (H.count host.new) (IsErrOf result HostErr.Failed) }
     {
@@ -49,6 +52,8 @@ impl State {
             (due_stop (is_vpid_waiting vpid self.old.core.queue) (noted_stop (get self.old.stops vpid)))
             ≡ Some (container_turn_as (container_of self.new.container (H.view host.new)) served)) }
         ensures rest { self.new ≡ record self.old { container = self.new.container } }
+        ensures places { IfOk result
+            (λ served. KeepPlaces vpid served self.old.container.places self.new.container.places) }
         ensures sound { OnOk result (IsSoundContainer self.new.container (H.view host.new)) }
         ensures cause { HasCause (H.count host.old) (H.count host.new) (IsErrOf result HostErr.Failed) }
     {

@@ -33,6 +33,10 @@ owing_process vpid = record { vpid = vpid; phase = Owes }
 abbrev pub first_core : ℕ → CoreView
 first_core budget = core_of (owing_process FIRST_PID ∷ []) 0 budget None
 
+-- where a run is over before its first turn there is no process, and the verdict says why
+abbrev pub over_core : ℕ → Verdict → CoreView
+over_core budget verdict = core_of [] 0 budget (Some verdict)
+
 -- a process of this virtual pid stands in the queue
 abbrev pub is_queued : ℕ → List Process → Bool
 is_queued vpid [] = false

@@ -121,24 +121,24 @@ fn owe(owed: &mut Vec<u32>, indices: &mut Vec<usize>, process: Process, index: u
 }
 
 impl Queue {
+    /// No process.
+    pub fn empty(alloc: Global) -> Result<Self, NoMemory>
+        ensures { IfOk result (λ queue. queue ≡ []) }
+    {
+        Ok(Queue {
+            processes: VecDeque::with_capacity(alloc, QUEUE_LIMIT)?,
+            owed: Vec::with_capacity(alloc, QUEUE_LIMIT)?,
+            indices: Vec::with_capacity(alloc, QUEUE_LIMIT)?,
+        })
+    }
+
     /// The first process alone, which owes a segment.
     pub fn new(alloc: Global) -> Result<Self, NoMemory>
         ensures { IfOk result (λ queue. queue ≡ owing_process FIRST_PID ∷ []) }
     {
-        let mut processes = VecDeque::with_capacity(alloc, QUEUE_LIMIT)?;
-        let mut owed = Vec::with_capacity(alloc, QUEUE_LIMIT)?;
-        let mut indices = Vec::with_capacity(alloc, QUEUE_LIMIT)?;
-        processes.push_back(Process {
-            vpid: FIRST_PID,
-            phase: Phase::Owes,
-        })?;
-        owed.push(FIRST_PID)?;
-        indices.push(0)?;
-        Ok(Queue {
-            processes,
-            owed,
-            indices,
-        })
+        let mut queue = Queue::empty(alloc)?;
+        queue.add(FIRST_PID, Phase::Owes);
+        Ok(queue)
     }
 
     /// The virtual pids of those that owe a segment which has not arrived, in the order of their turns.

@@ -2,7 +2,7 @@
 ghost use Rattle.std.specs.Prelude.{◌≡◌, ◌<◌, ◌≤◌, IfOk, IsTrue, true, length};
 ghost use Rattle.std.specs.List.{Contains};
 ghost use Rattle.dt_sched.specs.declared.queue.TheConstants.{QUEUE_LIMIT};
-ghost use Rattle.dt_sched.specs.Core.{first_core, owing_vpids, is_vpid_waiting, core_after_arrival, cost_of, head};
+ghost use Rattle.dt_sched.specs.Core.{first_core, over_core, owing_vpids, is_vpid_waiting, core_after_arrival, cost_of, head};
 ghost use Rattle.dt_sched.specs.Core.{IsReady, core_after_turn, has_room};
 ghost use Rattle.dt_sched.specs.Core.{is_segment_count, IsCore};
 ghost use Rattle.dt_sched.specs.Order.{blocked_after, verdict_after};
@@ -92,6 +92,25 @@ impl Core {
             left: budget,
             verdict: None,
         })
+    }
+
+    /// No process, and the verdict of a run that is over before its first turn; NoMemory as for `new`.
+    pub fn over(alloc: Global, budget: u64, verdict: Verdict) -> Result<Self, NoMemory>
+        ensures { IfOk result (λ core. core ≡ over_core budget verdict) }
+    {
+        Ok(Core {
+            queue: Queue::empty(alloc)?,
+            blocked: 0,
+            left: budget,
+            verdict: Some(verdict),
+        })
+    }
+
+    /// The verdict with which a turn ended the run, if one did.
+    pub fn verdict(&self) -> Option<Verdict>
+        ensures { result ≡ self.now.verdict }
+    {
+        self.verdict
     }
 
     /// The virtual pids of the processes whose segment has not arrived, in queue order.

@@ -1,5 +1,5 @@
-//! Tests of calls below the run: the queue in whole schedules, a container's machine, copies of plain values, and
-//! numbers.
+//! Tests of calls below the run, and of one that is in play: the queue in whole schedules, happenings in any order, a
+//! container's machine, copies of plain values, and numbers.
 #![tactic(auto)]
 
 #[cfg(test)]
@@ -15,7 +15,11 @@ mod deadlocks;
 #[cfg(test)]
 mod driver;
 #[cfg(test)]
+mod engine;
+#[cfg(test)]
 mod expect;
+#[cfg(test)]
+mod happenings;
 #[cfg(test)]
 mod limits;
 #[cfg(test)]

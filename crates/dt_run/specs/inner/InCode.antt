@@ -1,83 +1,28 @@
 -- Inner words: what the code has in hand, as the definitions see it with what its host keeps.
-use Rattle.std.specs.Prelude.{ℕ, ◌==◌, Bool, List, [], ◌∷◌, map, Option, None, Some, if◌then◌else◌}
-use Rattle.std.specs.Ordering.{nat_cmp}
-use Rattle.std.specs.FinMap.{FinMap, entries, from_entries, get, insert, remove}
+use Rattle.std.specs.Prelude.{ℕ, Bool, true, false, List, Option, if◌then◌else◌}
+use Rattle.std.specs.FinMap.{insert, remove}
 use Rattle.dt_base.specs.declared.event.Event.{Event}
 use Rattle.dt_base.specs.declared.event.Verdict.{Verdict}
 use Rattle.dt_host.specs.World.{World}
-use Rattle.dt_rv64.specs.declared.machine.Machine.{Machine}
-use Rattle.dt_sched.specs.Core.{CoreView}
-use Rattle.dt_sched.specs.declared.process.Process.{Process}
-use Rattle.dt_sched.specs.declared.process.Phase.{Phase}
-use Rattle.dt_sched.specs.declared.process.Phase.TheVariants.{Owes, Ran, Waits}
-use Rattle.dt_sched.specs.Order.{Schedule}
-use Rattle.dt_rv64.specs.declared.segments.Seg.{Seg}
 use Rattle.dt_rv64.specs.declared.segments.Stop.{Stop}
 use Rattle.dt_rv64.specs.declared.segments.Stop.TheVariants.{Call, Slice}
-use Rattle.dt_calls.specs.Container.{Machines}
-use Rattle.dt_calls.specs.InCode.{shared_of, machines_at_home}
+use Rattle.dt_calls.specs.InCode.{shared_of}
 use Rattle.dt_calls.specs.declared.container.Served.{Served}
 use Rattle.dt_calls.specs.declared.container.Served.TheVariants.{Done, Child, LastChild, Blocked, Progress, Ended, Unsupported}
+use Rattle.dt_run.specs.declared.happening.Admitted.{Admitted}
+use Rattle.dt_run.specs.declared.happening.Admitted.TheVariants as admitted
 use Rattle.dt_run.specs.declared.run.Run.{Run as RunInCode}
-use Rattle.dt_run.specs.declared.state.State.{State as StateInCode}
-use Rattle.dt_run.specs.Work.{Work, Works}
 use Rattle.dt_run.specs.Turn.{State, Turn}
-use Rattle.dt_run.specs.Run.{Run, run_of_turns}
-
--- the stop of the last segment that each process has run
-abbrev pub Stops : Type 0
-Stops = FinMap nat_cmp Stop
-
--- where the process of a pid stands in a queue; one that isn't there owes
-abbrev pub phase_at : ℕ → List Process → Phase ℕ
-phase_at p [] = Owes
-phase_at p (x ∷ xs) = if x.vpid == p then x.phase else phase_at p xs
-
--- the stop that is noted of a process
-abbrev pub noted_stop : Option Stop → Stop
-noted_stop None = Slice
-noted_stop (Some stop) = stop
-
--- where a process stands, with the stop of its segment where it has run one
-abbrev pub with_stop : Phase ℕ → Stop → Phase Seg
-with_stop Owes stop = Owes
-with_stop (Ran count) stop = Ran (record { count = count; stop = stop })
-with_stop Waits stop = Waits
-
--- where a process stands, by the queue and by the stop that is noted
-abbrev pub phase_in : List Process → Stops → ℕ → Phase Seg
-phase_in queue stops p = with_stop (phase_at p queue) (noted_stop (get stops p))
-
--- the work of a process whose machine is at home
-abbrev pub work_in : Phase Seg → Machine → Work
-work_in phase m = record { machine = m; phase = phase }
-
--- the works at home: each machine with where its process stands
-unfoldable pub works_in : Machines → (ℕ → Phase Seg) → Works
-works_in machines phases = from_entries (map (λ e. (e.0, work_in (phases e.0) e.1)) (entries machines))
-
-abbrev pub schedule_of : CoreView → Schedule
-schedule_of core = record { order = map (λ (p : Process). p.vpid) core.queue; blocked = core.blocked; left = core.left }
-
--- a run between two turns
-abbrev pub state_of : StateInCode → World → State
-state_of s w = record {
-  shared = shared_of s.container.shared w;
-  works = works_in (machines_at_home s.container.places) (phase_in s.core.queue s.stops);
-  schedule = schedule_of s.core;
-  next = s.container.shared.pids.next;
-}
+use Rattle.dt_run.specs.Run.{Run}
+pub use Rattle.dt_run.specs.InCode.{Stops, phase_at, noted_stop, with_stop, phase_in, work_in, schedule_of, state_of}
+unfoldable pub use Rattle.dt_run.specs.InCode.{works_in}
+pub use Rattle.dt_run.specs.Playing.{rest_of}
 
 abbrev pub turn_as : State → List Event → Option Verdict → Turn
 turn_as next events verdict = record { next = next; events = events; verdict = verdict }
 
 abbrev pub run_as : RunInCode → World → Run
 run_as run w = record { events = run.events.items; verdict = run.verdict; last = shared_of run.last.shared w }
-
--- what is left of a run: its turns, or nothing after a turn's verdict
-abbrev pub rest_of : State → Option Verdict → Run
-rest_of s None = run_of_turns s
-rest_of s (Some verdict) = record { events = []; verdict = verdict; last = s.shared }
 
 -- the stop that is to be served in a process's turn: that of its last segment, or its call again where it waits
 abbrev pub due_stop : Bool → Stop → Stop
@@ -92,3 +37,9 @@ stops_after stops p Blocked = stops
 stops_after stops p Progress = stops
 stops_after stops p Ended = remove stops p
 stops_after stops p (Unsupported number) = stops
+
+-- whether the head's turn has come, by what its admission answers
+abbrev pub has_come : Admitted → Bool
+has_come (admitted.NotArrived p) = false
+has_come admitted.Turn = true
+has_come (admitted.Over verdict) = true

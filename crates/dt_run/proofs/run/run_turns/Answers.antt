@@ -1,5 +1,6 @@
 use Rattle.std.proofs.Common.{sym, ◌∙◌, arith}
 use Rattle.dt_run.proofs.Queued.{owed-head, ready-head}
+use Rattle.dt_run.proofs.Kept.{kept-good}
 use Rattle.dt_run.proofs.Ending.{after-turn, after-arrival, over-run}
 use Rattle.dt_run.proofs.run.run_turns.Goals as goal
 
@@ -13,6 +14,9 @@ loop-state-preserved-in_ok-let_arrive-in-NotArrived g c =
       later = omega (arith, c.loop-state.invariant.later, c.let_arrive.ensures.cause.later);
     }
 
+pub turn-requires-clause-kept : goal.turn-requires-clause-kept
+turn-requires-clause-kept g c = kept-good c.loop-state.state c.loop-state.invariant.good
+
 pub loop-state-preserved : goal.loop-state-preserved
 loop-state-preserved g c =
     let ready = ready-head c.loop-state.state.core _ (sym c.head.ensures.head ∙ c.in-Ready.is) in
@@ -20,7 +24,7 @@ loop-state-preserved g c =
       whole = rw c.in_ok-append-in-Ready.ensures.items
           (after-turn _ _ _ _ _ _ _ c.loop-state.invariant.whole ready.running c.in_ok-turn-in-Ready.ensures.ok);
       sound = c.in_ok-turn-in-Ready.ensures.sound;
-      good = c.in_ok-turn-in-Ready.ensures.good;
+      good = c.in_ok-turn-in-Ready.ensures.good c.loop-state.invariant.good;
       later = omega (arith, c.loop-state.invariant.later, c.turn.ensures.cause.later);
     }
 

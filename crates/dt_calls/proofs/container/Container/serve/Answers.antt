@@ -1,5 +1,6 @@
+use Rattle.std.proofs.Common.{refl, ap}
 use Rattle.dt_calls.specs.InCode.{ContainerView}
-use Rattle.dt_calls.proofs.Serving.{sound-served, task-served, home-served, settles, serve-done}
+use Rattle.dt_calls.proofs.Serving.{sound-served, task-served, home-served, places-kept, settles, serve-done}
 use Rattle.dt_calls.proofs.container.Container.serve.Goals as goal
 
 pub serve_at-requires-clause-sound : goal.serve_at-requires-clause-sound
@@ -47,3 +48,10 @@ returns-clause-ok g c =
     let did = c.in_ok-effect.ensures in
     serve-done c.args.self.now s (g.H.Host.view c.args.host.now) c.args.vpid c.requires.sound c.self.view_is c.requires.home c.serve_at.new.places did.was did.now did.becomes
     c.args.stop c.next-next.result (g.H.Host.view c.serve_at.new.host) c.in_ok-effect.effect c.serve_at.new.shared _ c.next-next.ensures.value did.serves.served did.serves.kept.next c.in_ok-settle.ensures
+
+pub returns-clause-places : goal.returns-clause-places
+returns-clause-places g c =
+    let s : ContainerView = record { shared = c.self.inside.shared; places = c.self.inside.places; events = c.self.inside.events.items } in
+    let did = c.in_ok-effect.ensures in
+    places-kept c.args.self.now s (g.H.Host.view c.args.host.now) c.args.vpid c.requires.sound c.self.view_is c.requires.home c.serve_at.new.places did.was did.now did.becomes
+    c.next-next.result c.in_ok-effect.effect c.settle.new.self c.serve_at.new.places refl (ap (λ (x : ContainerView). x.places) c.in_ok-settle.ensures)
