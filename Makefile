@@ -5,7 +5,7 @@ DESTDIR =
 release = $(wildcard VERSION)
 program = $(if $(release),dettrace,crates/dettrace/out/dettrace)
 
-.PHONY: help install uninstall dist check bench has_program has_sources
+.PHONY: help install uninstall dist check bench hostile has_program has_sources
 
 help:
 	@echo 'make install PREFIX=DIR   puts dettrace, its tools, pages and completion below DIR ($(PREFIX)); DESTDIR=ROOT'
@@ -14,7 +14,8 @@ help:
 	@echo 'make dist                 makes out/dettrace-VERSION.tar.gz, a release of this commit'
 	@echo 'make check                proves all, and runs all tests (two hours)'
 	@echo 'make bench                times the program that is there'
-	@echo 'The last three are for a checkout. ./dettrace build makes the program.'
+	@echo 'make hostile              tries it with 20,000 images, programs and words that mean harm'
+	@echo 'The last four are for a checkout. ./dettrace build makes the program.'
 
 has_program:
 	@test -x $(program) || { \
@@ -50,3 +51,8 @@ bench: has_sources has_program
 	python3 bench/pipes/run.py $(program)
 	python3 bench/signals/run.py $(program)
 	python3 bench/workers/run.py $(program)
+
+# Random images, executables, words and guests, from a seed that is printed: HOSTILE='--seed N --tries N'. docs/SECURITY.md
+# says what is looked at. What failed is kept in out/hostile.
+hostile: has_sources has_program
+	tools/hostile --program $(program) $(HOSTILE)
