@@ -18,14 +18,14 @@ def session(heading: str) -> list[tuple[str, str]]:
 
 
 class Folders(unittest.TestCase):
-    def test_each_example_has_a_command_and_a_report_and_is_named_in_the_readme(self):
-        readme = (TOP / "README.md").read_text()
+    def test_each_example_has_a_command_and_a_report_and_is_named_on_their_page(self):
+        page = (EXAMPLES / "README.md").read_text()
         self.assertGreater(len(NAMES), 10)
         for name in NAMES:
             with self.subTest(name):
                 self.assertTrue((EXAMPLES / name / "command").is_file())
                 self.assertTrue((EXAMPLES / name / "report").is_file())
-                self.assertRegex(readme, rf"(?m)^\| `{re.escape(name)}` \|")
+                self.assertRegex(page, rf"(?m)^\| `{re.escape(name)}` \|")
 
 
 @needs_program

@@ -1,17 +1,21 @@
 #!/bin/sh
-# Builds musl, a C library for POSIX programs, for rv64im from Debian's source: musl.sh FOLDER. It makes FOLDER with
-# include/, lib/ and the compiler FOLDER/cc, which links with it. It takes Debian's packages dpkg-dev, make,
-# gcc-riscv64-linux-gnu, gcc-riscv64-unknown-elf (for its libgcc) and linux-libc-dev-riscv64-cross, and a line for
-# sources in apt's list (deb-src, or Types: deb deb-src).
+# Builds musl, a C library for POSIX programs, for rv64im from Debian's source: musl.sh [FOLDER]. It makes FOLDER with
+# include/ and lib/; without a FOLDER it makes the one in which ./cc looks for it.
 set -e
-[ $# = 1 ] || { echo "musl.sh: one folder is wanted, which is made" >&2; exit 2; }
-mkdir "$1"
-folder=$(cd "$1" && pwd)
-sources=$(mktemp -d)
-trap 'rm -rf "$sources"; [ -x "$folder/cc" ] || rm -rf "$folder"' EXIT
-cd "$sources"
-apt-get source musl
-cd musl-*/
+here=$(cd "$(dirname "$(readlink -f "$0")")" && pwd)
+. "$here/common.sh"
+[ $# -le 1 ] || fail "at most one folder is wanted, which is made" 2
+need_for_musl
+folder=${1:-$(guest_folder)/musl}
+[ ! -e "$folder" ] || fail "$folder is there already"
+mkdir -p "$(dirname "$folder")"
+folder=$(cd "$(dirname "$folder")" && pwd)/$(basename "$folder")
+case $folder in *[[:space:]]*) fail "the path $folder has a blank, which musl's own build does not take" ;; esac
+work=$(mktemp -d)
+trap 'rm -rf "$work" "$folder.new"' EXIT
+"$here/source.sh" "$work" musl
+echo "$(basename "$0"): building musl, once" >&2
+cd "$work"/musl-*/
 
 # A process has one thread here, and a handler runs between two instructions: plain loads and stores do.
 cat >arch/riscv64/atomic_arch.h <<'HEADER'
@@ -39,26 +43,18 @@ static inline void *a_cas_p(volatile void *p, void *t, void *s)
 }
 HEADER
 
-libgcc=$(riscv64-unknown-elf-gcc -march=rv64im -mabi=lp64 -print-libgcc-file-name)
-CC="riscv64-linux-gnu-gcc -march=rv64im -mabi=lp64" LIBCC="$libgcc" CROSS_COMPILE=riscv64-linux-gnu- \
-    ./configure --target=riscv64 --prefix="$folder" --disable-shared
-make -j4 install
-for headers in linux asm asm-generic; do
-    ln -s "/usr/riscv64-linux-gnu/include/$headers" "$folder/include/$headers"
-done
+build_musl() {
+    CC="riscv64-linux-gnu-gcc -march=rv64im -mabi=lp64" CFLAGS="-O2 -fno-pie -mno-relax" LIBCC="$(libgcc)" \
+        CROSS_COMPILE=riscv64-linux-gnu- ./configure --target=riscv64 --prefix="$folder.new" --disable-shared
+    make "-j$(jobs)" install
+}
+logged "$work/log" build_musl
 
-cat >"$folder/cc" <<CC
-#!/bin/sh
-# The compiler for programs with this C library. What is not linked into a program is only compiled.
-for word in "\$@"; do
-    case \$word in
-    -c | -E | -S | -M | -MM | -r | -Wl,-r) only=yes ;;
-    esac
+# The compiler's own functions (libgcc) are Debian's for rv64im. They lie beside the library, since whoever links with
+# it needs them too.
+riscv64-linux-gnu-strip --strip-debug -o "$folder.new/lib/libgcc.a" "$(libgcc)"
+for headers in linux asm asm-generic; do
+    ln -s "/usr/riscv64-linux-gnu/include/$headers" "$folder.new/include/$headers"
 done
-set -- -march=rv64im -mabi=lp64 -fno-pie -fno-stack-protector -nostdinc -isystem "$folder/include" \
-    -isystem "$(riscv64-linux-gnu-gcc -print-file-name=include)" "\$@"
-[ -z "\$only" ] || exec riscv64-linux-gnu-gcc "\$@"
-exec riscv64-linux-gnu-gcc -static -no-pie -nostdlib -Wl,-z,max-page-size=4096 "$folder/lib/crt1.o" \
-    "$folder/lib/crti.o" "\$@" -L"$folder/lib" -Wl,--start-group -lc "$libgcc" -Wl,--end-group "$folder/lib/crtn.o"
-CC
-chmod +x "$folder/cc"
+versions "$work" >"$folder.new/versions"
+mv "$folder.new" "$folder"

@@ -1,0 +1,3 @@
+# There is one processor, whatever machine this is.
+nproc
+uname -sm
