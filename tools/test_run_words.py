@@ -57,11 +57,11 @@ class Words(RunCase):
 
     def test_names_and_the_words_behind_them(self) -> None:
         self.refuses(
-            ((), f"no -- stands before the program: run {REST}"),
-            (("tree", "/a"), "no -- stands before the program: run tree -- /a"),
-            (("tree", "/a", "-l"), f"no -- stands before the program: run {REST}"),
-            (("--seed", "x", "tree"), f"no -- stands before the program: run {REST}"),
-            (("--", "/a"), f"a folder, an archive or an image is missing before --: run {REST}"),
+            ((), f"no -- stands before the program: write {REST}"),
+            (("tree", "/a"), "no -- stands before the program: write tree -- /a"),
+            (("tree", "/a", "-l"), f"no -- stands before the program: write {REST}"),
+            (("--seed", "x", "tree"), f"no -- stands before the program: write {REST}"),
+            (("--", "/a"), f"a folder, an archive or an image is missing before --: write {REST}"),
             (("tree", "b\n", "--", "/a"), "b\\n: a second name before --, where tree is the first"),
             (("", "--", "/a"), "the name of the folder, archive or image is empty"),
             (("tree", "--"), "nothing stands behind --: the path of the program in the image is missing"),

@@ -88,7 +88,8 @@ class TryTest(ScriptCase):
     def test_the_image_is_named_by_its_whole_path(self) -> None:
         whole = str(self.folder / "image")
         for words in (["run", "{}"], ["run", "{}", "--seed", "5", "--", "/image"], ["run", "--seed", "5", "{}", "--"],
-                      ["run", "--seed=5", "--host", "image", "{}", "image"], ["run", "--", "image"], ["run"], []):
+                      ["run", "--seed=5", "--host", "image", "{}", "image"], ["run", "--workers", "3", "{}", "--"],
+                      ["run", "--", "image"], ["run"], ["demo", "image", "--workers", "image"], []):
             with self.subTest(words):
                 self.try_words(*(word.format("image") for word in words))
                 self.assertEqual(self.called()[4:], ["--", *(word.format(whole) for word in words)])

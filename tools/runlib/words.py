@@ -154,11 +154,11 @@ def checked(name: str, value: str) -> str:
 def source_of(names: Sequence[str], is_parted: bool) -> str:
     """The name of what is packed or run, which is the only word before `--` that is no option."""
     if not is_parted and len(names) > 1:
-        raise RunError(f"no -- stands before the program: run {shown(names[0])} -- {shown(' '.join(names[1:]))}")
+        raise RunError(f"no -- stands before the program: write {shown(names[0])} -- {shown(' '.join(names[1:]))}")
     if not is_parted:
-        raise RunError(f"no -- stands before the program: run {USAGE}")
+        raise RunError(f"no -- stands before the program: write {USAGE}")
     if not names:
-        raise RunError(f"a folder, an archive or an image is missing before --: run {USAGE}")
+        raise RunError(f"a folder, an archive or an image is missing before --: write {USAGE}")
     if len(names) > 1:
         raise RunError(f"{shown(names[1])}: a second name before --, where {shown(names[0])} is the first")
     if not names[0]:
