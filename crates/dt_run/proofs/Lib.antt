@@ -18,6 +18,7 @@ pub mod Queueing
 pub mod Engines
 pub mod Begun
 pub mod Happened
+pub mod Going
 pub mod Ending
 pub mod Holding
 pub mod Completed

@@ -54,7 +54,7 @@ ready-at s x stands kept =
     (owing-stop x.phase stop) kept.home
 
 -- who is awaited, by the head of the queue
-awaited-by : (s : StateInCode) (w : World) (x : Process) (rest : List Process) (b : Bool) → s.core.queue ≡ x ∷ rest → IsKept s
+pub awaited-by : (s : StateInCode) (w : World) (x : Process) (rest : List Process) (b : Bool) → s.core.queue ≡ x ∷ rest → IsKept s
     → is_owing x.phase ≡ b → awaited (state_of s w) ≡ cond (not b) None (Some x.vpid)
 awaited-by s w x rest b queue kept is =
     let kept_head = subst (AllByRecursion (IsKeptIn s)) queue kept.kept in

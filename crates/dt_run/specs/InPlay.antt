@@ -1,10 +1,10 @@
 -- A run in play in code, as the definitions see it with what its host keeps, and what holds of it between two calls.
-use Rattle.std.specs.Prelude.{◌≡◌, ℕ, ◌<◌, Bool, false, not, List, Option, None, IsSome}
+use Rattle.std.specs.Prelude.{◌≡◌, ℕ, ◌+◌, ◌*◌, ◌<◌, Bool, false, not, List, Option, None, IsSome, length}
 use Rattle.std.specs.List.{AllByRecursion, filter}
 use Rattle.std.specs.FinMap.{get}
 use Rattle.dt_base.specs.declared.event.Verdict.{Verdict}
 use Rattle.dt_host.specs.World.{World}
-use Rattle.dt_sched.specs.Core.{is_owing}
+use Rattle.dt_sched.specs.Core.{CoreView, is_owing, owing_vpids}
 use Rattle.dt_sched.specs.declared.process.Process.{Process}
 use Rattle.dt_calls.specs.AtHome.{Places}
 use Rattle.dt_calls.specs.InCode.{machines_at_home}
@@ -57,3 +57,8 @@ pub record IsKept (s : StateInCode) : Type 0 where
 pub record IsInPlay (e : EngineView) : Type 0 where
   pub kept : IsKept e.state
   pub running : e.verdict ≡ None → e.state.core.verdict ≡ None
+
+-- how far a run is from its end, at most: each turn takes one from the budget, after which as many processes may owe as
+-- the queue holds, at most 64
+abbrev pub steps_left : CoreView → ℕ
+steps_left core = core.left * 100 + length (owing_vpids core.queue)

@@ -4,4 +4,5 @@ pub mod Failures
 pub mod Fails
 pub mod InCode
 pub mod Good
+pub mod Going
 pub mod Round

@@ -1,5 +1,5 @@
 // A run in play, which is taken on by segments and admissions in any order.
-ghost use Rattle.std.specs.Prelude.{◌≡◌, ℕ, List, [], true, false, Some, None, IsSome, IsTrue, IfOk, OnOk, IsErrOf};
+ghost use Rattle.std.specs.Prelude.{◌≡◌, ◌<◌, ◌≤◌, ℕ, List, [], true, false, Some, None, IsSome, IsTrue, IfOk, OnOk, IsErrOf};
 ghost use Rattle.std.specs.FinMap.{get};
 ghost use Rattle.dt_host.specs.Cause.{HasCause};
 ghost use Rattle.dt_host.specs.Sink.{added, AddsPart};
@@ -13,7 +13,7 @@ ghost use Rattle.dt_run.specs.Turn.{turn};
 ghost use Rattle.dt_run.specs.Admission.{admission, admission_of_turn};
 ghost use Rattle.dt_run.specs.Happenings.{is_owing_work};
 ghost use Rattle.dt_run.specs.Lent.{playing_without_work, playing_with_work, returned_work};
-ghost use Rattle.dt_run.specs.InPlay.{playing_of, works_of, owing_of, IsFull, IsInPlay};
+ghost use Rattle.dt_run.specs.InPlay.{playing_of, works_of, owing_of, IsFull, IsInPlay, steps_left};
 ghost use Rattle.dt_run.specs.InCode.{state_of};
 ghost use Rattle.dt_run.specs.inner.Good.{IsGood};
 
@@ -99,6 +99,12 @@ impl Engine {
         ensures sound { OnOk result (IsSoundContainer self.new.state.container (H.view host.new)) }
         ensures full { (let e = playing_of self.old (H.view host.old) in IsFull e.state)
             → OnOk result (let e = playing_of self.new (H.view host.new) in IsFull e.state) }
+
+        // Each turn brings the end nearer.
+        ensures no_farther { OnOk result (steps_left self.new.state.core ≤ steps_left self.old.state.core) }
+        ensures nearer { IfOk result
+            (λ answer. answer ≡ Admitted.Turn → steps_left self.new.state.core < steps_left self.old.state.core) }
+
         ensures open { self.new.finished ≡ self.old.finished }
         ensures host { HasCause (H.count host.old) (H.count host.new) (IsErrOf result RunErr.Host) }
         ensures sink { HasCause (O.count out.old) (O.count out.new) (IsErrOf result RunErr.Sink) }
@@ -139,6 +145,7 @@ impl Engine {
         ensures whole { OnOk result (IsInPlay self.new) }
         ensures sound { OnOk result (IsSoundContainer self.new.state.container (H.view host.new)) }
         ensures good { IsGood self.old.state → OnOk result (IsGood self.new.state) }
+        ensures smaller { OnOk result (steps_left self.new.state.core < steps_left self.old.state.core) }
         ensures open { self.new.finished ≡ self.old.finished }
         ensures host { HasCause (H.count host.old) (H.count host.new) (IsErrOf result RunErr.Host) }
         ensures sink { HasCause (O.count out.old) (O.count out.new) (IsErrOf result RunErr.Sink) }

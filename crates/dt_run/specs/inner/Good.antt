@@ -1,13 +1,13 @@
 -- Inner words: what holds of a run between two turns in code.
-use Rattle.std.specs.Prelude.{ℕ, ◌+◌, ◌*◌, ◌<◌, IsSome, length}
+use Rattle.std.specs.Prelude.{ℕ, ◌<◌, IsSome}
 use Rattle.std.specs.List.{AllByRecursion}
 use Rattle.std.specs.FinMap.{get}
-use Rattle.dt_sched.specs.Core.{CoreView, owing_vpids}
 use Rattle.dt_sched.specs.declared.process.Process.{Process}
 use Rattle.dt_calls.specs.Container.{Machines}
 use Rattle.dt_calls.specs.InCode.{machines_at_home}
 use Rattle.dt_run.specs.declared.state.State.{State}
 use Rattle.dt_run.specs.inner.InCode.{Stops}
+pub use Rattle.dt_run.specs.InPlay.{steps_left}
 
 -- the machine of a process of the queue is at home, a stop is noted of it, and its pid was given
 pub record IsPlaced (machines : Machines) (stops : Stops) (next : ℕ) (p : Process) : Type 0 where
@@ -22,8 +22,3 @@ IsPlacedIn s p = IsPlaced (machines_at_home s.container.places) s.stops s.contai
 -- so it is with each process of the queue
 pub record IsGood (s : State) : Type 0 where
   pub placed : AllByRecursion (IsPlacedIn s) s.core.queue
-
--- how far a run is from its end, at most: each turn takes one from the budget, after which as many processes may owe as
--- the queue holds, at most 64
-abbrev pub steps_left : CoreView → ℕ
-steps_left core = core.left * 100 + length (owing_vpids core.queue)

@@ -3,26 +3,19 @@ use Rattle.std.specs.Prelude.{ℕ, Bool, true, false, List, Option, if◌then◌
 use Rattle.std.specs.FinMap.{insert, remove}
 use Rattle.dt_base.specs.declared.event.Event.{Event}
 use Rattle.dt_base.specs.declared.event.Verdict.{Verdict}
-use Rattle.dt_host.specs.World.{World}
 use Rattle.dt_rv64.specs.declared.segments.Stop.{Stop}
 use Rattle.dt_rv64.specs.declared.segments.Stop.TheVariants.{Call, Slice}
-use Rattle.dt_calls.specs.InCode.{shared_of}
 use Rattle.dt_calls.specs.declared.container.Served.{Served}
 use Rattle.dt_calls.specs.declared.container.Served.TheVariants.{Done, Child, LastChild, Blocked, Progress, Ended, Unsupported}
 use Rattle.dt_run.specs.declared.happening.Admitted.{Admitted}
 use Rattle.dt_run.specs.declared.happening.Admitted.TheVariants as admitted
-use Rattle.dt_run.specs.declared.run.Run.{Run as RunInCode}
 use Rattle.dt_run.specs.Turn.{State, Turn}
-use Rattle.dt_run.specs.Run.{Run}
 pub use Rattle.dt_run.specs.InCode.{Stops, phase_at, noted_stop, with_stop, phase_in, work_in, schedule_of, state_of}
 unfoldable pub use Rattle.dt_run.specs.InCode.{works_in}
 pub use Rattle.dt_run.specs.Playing.{rest_of}
 
 abbrev pub turn_as : State → List Event → Option Verdict → Turn
 turn_as next events verdict = record { next = next; events = events; verdict = verdict }
-
-abbrev pub run_as : RunInCode → World → Run
-run_as run w = record { events = run.events.items; verdict = run.verdict; last = shared_of run.last.shared w }
 
 -- the stop that is to be served in a process's turn: that of its last segment, or its call again where it waits
 abbrev pub due_stop : Bool → Stop → Stop

@@ -1,52 +1,68 @@
-use Rattle.std.proofs.Common.{arith, Err, sym, ap, subst, ◌∙◌}
-use Rattle.dt_host.specs.Sink.{added, AddsPart}
-use Rattle.dt_run.specs.Run.{status_by, status_of_run, report_of}
+use Rattle.std.proofs.Common.{arith, Err, refl, sym, ap, subst}
+use Rattle.std.specs.Prelude.{IfOk, IsSome}
+use Rattle.dt_host.specs.Sink.{AddsPart}
+use Rattle.dt_run.specs.Run.{Run, run_of, report_of}
+use Rattle.dt_run.specs.Statuses.{Completes}
+use Rattle.dt_run.specs.InPlay.{playing_of}
+use Rattle.dt_run.specs.inner.Going.{left_of}
 use Rattle.dt_host.proofs.Asking.{cause-from, passed_on}
-use Rattle.dt_run.proofs.Causes.{of_host-failed, of_host-no_sink, of_sink-failed, of_sink-no_host}
-use Rattle.dt_run.proofs.Completed.{holds_last}
+use Rattle.dt_run.proofs.Completed.{run-is, part-begun, part-going, part-finished, completed}
 use Rattle.dt_run.proofs.run.run_container.Goals as goal
 
-pub returns-clause-completed : goal.returns-clause-completed
-returns-clause-completed g c =
-    let came = c.in_ok-run.ensures.ok in
-    record {
-      status = c.status_by.ensures ∙ ap status_by c.end.ensures ∙ sym (ap status_of_run came);
-      report = c.in_ok-sink_all.ensures.ok ∙ ap (added (g.O.Sink.told c.args.out.now)) (c.deref.ensures.value ∙ c.in_ok-text.ensures.ok ∙ sym (ap report_of came));
-      tree = holds_last _ _ _ _ c.report_text.ensures.asks.stays (ap (λ run. run.last.tree) came) c.in_ok-run.ensures.sound.shared.stands;
-    }
+pub returns-in_err-engine-clause-part : goal.returns-in_err-engine-clause-part
+returns-in_err-engine-clause-part g c =
+    part-begun (run_of c.args.image.now c.args.command.now c.args.seed c.args.budget) _ _ c.begin.ensures.part
+
+pub finish-requires-clause-over : goal.finish-requires-clause-over
+finish-requires-clause-over g c = subst IsSome (sym c.in_ok-go_on.ensures.done.verdict) refl
+
+pub returns-in_err-go_on-clause-part : goal.returns-in_err-go_on-clause-part
+returns-in_err-go_on-clause-part g c =
+    let old = g.O.Sink.told c.args.out.now in
+    let e = playing_of c.in_ok-engine.engine (g.H.Host.view c.begin.new.host) in
+    let same = run-is _ _ c.args.seed c.args.budget e c.in_ok-engine.ensures.run in
+    subst (λ (r : Run). AddsPart old (g.O.Sink.told c.go_on.new.out) (report_of r)) same
+    (part-going (left_of e) old (g.O.Sink.told c.begin.new.out) c.in_ok-engine.ensures.wrote (g.O.Sink.told c.go_on.new.out) c.go_on.ensures.part)
 
 pub returns-clause-part : goal.returns-clause-part
 returns-clause-part g c =
-    let came = c.in_ok-run.ensures.ok in
-    subst (AddsPart (g.O.Sink.told c.args.out.now) (g.O.Sink.told c.sink_all.new.sink)) (c.deref.ensures.value ∙ c.in_ok-text.ensures.ok ∙ sym (ap report_of came)) c.sink_all.ensures.part
+    let old = g.O.Sink.told c.args.out.now in
+    let e = playing_of c.in_ok-engine.engine (g.H.Host.view c.begin.new.host) in
+    let same = run-is _ _ c.args.seed c.args.budget e c.in_ok-engine.ensures.run in
+    subst (λ (r : Run). AddsPart old (g.O.Sink.told c.finish.new.out) (report_of r)) same
+    (part-finished (left_of e) old (g.O.Sink.told c.begin.new.out) (g.O.Sink.told c.go_on.new.out) c.go_on.new.self
+    (g.H.Host.view c.go_on.new.host) c.in_ok-engine.ensures.wrote c.in_ok-go_on.ensures.done
+    (g.O.Sink.told c.finish.new.out) c.finish.ensures.part)
 
-pub returns-in_err-sink_all-clause-part : goal.returns-in_err-sink_all-clause-part
-returns-in_err-sink_all-clause-part g c =
-    let came = c.in_ok-run.ensures.ok in
-    subst (AddsPart (g.O.Sink.told c.args.out.now) (g.O.Sink.told c.sink_all.new.sink)) (c.deref.ensures.value ∙ c.in_ok-text.ensures.ok ∙ sym (ap report_of came)) c.sink_all.ensures.part
+pub returns-clause-completed : goal.returns-clause-completed
+returns-clause-completed g c =
+    let old = g.O.Sink.told c.args.out.now in
+    let e = playing_of c.in_ok-engine.engine (g.H.Host.view c.begin.new.host) in
+    let same = run-is _ _ c.args.seed c.args.budget e c.in_ok-engine.ensures.run in
+    subst (λ (r : Run). IfOk c.finish.result (λ status. Completes r status old (g.O.Sink.told c.finish.new.out) (g.H.Host.view c.finish.new.host))) same
+    (completed (left_of e) old (g.O.Sink.told c.begin.new.out) (g.O.Sink.told c.go_on.new.out) c.go_on.new.self
+    (g.H.Host.view c.go_on.new.host) c.in_ok-engine.ensures.wrote c.in_ok-go_on.ensures.done c.finish.result
+    (g.H.Host.view c.finish.new.host) (g.O.Sink.told c.finish.new.out) c.finish.ensures.stays c.in_ok-go_on.ensures.sound
+    c.finish.ensures.status c.finish.ensures.wrote)
 
-pub returns-in_err-text-clause-host : goal.returns-in_err-text-clause-host
-returns-in_err-text-clause-host g c =
-    let of_text = c.in_err-text.ensures.asks.cause in
-    cause-from _ _ _ c.play.ensures.cause.later (record {
-      later = of_text.later;
-      rose = λ failed. of_text.rose (ap Err (of_host-failed _ (passed_on _ _ _ c.from_residual-in_err-text.ensures.1 failed)));
+pub returns-in_err-go_on-clause-host : goal.returns-in_err-go_on-clause-host
+returns-in_err-go_on-clause-host g c =
+    cause-from _ _ _ c.begin.ensures.host.later (record {
+      later = c.go_on.ensures.host.later;
+      rose = λ failed. c.in_err-go_on.ensures.host.rose (ap Err (passed_on _ _ _ c.from_residual-in_err-go_on.ensures.1 failed));
     })
 
-pub returns-in_err-text-clause-sink : goal.returns-in_err-text-clause-sink
-returns-in_err-text-clause-sink g c = record {
-  later = omega arith;
-  rose = λ failed. absurd (of_host-no_sink _ (passed_on _ _ _ c.from_residual-in_err-text.ensures.1 failed));
-}
+pub returns-in_err-go_on-clause-sink : goal.returns-in_err-go_on-clause-sink
+returns-in_err-go_on-clause-sink g c =
+    cause-from _ _ _ c.begin.ensures.sink.later (record {
+      later = c.go_on.ensures.sink.later;
+      rose = λ failed. c.in_err-go_on.ensures.sink.rose (ap Err (passed_on _ _ _ c.from_residual-in_err-go_on.ensures.1 failed));
+    })
 
-pub returns-in_err-sink_all-clause-host : goal.returns-in_err-sink_all-clause-host
-returns-in_err-sink_all-clause-host g c = record {
-  later = omega (arith, c.play.ensures.cause.later, c.report_text.ensures.asks.cause.later);
-  rose = λ failed. absurd (of_sink-no_host _ (passed_on _ _ _ c.from_residual-in_err-sink_all.ensures.1 failed));
-}
+pub returns-clause-host : goal.returns-clause-host
+returns-clause-host g c =
+    cause-from _ _ _ (omega (arith, c.begin.ensures.host.later, c.go_on.ensures.host.later)) c.finish.ensures.host
 
-pub returns-in_err-sink_all-clause-sink : goal.returns-in_err-sink_all-clause-sink
-returns-in_err-sink_all-clause-sink g c = record {
-  later = c.sink_all.ensures.cause.later;
-  rose = λ failed. c.in_err-sink_all.ensures.cause.rose (ap Err (of_sink-failed _ (passed_on _ _ _ c.from_residual-in_err-sink_all.ensures.1 failed)));
-}
+pub returns-clause-sink : goal.returns-clause-sink
+returns-clause-sink g c =
+    cause-from _ _ _ (omega (arith, c.begin.ensures.sink.later, c.go_on.ensures.sink.later)) c.finish.ensures.sink

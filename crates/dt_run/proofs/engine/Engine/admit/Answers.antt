@@ -1,4 +1,4 @@
-use Rattle.std.proofs.Common.{◌≡◌, Some, sym, ap, subst, ◌∙◌}
+use Rattle.std.proofs.Common.{◌≡◌, Some, arith, sym, ap, subst, ◌∙◌}
 use Rattle.std.specs.Prelude.{IfOk, OnOk}
 use Rattle.std.proofs.lemmas.Result.{on_ok_weaker}
 use Rattle.dt_host.specs.Sink.{added, AddsPart}
@@ -10,6 +10,7 @@ use Rattle.dt_run.specs.InCode.{state_of}
 use Rattle.dt_run.specs.InPlay.{EngineView, playing_of}
 use Rattle.dt_run.proofs.Queueing.{full-good, good-full}
 use Rattle.dt_run.proofs.Engines.{admission-over, admission-late, admission-ready, admission-spent}
+use Rattle.dt_run.proofs.Going.{if-answer}
 use Rattle.dt_run.proofs.engine.Engine.admit.Goals as goal
 
 -- where a verdict stands
@@ -122,3 +123,9 @@ returns-in-Over-clause-wrote g c =
     let told = g.O.Sink.told c.args.out.now in
     sym (ap (λ (a : Admission). added told (events_text a.events))
     (admission-spent c.args.self.now before c.in-Over.verdict c.requires.whole none sound over) ∙ added-nil told)
+
+pub returns-in-Ready-clause-no_farther : goal.returns-in-Ready-clause-no_farther
+returns-in-Ready-clause-no_farther g c = on_ok_weaker c.take_turn.result (λ less. omega (arith, less)) c.take_turn.ensures.smaller
+
+pub returns-in-Ready-clause-nearer : goal.returns-in-Ready-clause-nearer
+returns-in-Ready-clause-nearer g c = if-answer c.take_turn.result _ _ c.take_turn.ensures.smaller
