@@ -55,7 +55,7 @@ abbrev stored_if : Bool → List (List ℕ) → List ℕ → List (List ℕ)
 stored_if fits stored word = if fits then stored ++ word ∷ [] else stored
 
 -- one word more
-pub more : (all rest next : Result (List (List ℕ)) Errno) (stored now : List (List ℕ)) (count counted : ℕ) (word : List ℕ) → SoFar all rest stored count → rest ≡ word_before (Ok word) next → IsTrue (has_no_nul word)
+more : (all rest next : Result (List (List ℕ)) Errno) (stored now : List (List ℕ)) (count counted : ℕ) (word : List ℕ) → SoFar all rest stored count → rest ≡ word_before (Ok word) next → IsTrue (has_no_nul word)
     → counted ≡ min (count + length word + 9) (2 ^ 64 - 1) → now ≡ (if nat_le counted ARGUMENT_LIMIT then stored ++ word ∷ [] else stored) → SoFar all next now counted
 more all rest next stored now count counted word sofar is clean count_is now_is = record {
   words = sofar.words ++ word ∷ [];
@@ -103,6 +103,14 @@ entry_at pages at left less found is read = ap (words_at pages at) is ∙ ap (λ
 pub word_of_entry : (pages : List PageView) (entry : ℕ) (word : Result (List ℕ) Errno) (rest : Result (List (List ℕ)) Errno) → entry ≢ 0 → word ≡ word_at pages entry → words_from pages (Ok entry) rest ≡ word_before word rest
 word_of_entry pages zero word rest some is = absurd (some refl)
 word_of_entry pages (suc entry) word rest some is = ap (λ w. word_before w rest) (sym is)
+
+-- one word more, which an entry leads to
+pub word_more : (all : Result (List (List ℕ)) Errno) (pages : List PageView) (at left less entry : ℕ) (stored now : List (List ℕ)) (count counted : ℕ) (word : List ℕ) → SoFar all (words_at pages at left) stored count → left ≡ suc less → Ok entry ≡ loaded_number (load pages READ at 8) → entry ≢ 0 → Ok word ≡ word_at pages entry → IsTrue (has_no_nul word)
+    → counted ≡ min (count + length word + 9) (2 ^ 64 - 1) → now ≡ (if nat_le counted ARGUMENT_LIMIT then stored ++ word ∷ [] else stored) → SoFar all (words_at pages ((at + 8) % 2 ^ 64) less) now counted
+word_more all pages at left less entry stored now count counted word sofar one read some is clean count_is now_is =
+    let rest = words_at pages ((at + 8) % 2 ^ 64) less in
+    more all (words_at pages at left) rest stored now count counted word sofar
+    (entry_at pages at left less (Ok entry) one read ∙ word_of_entry pages entry (Ok word) rest some is) clean count_is now_is
 
 pub words_at-end : (pages : List PageView) (at left : ℕ) → left ≡ 0 → words_at pages at left ≡ Err BadAddress
 unfolding words_at

@@ -1,2 +1,3 @@
 -- Inner words: no public clause cites these.
 pub mod Listed
+pub mod Rest

@@ -5,11 +5,14 @@ ghost use Rattle.dt_exec.specs.Arguments.{word_at, words_at, list_argument, one_
 ghost use Rattle.dt_exec.specs.Arguments.{within_limit, command_argument};
 ghost use Rattle.dt_exec.specs.inner.Listed.{AreListed, IsTooBig};
 
+mod rest;
+
 use crate::limits::{LIST_ENTRY, LIST_LIMIT};
 use crate::word_list::WordList;
 use dt_base::{ADDRESS_LIMIT, Blob, Command, Errno, NoMemory};
 use dt_elf::are_too_many;
 use dt_space::{Space, text_or};
+use rest::is_readable;
 use std::alloc::Global;
 
 /// The words of two lists: EFAULT where a byte of either can't be read, else E2BIG where they count more than 131,072.
@@ -77,7 +80,7 @@ fn words_at(
 {
     let mut list = WordList::new(alloc);
     let mut next = at;
-    for _index in 0..LIST_LIMIT {
+    for index in 0..LIST_LIMIT {
         let Ok(entry) = space.load8(next) else {
             return Ok(Err(Errno::Fault));
         };
@@ -89,6 +92,12 @@ fn words_at(
             Err(errno) => return Ok(Err(errno)),
         }
         next = next.wrapping_add(LIST_ENTRY);
+        if list.is_past_limit() {
+            if is_readable(alloc, space, next, LIST_LIMIT - 1 - index)? {
+                return Ok(Ok(None));
+            }
+            return Ok(Err(Errno::Fault));
+        }
     }
     Ok(Err(Errno::Fault))
 }

@@ -1,5 +1,5 @@
 // Words that are counted as they come, and stored as long as they are within the limit.
-ghost use Rattle.std.specs.Prelude.{◌≡◌, ◌+◌, ◌-◌, ◌^◌, ◌++◌, ◌∷◌, [], min, length, nat_le, Some, None, OnOk};
+ghost use Rattle.std.specs.Prelude.{◌≡◌, ◌+◌, ◌-◌, ◌^◌, ◌++◌, ◌∷◌, [], min, length, nat_le, nat_lt, Some, None, OnOk};
 ghost use Rattle.std.specs.Prelude.{if◌then◌else◌};
 
 use dt_base::{ARGUMENT_LIMIT, Blob, NoMemory};
@@ -38,6 +38,13 @@ impl WordList {
             self.words.push(word)?;
         }
         Ok(())
+    }
+
+    /// Whether they count more than the limit.
+    pub fn is_past_limit(&self) -> bool
+        ensures { result ≡ nat_lt ARGUMENT_LIMIT self.now.size }
+    {
+        self.size > ARGUMENT_LIMIT
     }
 
     /// The words, unless they count more than the limit.

@@ -5,4 +5,4 @@ use Rattle.dt_exec.proofs.Collected.{SoFar}
 use Rattle.dt_exec.proofs.arguments.words_at.Given as goal
 
 abbrev pub invariant-loop-index : goal.invariant-loop-index
-invariant-loop-index l = SoFar (words_at l.space l.at LIST_LIMIT) (words_at l.space l.next (LIST_LIMIT - l._index)) l.list.words.items l.list.size
+invariant-loop-index l = SoFar (words_at l.space l.at LIST_LIMIT) (words_at l.space l.next (LIST_LIMIT - l.index)) l.list.words.items l.list.size
