@@ -92,7 +92,7 @@ module _ (machines : Machines) (stops : Stops) (next : ℕ) where
   )
   owed-first x xs false is absent placed all = all-behind x xs (owing_vpids xs) absent all
 
-  all-owed : (xs : List Process) → IsTrue (is_distinct xs) → AllByRecursion (IsPlaced machines stops next) xs
+  pub all-owed : (xs : List Process) → IsTrue (is_distinct xs) → AllByRecursion (IsPlaced machines stops next) xs
       → AllByRecursion (IsOwed xs machines stops next) (owing_vpids xs)
   all-owed [] once placed = tt
   all-owed (x ∷ xs) once placed =

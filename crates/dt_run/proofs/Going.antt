@@ -30,7 +30,7 @@ use Rattle.dt_run.proofs.Queued.{pids}
 use Rattle.dt_run.proofs.Queueing.{awaited-by}
 use Rattle.dt_run.proofs.Happened.{adds_within, adds_after}
 
-texts-append : (a b : List Event) → events_text (a ++ b) ≡ events_text a ++ events_text b
+pub texts-append : (a b : List Event) → events_text (a ++ b) ≡ events_text a ++ events_text b
 texts-append a b = flat_map-append event_text a b
 
 -- after a turn the run is what showed in it, and what is left
@@ -51,7 +51,7 @@ chosen-ready : (p : ℕ) (b : Bool) → cond b None (Some p) ≡ None → b ≡ 
 chosen-ready p true is = refl
 chosen-ready p false is = cc
 
-has-head : (s : State) (head : Option ℕ) → head_pid s.schedule.order ≡ head → awaited_of s.works head ≡ None → HasHead s
+pub has-head : (s : State) (head : Option ℕ) → head_pid s.schedule.order ≡ head → awaited_of s.works head ≡ None → HasHead s
 has-head s None is none p e = cc
 has-head s (Some q) is none p e =
     let same : q ≡ p = cc in
@@ -120,7 +120,7 @@ module _ (all : Run) (start told : Option (List ℕ)) (e : Playing) (ws : Away) 
       (adds_within told new (events_text a.events) (events_text rest.events) part)))
 
 -- segments that are run change nothing of what is left
-left-alike : (s t : State) (v : Option Verdict) → with_all_segments s ≡ with_all_segments t → rest_of s v ≡ rest_of t v
+pub left-alike : (s t : State) (v : Option Verdict) → with_all_segments s ≡ with_all_segments t → rest_of s v ≡ rest_of t v
 unfolding with_all_segments
 left-alike s t None is = runs-alike s t is
 left-alike s t (Some v) is = ap (λ (s : State). record { events = []; verdict = v; last = s.shared }) is

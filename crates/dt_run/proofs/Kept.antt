@@ -116,7 +116,7 @@ lives-still p Ended q on apart = record { first = grind (arith, nat_tests, on); 
 lives-still p (Unsupported number) q on apart = tt
 
 -- a process that goes on has a machine
-own-lives : (served : Served) (own : Option Machine) → FitsOwn served own → GoesOn served → IsSome own
+pub own-lives : (served : Served) (own : Option Machine) → FitsOwn served own → GoesOn served → IsSome own
 own-lives Done own fits on = fits
 own-lives (Child vpid) own fits on = fits
 own-lives (LastChild vpid) own fits on = absurd on
@@ -126,7 +126,7 @@ own-lives Ended own fits on = absurd on
 own-lives (Unsupported number) own fits on = fits
 
 -- a child has the pid that was next
-child-is : (next q : ℕ) (served : Served) → IsTrue (makes_child served) → IsNext q served → IsNext next served → q ≡ next
+pub child-is : (next q : ℕ) (served : Served) → IsTrue (makes_child served) → IsNext q served → IsNext next served → q ≡ next
 child-is next q Done made is was = cc
 child-is next q (Child vpid) made is was = sym is ∙ was
 child-is next q (LastChild vpid) made is was = sym is ∙ was

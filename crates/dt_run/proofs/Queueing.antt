@@ -1,8 +1,8 @@
 -- The queue of a run in play: who is awaited, and who owes.
-use Rattle.std.proofs.Common.{◌≡◌, ◌≢◌, ℕ, ◌==◌, ◌&&◌, ◌||◌, not, Bool, true, false, cond, List, [], ◌∷◌, Option, Some, None, refl, sym, ap, subst, ◌∙◌, arith, nat_le}
+use Rattle.std.proofs.Common.{◌≡◌, ◌≢◌, ℕ, suc, ◌==◌, ◌&&◌, ◌||◌, not, Bool, true, false, cond, List, [], ◌∷◌, Option, Some, None, refl, sym, ap, subst, ◌∙◌, arith, nat_le}
 use Rattle.std.specs.Prelude.{IsSome, IsTrue, option_map}
 use Rattle.std.proofs.lemmas.Bool.Decides.{nat_tests}
-use Rattle.std.specs.List.{AllByRecursion, filter, list_any}
+use Rattle.std.specs.List.{AllByRecursion, Contains, filter, list_any}
 use Rattle.std.specs.FinMap.{get}
 use Rattle.dt_host.specs.World.{World}
 use Rattle.dt_rv64.specs.declared.machine.Machine.{Machine}
@@ -31,7 +31,7 @@ use Rattle.dt_run.proofs.Placed.{once-apart, held-other}
 use Rattle.dt_run.proofs.Kept.{all-weaker, good-kept}
 
 -- a process owes or not whatever its last stop was
-owing-stop : (phase : Phase ℕ) (stop : Stop) → is_owing (with_stop phase stop) ≡ is_owing phase
+pub owing-stop : (phase : Phase ℕ) (stop : Stop) → is_owing (with_stop phase stop) ≡ is_owing phase
 owing-stop Owes stop = refl
 owing-stop (Ran count) stop = refl
 owing-stop Waits stop = refl
@@ -180,7 +180,7 @@ owing-live o p (x ∷ xs) all =
     any-first (λ q. q == p) (is_owing x.phase) x.vpid (owing_vpids xs)
     ∙ one-owing (is_owing x.phase) (x.vpid == p) o _ _ (λ here. all.0 (grind (arith, nat_tests))) (owing-live o p xs all.1)
 
-owing-by : (phase : Phase Seg) (found : Option Machine) → IsSome found → is_owing_work (option_map (work_in phase) found) ≡ is_owing phase
+pub owing-by : (phase : Phase Seg) (found : Option Machine) → IsSome found → is_owing_work (option_map (work_in phase) found) ≡ is_owing phase
 owing-by phase None some = cc
 owing-by phase (Some m) some = refl
 
@@ -279,3 +279,13 @@ owing-there s p (x ∷ xs) kept found =
 pub queued-live : (p : ℕ) (xs : List Process) → is_queued p xs ≡ list_any (λ q. q == p) (pids xs)
 queued-live p [] = refl
 queued-live p (x ∷ xs) = ap (λ b. (x.vpid == p) || b) (queued-live p xs)
+
+-- one that is found is an element
+contained-by : (p x : ℕ) (xs : List ℕ) (here : Bool) → (x == p) ≡ here → (here || list_any (λ q. q == p) xs) ≡ true
+    → (list_any (λ q. q == p) xs ≡ true → Contains xs p) → Contains (x ∷ xs) p
+contained-by p x xs true is found rest = (0, omega arith, grind (arith, nat_tests))
+contained-by p x xs false is found rest = let r = rest found in (suc r.0, omega (arith, r.1), r.2)
+
+pub found-contained : (p : ℕ) (xs : List ℕ) → list_any (λ q. q == p) xs ≡ true → Contains xs p
+found-contained p [] found = absurd cc
+found-contained p (x ∷ xs) found = contained-by p x xs (x == p) refl found (found-contained p xs)

@@ -25,7 +25,7 @@ with_works-insert ws works p w apart = same_map nat_cmp_total nat_cmp-IsAntisymm
     get-put_all ws (insert works p w) q
     ∙ sym (over-insert ws (with_works ws works) works p w q apart (get-put_all ws works q)))
 
-ran-owing : (m : Machine) → with_segment (owing_work m) ≡ work_after_segment (segment_of m)
+pub ran-owing : (m : Machine) → with_segment (owing_work m) ≡ work_after_segment (segment_of m)
 unfolding with_segment prepared_of
 ran-owing m = refl
 

@@ -1,21 +1,22 @@
 // A run in play, which is taken on by segments and admissions in any order.
-ghost use Rattle.std.specs.Prelude.{◌≡◌, ◌<◌, ◌≤◌, ℕ, List, [], true, false, Some, None, IsSome, IsTrue, IfOk, OnOk, IsErrOf};
+ghost use Rattle.std.specs.Prelude.{◌≡◌, ◌<◌, ◌≤◌, ℕ, List, [], true, false, Some, None, is_some, IsSome, IsTrue, IfOk, OnOk, IsErrOf};
 ghost use Rattle.std.specs.FinMap.{get};
 ghost use Rattle.dt_host.specs.Cause.{HasCause};
 ghost use Rattle.dt_host.specs.Sink.{added, AddsPart};
 ghost use Rattle.dt_host.specs.World.{World};
 ghost use Rattle.dt_image.specs.Report.{events_text};
-ghost use Rattle.dt_sched.specs.Core.{head, is_segment_count, IsCore};
+ghost use Rattle.dt_sched.specs.Core.{head, is_segment_count, owing_vpids, IsCore};
 ghost use Rattle.dt_sched.specs.declared.settled.Head.TheVariants.{Ready};
 ghost use Rattle.dt_calls.specs.Sound.{IsSoundContainer};
 ghost use Rattle.dt_run.specs.Work.{owing_work};
 ghost use Rattle.dt_run.specs.Turn.{turn};
 ghost use Rattle.dt_run.specs.Admission.{admission, admission_of_turn};
-ghost use Rattle.dt_run.specs.Happenings.{is_owing_work};
+ghost use Rattle.dt_run.specs.Happenings.{is_live, is_owing_work};
 ghost use Rattle.dt_run.specs.Lent.{playing_without_work, playing_with_work, returned_work};
 ghost use Rattle.dt_run.specs.InPlay.{playing_of, works_of, owing_of, IsFull, IsInPlay, steps_left};
 ghost use Rattle.dt_run.specs.InCode.{state_of};
 ghost use Rattle.dt_run.specs.inner.Good.{IsGood};
+ghost use Rattle.dt_run.specs.inner.Round.{with_places};
 
 use crate::error::RunErr;
 use crate::happening::Admitted;
@@ -50,12 +51,33 @@ impl Engine {
         self.state.core.owing()
     }
 
+    // Likewise, by the queue.
+    pub(crate) fn owing_queue(&self) -> &[u32]
+        ensures order { result.now ≡ owing_vpids self.now.state.core.queue }
+        ensures core { IsCore self.now.state.core }
+    {
+        self.state.core.owing()
+    }
+
+    // How many processes live.
+    pub(crate) fn live(&self) -> usize {
+        self.state.core.live()
+    }
+
+    // Whether a verdict stands.
+    pub(crate) fn is_over(&self) -> bool
+        ensures { result ≡ is_some self.now.verdict }
+    {
+        self.verdict.is_some()
+    }
+
     /// Lends the machine of a process that owes a segment and has it at home.
     pub fn lend(&mut self, vpid: u32) -> Machine
         requires whole { IsInPlay self.old }
         requires owing { IsTrue (is_owing_work (get (works_of self.old) vpid)) }
         ensures work { get (works_of self.old) vpid ≡ Some (owing_work result) }
         ensures run { (w : World) → playing_of self.new w ≡ playing_without_work vpid (playing_of self.old w) }
+        ensures rest { self.new ≡ with_places self.old self.new.state.container.places }
         ensures whole { IsInPlay self.new }
         ensures sound { (w : World) → IsSoundContainer self.old.state.container w
             → IsSoundContainer self.new.state.container w }
@@ -73,6 +95,8 @@ impl Engine {
         requires count { IsTrue (is_segment_count seg.count) }
         ensures run { (w : World)
             → playing_of self.new w ≡ playing_with_work vpid (returned_work machine seg) (playing_of self.old w) }
+        ensures nearer { (w : World) → (let e = playing_of self.old w in is_live vpid e.state ≡ true)
+            → steps_left self.new.state.core < steps_left self.old.state.core }
         ensures whole { IsInPlay self.new }
         ensures sound { (w : World) → IsSoundContainer self.old.state.container w
             → IsSoundContainer self.new.state.container w }

@@ -1,5 +1,5 @@
 // A whole run of a command on an image.
-ghost use Rattle.std.specs.Prelude.{◌≡◌, ◌<◌, ◌≤◌, length, IfOk, OnOk, IsErrOf};
+ghost use Rattle.std.specs.Prelude.{◌≡◌, ◌<◌, ◌≤◌, length, None, IfOk, OnOk, IsErrOf};
 ghost use Rattle.dt_host.specs.Cause.{HasCause};
 ghost use Rattle.dt_host.specs.Sink.{AddsPart};
 ghost use Rattle.dt_host.specs.World.{IsEmptyStart};
@@ -11,6 +11,7 @@ ghost use Rattle.dt_run.specs.Run.{run_of, status_by, report_of};
 ghost use Rattle.dt_run.specs.Statuses.{Completes};
 ghost use Rattle.dt_run.specs.InPlay.{playing_of, IsFull, IsInPlay, steps_left};
 ghost use Rattle.dt_run.specs.inner.Going.{left_of, IsDone};
+ghost use Rattle.dt_run.specs.inner.Round.{IsAtRest, TakesOn};
 
 use crate::engine::Engine;
 use crate::error::RunErr;
@@ -60,17 +61,14 @@ pub fn run_container<
 }
 
 impl Engine {
-    // Lets segments arrive and admits the head of the queue until a verdict stands. What each turn shows is written
-    // before the next one.
-    fn go_on<R: AllocGlobal + Threads + Sync, H: Host, O: Sink, G: Gate + Sync>(
+    // Takes the run on until a verdict stands. What each turn shows is written before the next one.
+    fn go_on<R: AllocGlobal + Threads + Sync, H: Host + Send, O: Sink + Send, G: Gate + Sync>(
         &mut self,
         host: &mut H,
         out: &mut O,
         runner: &mut Runner<'_, R, G>,
     ) -> Result<(), RunErr>
-        requires whole { IsInPlay self.old }
-        requires sound { IsSoundContainer self.old.state.container (H.view host.old) }
-        requires full { let e = playing_of self.old (H.view host.old) in IsFull e.state }
+        requires rest { IsAtRest self.old (H.view host.old) }
         ensures done { OnOk result (IsDone (left_of (playing_of self.old (H.view host.old))) (O.told out.old)
             self.new (H.view host.new) (O.told out.new)) }
         ensures part { let r = left_of (playing_of self.old (H.view host.old)) in
@@ -82,15 +80,62 @@ impl Engine {
     {
         let _before = (host.faults(), out.faults());
         loop {
-            match self.admit(host, out)? {
-                Admitted::Turn => {}
-                Admitted::NotArrived(_) => self.let_arrive(host, runner)?,
-                Admitted::Over(_) => return Ok(()),
+            if self.is_over() {
+                return Ok(());
             }
+            self.take_on(host, out, runner)?;
         }
     }
 
-    // Lets segments arrive that are owed.
+    // Takes the run on by a round, or by less where threads are not worth their start.
+    fn take_on<R: AllocGlobal + Threads + Sync, H: Host + Send, O: Sink + Send, G: Gate + Sync>(
+        &mut self,
+        host: &mut H,
+        out: &mut O,
+        runner: &mut Runner<'_, R, G>,
+    ) -> Result<(), RunErr>
+        requires rest { IsAtRest self.old (H.view host.old) }
+        requires running { self.old.verdict ≡ None }
+        ensures on { OnOk result (TakesOn self.old (H.view host.old) (O.told out.old)
+            self.new (H.view host.new) (O.told out.new)) }
+        ensures part { let r = left_of (playing_of self.old (H.view host.old)) in
+            AddsPart (O.told out.old) (O.told out.new) (events_text r.events) }
+        ensures open { self.new.finished ≡ self.old.finished }
+        ensures host { HasCause (H.count host.old) (H.count host.new) (IsErrOf result RunErr.Host) }
+        ensures sink { HasCause (O.count out.old) (O.count out.new) (IsErrOf result RunErr.Sink) }
+    {
+        if runner.prefers_workers(self.owing_queue().len(), self.live()) {
+            self.round(host, out, runner)
+        } else {
+            self.step(host, out, runner)
+        }
+    }
+
+    // Takes the turn of the head, or where its segment has not arrived lets one arrive that is owed.
+    fn step<R: AllocGlobal + Threads + Sync, H: Host, O: Sink, G: Gate + Sync>(
+        &mut self,
+        host: &mut H,
+        out: &mut O,
+        runner: &mut Runner<'_, R, G>,
+    ) -> Result<(), RunErr>
+        requires rest { IsAtRest self.old (H.view host.old) }
+        requires running { self.old.verdict ≡ None }
+        ensures on { OnOk result (TakesOn self.old (H.view host.old) (O.told out.old)
+            self.new (H.view host.new) (O.told out.new)) }
+        ensures part { let r = left_of (playing_of self.old (H.view host.old)) in
+            AddsPart (O.told out.old) (O.told out.new) (events_text r.events) }
+        ensures open { self.new.finished ≡ self.old.finished }
+        ensures host { HasCause (H.count host.old) (H.count host.new) (IsErrOf result RunErr.Host) }
+        ensures sink { HasCause (O.count out.old) (O.count out.new) (IsErrOf result RunErr.Sink) }
+    {
+        let _before = (host.faults(), out.faults());
+        match self.admit(host, out)? {
+            Admitted::NotArrived(_) => Ok(self.let_arrive(host, runner)?),
+            Admitted::Turn | Admitted::Over(_) => Ok(()),
+        }
+    }
+
+    // Lets a segment arrive that is owed.
     fn let_arrive<R: AllocGlobal + Threads + Sync, H: Host, G: Gate + Sync>(
         &mut self,
         host: &mut H,
@@ -110,7 +155,7 @@ impl Engine {
         ensures cause { HasCause (H.count host.old) (H.count host.new) (IsErrOf result HostErr.Failed) }
     {
         let _before = host.faults();
-        self.state.let_arrive(host, runner)?;
+        self.state.arrive_next(host, runner)?;
         Ok(())
     }
 }

@@ -121,6 +121,13 @@ impl Core {
         self.queue.owing()
     }
 
+    /// How many processes live.
+    pub fn live(&self) -> usize
+        ensures { result ≡ length self.now.queue }
+    {
+        self.queue.len()
+    }
+
     /// The segment of a process arrives, which owes one, with its cost of 1 to 65,536 instructions; nothing is charged.
     pub fn arrived(&mut self, vpid: u32, cost: u32)
         requires owing { Contains (owing_vpids self.old.queue) vpid }

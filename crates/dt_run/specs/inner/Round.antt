@@ -1,32 +1,23 @@
--- Inner words: the machines of the processes that owe a segment, in slots while workers run these.
-use Rattle.std.specs.Prelude.{◌≡◌, ◌≤◌, ◌+◌, ℕ, List, [], ◌∷◌, map, length, Some, IsSome}
+-- Inner words: a round, in which machines are lent to slots, and turns are taken beside their segments.
+use Rattle.std.specs.Prelude.{◌≡◌, ◌≢◌, ℕ, ◌<◌, List, [], ◌∷◌, map, Option, Some, None, true, ⊤}
 use Rattle.std.specs.List.{AllByRecursion, AllZip}
 use Rattle.std.specs.FinMap.{get, insert}
 use Rattle.dt_host.specs.World.{World}
 use Rattle.dt_rv64.specs.declared.machine.Machine.{Machine}
 use Rattle.dt_rv64.specs.declared.segments.Seg.{Seg}
-use Rattle.dt_sched.specs.Core.{owing_vpids, core_after_arrival}
+use Rattle.dt_sched.specs.Core.{core_after_arrival}
 use Rattle.dt_calls.specs.AtHome.{Places}
 use Rattle.dt_calls.specs.Sound.{IsSoundContainer}
 use Rattle.dt_workers.specs.declared.slot.Slot.{Slot}
 use Rattle.dt_workers.specs.Slots.{IsSlotAfter}
 use Rattle.dt_run.specs.declared.state.State.{State}
-use Rattle.dt_run.specs.Ahead.{with_all_segments}
-use Rattle.dt_run.specs.inner.InCode.{state_of}
-use Rattle.dt_run.specs.inner.Good.{IsGood, steps_left}
-
--- the pids of slots
-abbrev pub slot_vpids : List Slot → List ℕ
-slot_vpids slots = map (λ (slot : Slot). slot.vpid) slots
-
--- places with the machines of slots put in
-abbrev pub places_with : List Slot → Places → Places
-places_with [] places = places
-places_with (slot ∷ slots) places = insert (places_with slots places) slot.vpid (Some slot.machine)
-
--- a run with the machines of slots at home
-abbrev pub with_slots : List Slot → State → State
-with_slots slots s = record s { container = record s.container { places = places_with slots s.container.places } }
+use Rattle.dt_run.specs.Work.{owing_work}
+use Rattle.dt_run.specs.Run.{Run}
+use Rattle.dt_run.specs.Ahead.{Away, with_works, state_with_works}
+use Rattle.dt_run.specs.Happenings.{is_live}
+use Rattle.dt_run.specs.Playing.{Playing}
+use Rattle.dt_run.specs.InPlay.{EngineView, playing_of, works_of, IsFull, IsInPlay, steps_left}
+use Rattle.dt_run.specs.inner.Going.{left_of, left_with, Goes}
 
 -- a run after a process's machine came home from its segment, which arrives
 abbrev pub with_arrival : State → ℕ → Machine → Seg → State
@@ -36,25 +27,65 @@ with_arrival s vpid machine seg = record {
   stops = insert s.stops vpid seg.stop;
 }
 
--- each of these processes has a place for its machine
-abbrev pub HavePlaces : Places → List ℕ → Type 0
-HavePlaces places vpids = AllByRecursion (λ vpid. IsSome (get places vpid)) vpids
+-- the pids of slots
+abbrev pub slot_vpids : List Slot → List ℕ
+slot_vpids slots = map (λ (slot : Slot). slot.vpid) slots
 
--- the machines of all that owe a segment were lent
-pub record HasLent (before : State) (slots : List Slot) (now : State) : Type 0 where
-  pub vpids : slot_vpids slots ≡ owing_vpids now.core.queue
-  pub places : HavePlaces now.container.places (slot_vpids slots)
-  pub home : with_slots slots now ≡ before
+-- the works that were lent to slots
+abbrev pub slot_works : List Slot → Away
+slot_works [] = []
+slot_works (slot ∷ slots) = (slot.vpid, owing_work slot.machine) ∷ slot_works slots
 
--- slots were lent and their segments run, or cut short by want of memory; some have arrived, and these have not: with the
--- machines that they had the run is good and sound, and the same as before once all segments were run
-pub record IsRound (before : State) (slots : List Slot) (now : State) : Type 0 where
+-- a pid is none of these
+abbrev pub IsAbsent : ℕ → List ℕ → Type 0
+IsAbsent p ps = AllByRecursion (λ q. q ≢ p) ps
+
+-- pids of which each stands there once
+abbrev pub IsOnce : List ℕ → Type 0
+IsOnce [] = ⊤
+IsOnce (p ∷ ps) = IsAbsent p ps × IsOnce ps
+
+-- an engine with other places for machines
+abbrev pub with_places : EngineView → Places → EngineView
+with_places e places = record e { state = record e.state { container = record e.state.container { places = places } } }
+
+-- the machines of slots were lent: nothing else changed, and with them at home the works are as they were
+pub record HasLent (first : EngineView) (slots : List Slot) (now : EngineView) : Type 0 where
+  pub rest : now ≡ with_places first now.state.container.places
+  pub works : with_works (slot_works slots) (works_of now) ≡ works_of first
+  pub apart : AllByRecursion (λ p. get (works_of now) p ≡ None) (slot_vpids slots)
+
+-- what holds of a run in play whose machines were lent to slots, each to one. Unless a verdict stands these are machines
+-- of live processes, and with them each live process has its work
+pub record IsBeside (e : Playing) (lent : List Slot) : Type 0 where
+  pub once : IsOnce (slot_vpids lent)
+  pub apart : AllByRecursion (λ p. get e.state.works p ≡ None) (slot_vpids lent)
+  pub given : AllByRecursion (λ p. p < e.state.next) (slot_vpids lent)
+  pub live : e.verdict ≡ None → AllByRecursion (λ p. is_live p e.state ≡ true) (slot_vpids lent)
+  pub full : e.verdict ≡ None → IsFull (state_with_works (slot_works lent) e.state)
+
+-- turns were taken beside slots
+pub record GoesBeside (e : Playing) (lent : List Slot) (told : Option (List ℕ)) (next : Playing) (new : Option (List ℕ)) : Type 0 where
+  pub goes : Goes (left_with e (slot_works lent)) told next (slot_works lent) new
+  pub beside : IsBeside next lent
+
+-- machines were lent to slots and their segments run, or cut short by want of memory; some have come back, and those of
+-- these pids have not
+pub record IsRound (all : Run) (start : Option (List ℕ)) (e : Playing) (vpids : List ℕ) (slots : List Slot) (told : Option (List ℕ)) : Type 0 where
   pub lent : List Slot
+  pub pids : slot_vpids lent ≡ vpids
   pub ran : AllZip IsSlotAfter lent slots
-  pub vpids : slot_vpids lent ≡ owing_vpids now.core.queue
-  pub places : HavePlaces now.container.places (slot_vpids lent)
-  pub good : IsGood (with_slots lent now)
-  pub alike : (w : World) → with_all_segments (state_of (with_slots lent now) w) ≡ with_all_segments (state_of before w)
-  pub sound : (w : World) → IsSoundContainer before.container w → IsSoundContainer (let s = with_slots lent now in s.container) w
-  pub verdict : now.core.verdict ≡ before.core.verdict
-  pub left : steps_left now.core + length (owing_vpids before.core.queue) ≤ steps_left before.core + length slots
+  pub goes : Goes all start e (slot_works lent) told
+  pub beside : IsBeside e lent
+
+-- an engine that lends no machine, unless a verdict stands
+pub record IsAtRest (e : EngineView) (w : World) : Type 0 where
+  pub whole : IsInPlay e
+  pub sound : IsSoundContainer e.state.container w
+  pub full : e.verdict ≡ None → (let p = playing_of e w in IsFull p.state)
+
+-- a run was taken on, nearer to its end
+pub record TakesOn (e : EngineView) (w : World) (told : Option (List ℕ)) (next : EngineView) (now : World) (new : Option (List ℕ)) : Type 0 where
+  pub goes : Goes (left_of (playing_of e w)) told (playing_of next now) [] new
+  pub rest : IsAtRest next now
+  pub nearer : next.verdict ≡ None → steps_left next.state.core < steps_left e.state.core

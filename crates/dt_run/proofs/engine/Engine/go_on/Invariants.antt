@@ -1,7 +1,8 @@
 use Rattle.std.proofs.Common.{◌≡◌, ◌≤◌, []}
-use Rattle.dt_calls.specs.Sound.{IsSoundContainer}
-use Rattle.dt_run.specs.InPlay.{playing_of, IsFull, IsInPlay, steps_left}
+use Rattle.dt_run.specs.InPlay.{playing_of}
 use Rattle.dt_run.specs.inner.Going.{left_of, Goes}
+use Rattle.dt_run.specs.inner.Round.{IsAtRest}
+use Rattle.dt_run.proofs.Taking.{steps_ahead}
 use Rattle.dt_run.proofs.engine.Engine.go_on.Given as goal
 
 -- the run is what was written so far, and what is left
@@ -9,13 +10,11 @@ abbrev pub invariant-loop-self : goal.invariant-loop-self
 invariant-loop-self g l = record {
   goes : Goes (left_of (playing_of l.fn.self (g.H.Host.view l.fn.host))) (g.O.Sink.told l.fn.out)
       (playing_of l.self (g.H.Host.view l.host)) [] (g.O.Sink.told l.out);
-  whole : IsInPlay l.self;
-  sound : IsSoundContainer l.self.state.container (g.H.Host.view l.host);
-  full : (let e = playing_of l.self (g.H.Host.view l.host) in IsFull e.state);
+  rest : IsAtRest l.self (g.H.Host.view l.host);
   open_still : l.self.finished ≡ l.fn.self.finished;
   host : g.H.Host.count l.fn.host ≤ g.H.Host.count l.host;
   sink : g.O.Sink.count l.fn.out ≤ g.O.Sink.count l.out;
 }
 
 abbrev pub decreases-loop-self : goal.decreases-loop-self
-decreases-loop-self g l = steps_left l.self.state.core
+decreases-loop-self g l = steps_ahead l.self

@@ -8,6 +8,7 @@ use Rattle.dt_run.specs.Happenings.{is_owing_work}
 use Rattle.dt_run.specs.Lent.{playing_without_work}
 use Rattle.dt_run.specs.InCode.{state_of}
 use Rattle.dt_run.specs.InPlay.{EngineView, playing_of, works_of, IsKept, IsInPlay}
+use Rattle.dt_run.specs.inner.Round.{with_places}
 use Rattle.dt_run.proofs.Engines.{lent-home, lent-work, lent-run, lent-kept, sound-placed}
 use Rattle.dt_run.proofs.engine.Engine.lend.Goals as goal
 
@@ -52,3 +53,13 @@ returns-clause-sound c = λ w sound.
     subst (λ (container : ContainerView). IsSoundContainer container w) (sym c.take_machine.ensures.rest)
     (sound-placed s.container w c.args.vpid None (home-place s.container.places c.args.vpid home)
     (subst (λ (e : EngineView). IsSoundContainer e.state.container w) (sym c.self.view_is) sound))
+
+pub returns-clause-rest : goal.returns-clause-rest
+returns-clause-rest c =
+    let s = c.self.inside.state in
+    let verdict = c.self.inside.verdict in
+    let finished = c.self.inside.finished in
+    let rest = c.take_machine.ensures.rest in
+    ap (λ (container : ContainerView). record { state = record s { container = container }; verdict = verdict; finished = finished })
+    (rest ∙ ap (λ places. record s.container { places = places }) (sym (ap (λ (v : ContainerView). v.places) rest)))
+    ∙ ap (λ (e : EngineView). with_places e c.take_machine.new.self.places) c.self.view_is

@@ -5,8 +5,8 @@ use Rattle.dt_run.proofs.Kept.{kept-good}
 use Rattle.dt_run.proofs.Queueing.{full-good, good-full}
 use Rattle.dt_run.proofs.engine.Engine.let_arrive.Goals as goal
 
-pub let_arrive-requires-clause-good : goal.let_arrive-requires-clause-good
-let_arrive-requires-clause-good g c = λ _ _.
+pub arrive_next-requires-clause-good : goal.arrive_next-requires-clause-good
+arrive_next-requires-clause-good g c = λ _ _.
     subst IsGood (sym (ap (λ (e : EngineView). e.state) c.self.view_is))
     (full-good c.args.self.now.state (g.H.Host.view c.args.host.now) c.requires.whole.kept c.requires.full)
 
@@ -14,10 +14,10 @@ pub returns-clause-whole : goal.returns-clause-whole
 returns-clause-whole g c =
     let whole = subst IsInPlay (sym c.self.view_is) c.requires.whole in
     record {
-      kept = kept-good c.let_arrive.new.self c.in_ok-let_arrive.ensures.good;
-      running = λ none. c.in_ok-let_arrive.ensures.verdict ∙ whole.running none;
+      kept = kept-good c.arrive_next.new.self c.in_ok-arrive_next.ensures.good;
+      running = λ none. c.in_ok-arrive_next.ensures.verdict ∙ whole.running none;
     }
 
 pub returns-clause-full : goal.returns-clause-full
 returns-clause-full g c =
-    good-full c.let_arrive.new.self (g.H.Host.view c.let_arrive.new.host) c.in_ok-let_arrive.ensures.good
+    good-full c.arrive_next.new.self (g.H.Host.view c.arrive_next.new.host) c.in_ok-arrive_next.ensures.good

@@ -1,12 +1,13 @@
-use Rattle.std.proofs.Common.{◌==◌, Some, sym, ap, subst, ◌∙◌}
+use Rattle.std.proofs.Common.{◌<◌, ◌==◌, Some, sym, ap, subst, ◌∙◌}
 use Rattle.std.specs.List.{list_any}
 use Rattle.dt_sched.specs.Core.{owing_vpids}
 use Rattle.dt_calls.specs.Sound.{IsSoundContainer}
 use Rattle.dt_run.specs.declared.state.State.{State}
 use Rattle.dt_run.specs.Lent.{playing_with_work, returned_work}
 use Rattle.dt_run.specs.InCode.{state_of}
-use Rattle.dt_run.specs.InPlay.{EngineView, playing_of, IsKept, IsInPlay}
-use Rattle.dt_run.proofs.Queueing.{owing-there, queued-live}
+use Rattle.dt_run.specs.InPlay.{EngineView, playing_of, IsKept, IsInPlay, steps_left}
+use Rattle.dt_run.proofs.Arriving.{arrive-smaller}
+use Rattle.dt_run.proofs.Queueing.{owing-there, found-contained, queued-live}
 use Rattle.dt_run.proofs.Engines.{back-run, back-kept, sound-placed, away-lives, with-work-live, with-work-dead}
 use Rattle.dt_run.proofs.engine.Engine.ran.Goals as goal
 
@@ -64,3 +65,21 @@ returns-else-contains-clause-run c = λ w.
     (away-lives c.args.self.now.state w c.args.vpid c.requires.whole.kept c.requires.away
     ∙ ap (λ ps. list_any (λ q. q == c.args.vpid) ps) (sym (c.owing.ensures.order ∙ ap (λ (s : State). owing_vpids s.core.queue) same))
     ∙ sym c.contains.ensures.value ∙ c.if-contains.false)
+
+pub returns-else-contains-clause-nearer : goal.returns-else-contains-clause-nearer
+returns-else-contains-clause-nearer c = λ w live.
+    let same = ap (λ (e : EngineView). e.state) c.self.view_is in
+    let dead = away-lives c.args.self.now.state w c.args.vpid c.requires.whole.kept c.requires.away
+    ∙ ap (λ ps. list_any (λ q. q == c.args.vpid) ps) (sym (c.owing.ensures.order ∙ ap (λ (s : State). owing_vpids s.core.queue) same))
+    ∙ sym c.contains.ensures.value ∙ c.if-contains.false in
+    let bad = sym live ∙ dead in
+    cc
+
+pub returns-then-contains-clause-nearer : goal.returns-then-contains-clause-nearer
+returns-then-contains-clause-nearer c = λ w live.
+    let s = c.self.inside.state in
+    subst (λ (e : EngineView). steps_left c.bring_home.new.self.core < steps_left e.state.core) c.self.view_is
+    (arrive-smaller s.core c.bring_home.new.self.core c.args.vpid c.args.seg.count
+    (found-contained c.args.vpid (owing_vpids s.core.queue)
+    (ap (λ ps. list_any (λ q. q == c.args.vpid) ps) (sym c.owing.ensures.order) ∙ sym c.contains.ensures.value ∙ c.if-contains.true))
+    (ap (λ (s : State). s.core) c.bring_home.ensures))
