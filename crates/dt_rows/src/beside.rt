@@ -153,7 +153,13 @@ fn a_turn_is_taken_beside_a_segment(rt: HostRuntime) -> Result<(), Fail> {
         bytes: 0,
     };
     let status = dettrace(
-        &rt, &words, &mut store, &mut host, &mut out, &mut err, &(&meeting),
+        &rt,
+        &words,
+        &mut store,
+        &mut host,
+        &mut out,
+        &mut err,
+        &(&meeting),
     );
     assert_eq!(rt; status, 0);
     assert_eq!(rt; meeting.missed.load(SeqCst), 0);

@@ -155,12 +155,12 @@ module _ (s : State) (p : ℕ) (rest : List ℕ) (order : s.schedule.order ≡ p
       let works = with_child_work (with_own s.works p own) s.next r.child in
       let on = goes-on p _ _ r.served none in
       let after = order-after (λ x. IsSome (get s.works x)) (λ x. IsSome (get works x)) p
-          (λ x apart some. child-there _ s.next r.child x (own-there s.works p own x apart some))
-          rest r.served
-          (λ goes. child-there _ s.next r.child p (own-here s.works p own (some-mapped _ r.own (own-lives r.served r.own fits.own goes))))
-          (λ made x is. subst (λ n. IsSome (get works n)) (sym (child-is s.next x r.served made is (fits-next s.next r.served r.child fits.child)))
-          (child-here _ s.next r.child (born-child s.next r.served r.child fits.child made)))
-          once on full in
+      (λ x apart some. child-there _ s.next r.child x (own-there s.works p own x apart some))
+      rest r.served
+      (λ goes. child-there _ s.next r.child p (own-here s.works p own (some-mapped _ r.own (own-lives r.served r.own fits.own goes))))
+      (λ made x is. subst (λ n. IsSome (get works n)) (sym (child-is s.next x r.served made is (fits-next s.next r.served r.child fits.child)))
+      (child-here _ s.next r.child (born-child s.next r.served r.child fits.child made)))
+      once on full in
       let there = subst (λ ps. AllByRecursion (λ x. IsSome (get works x)) (order_after_turn p p p (λ child. child) (drop 1 ps) t)) (sym stands) after in
       record {
         full = subst (λ v. AllByRecursion (λ x. IsSome (get (cond (is_ended_verdict v) empty works) x)) (order_after_turn p p p (λ child. child) (drop 1 q.order) t)) (sym none) there;

@@ -80,12 +80,12 @@ impl<'a, R: AllocGlobal + Threads + Sync, G: Gate + Sync> Runner<'a, R, G> {
 impl Engine {
     /// Has workers run the segments of all that owe one, takes turns beside them, and lets the segments arrive in the
     /// order that the host chooses.
-    pub(crate) fn round<R: AllocGlobal + Threads + Sync, H: Host + Send, O: Sink + Send, G: Gate + Sync>(
-        &mut self,
-        host: &mut H,
-        out: &mut O,
-        runner: &mut Runner<'_, R, G>,
-    ) -> Result<(), RunErr>
+    pub(crate) fn round<
+        R: AllocGlobal + Threads + Sync,
+        H: Host + Send,
+        O: Sink + Send,
+        G: Gate + Sync,
+    >(&mut self, host: &mut H, out: &mut O, runner: &mut Runner<'_, R, G>) -> Result<(), RunErr>
         requires rest { IsAtRest self.old (H.view host.old) }
         requires running { self.old.verdict ≡ None }
         requires some { 0 < length (owing_vpids self.old.state.core.queue) }
@@ -143,7 +143,15 @@ impl Engine {
         let _queue = self.owing_queue();
         let most = self.live().saturating_sub(vpids.len()).div_ceil(2);
         let mut slots = self.lend_all(runner.alloc(), vpids)?;
-        self.run_beside(host, out, runner.rt, runner.gate, runner.workers, &mut slots, most)?;
+        self.run_beside(
+            host,
+            out,
+            runner.rt,
+            runner.gate,
+            runner.workers,
+            &mut slots,
+            most,
+        )?;
         Ok(slots)
     }
 

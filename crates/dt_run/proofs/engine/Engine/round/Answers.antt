@@ -33,8 +33,8 @@ loop-host-init g c =
     let first = c.args.self.now in
     let e = c.begin_round.new.self in
     let round = subst (λ pids. IsRound (left_of (playing_of first (g.H.Host.view c.args.host.now))) (g.O.Sink.told c.args.out.now)
-        (playing_of e (g.H.Host.view c.begin_round.new.host)) pids c.in_ok-slots.slots.items (g.O.Sink.told c.begin_round.new.out))
-        c.deref.ensures.value c.in_ok-slots.ensures.round in
+    (playing_of e (g.H.Host.view c.begin_round.new.host)) pids c.in_ok-slots.slots.items (g.O.Sink.told c.begin_round.new.out))
+    c.deref.ensures.value c.in_ok-slots.ensures.round in
     let many = round-many _ _ _ _ _ _ round in
     let owing = ap (λ (xs : List ℕ). length xs) c.in_ok-vpids.ensures in
     record {
