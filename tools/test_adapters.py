@@ -20,6 +20,8 @@ from typing import Callable, Dict, List, NamedTuple, Optional, Sequence
 
 from hostilelib import tracing
 from hostilelib.building import Guest
+from hostilelib.code import S0
+from hostilelib.numbers import WRITE as CALL_WRITE
 from hostilelib.running import write_files
 from hostilelib.tracing import Call, LOOKS, ONE, OPENS, READS, WRITE, WRITES
 from hostilelib.tries import Maker, file_entry, index_of
@@ -508,6 +510,48 @@ class Blocking(Case):
             child.send_signal(18)
         self.assertTrue(self.read_all().endswith(self.whole))
         self.assertEqual(child.wait(60), 0)
+
+
+@needs_program
+class Streaming(Case):
+    """What a turn shows is there while the run goes on."""
+
+    # More than a pipe holds, so that the run cannot end before its output is read.
+    ROUNDS, LINE = 40, b"x" * 4095 + b"\n"
+    FIRST = b"dettrace 1\nout 1 4096\n" + LINE + b"\n"
+    WORDS = ("run", "writing", "--", "/p")
+
+    def setUp(self) -> None:
+        super().setUp()
+        guest = Guest(4096)
+        text = guest.text(self.LINE)
+        with guest.code.loop(S0, self.ROUNDS):
+            guest.code.spin(500_000)
+            guest.call(CALL_WRITE, 1, text, len(self.LINE))
+        write_files(self.top / "writing", {"p": guest.executable(), "image.json": index_of(file_entry("/p", "p"))})
+
+    def started(self) -> "subprocess.Popen[bytes]":
+        child = subprocess.Popen([PROGRAM, *self.WORDS], cwd=self.top, stdin=subprocess.DEVNULL,
+                                 stdout=subprocess.PIPE, stderr=subprocess.PIPE)
+        for end in (child.wait, child.kill, child.stderr.close, child.stdout.close):
+            self.addCleanup(end)
+        return child
+
+    def test_each_line_is_there_before_the_next(self) -> None:
+        child = self.started()
+        self.assertEqual(child.stdout.read(len(self.FIRST)), self.FIRST)
+        self.assertIsNone(child.poll())
+        self.assertEqual(self.FIRST + child.stdout.read(), self.run_with(*self.WORDS).stdout)
+        self.assertEqual((child.wait(60), child.stderr.read()), (0, b""))
+
+    def test_a_run_that_is_ended_leaves_how_its_report_begins(self) -> None:
+        child = self.started()
+        begun = child.stdout.read(len(self.FIRST) + 100)
+        child.kill()
+        begun += child.stdout.read()
+        whole = self.run_with(*self.WORDS).stdout
+        self.assertLess(len(begun), len(whole))
+        self.assertEqual(begun, whole[:len(begun)])
 
 
 if __name__ == "__main__":

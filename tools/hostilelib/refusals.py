@@ -1,5 +1,6 @@
 """Want of memory that passes: each request for memory of a run is refused once, in runs of three guests. The runs have
-to end with status 7 and a prefix of the report, or as if nothing had been."""
+to end with status 7 and a prefix of the report, or as if nothing had been. The later a request is, the more of the
+report stands there."""
 from __future__ import annotations
 
 import os
@@ -94,11 +95,14 @@ def refused(program: Path, library: Path, run: Run, step: int = 1) -> Refused:
         whole = refuse(program, library, folder, run, 0)
         is_known = whole.status == 0 and whole.requests > 0
         found = [] if is_known else [f"with none refused it ends with {whole.status}, after {whole.requests} requests"]
-        ended = 0
+        ended = written = 0
         for number in range(1, whole.requests + 1, step):
             came = refuse(program, library, folder, run, number)
             is_cut = came.status == 7 and came.err == LINE and whole.out.startswith(came.out)
             ended += is_cut
+            if is_cut and len(came.out) < written:
+                found.append(f"at request {number} it wrote {len(came.out)} bytes, and {written} at one before")
+            written = max(written, len(came.out)) if is_cut else written
             if not is_cut and came[:3] != whole[:3]:
                 wrote = f"{came.out[:200]!r} and {came.err[:200]!r}"
                 found.append(f"at request {number} it ends with {came.status}, {wrote}")
