@@ -32,6 +32,8 @@ fn a_file_whose_headers_run_past_its_end_is_short(rt: HostRuntime) -> Result<(),
     let hello = dt_asm::hello(alloc)?.elf()?;
     let (cut, _) = hello.split_at(hello.len().min(100));
     same(&rt, read_elf(alloc, cut).err(), Some(ElfErr::Short));
+    let many = patched(alloc, &hello, 56, &[0xff, 0xff])?;
+    same(&rt, read_elf(alloc, &many).err(), Some(ElfErr::Short));
     Ok(())
 }
 
@@ -143,6 +145,7 @@ fn a_segment_is_refused_one_past_each_of_its_bounds(rt: HostRuntime) -> Result<(
             Some(ElfErr::Segment),
         ),
         (load(5, u64::MAX, 0x1_0000, 1, 10), Some(ElfErr::Segment)),
+        (load(5, u64::MAX, 0x1_0000, 2, 10), Some(ElfErr::Segment)),
         (load(5, 0, 0x1000, 0, 1), None),
         (load(5, 0, 0xfff, 0, 1), Some(ElfErr::Segment)),
         (load(5, 0, 0x1f_ffff_f000, 0, 4096), None),
