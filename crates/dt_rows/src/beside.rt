@@ -93,7 +93,7 @@ fn look(number: &AtomicU64, least: u64, missed: &AtomicU64) {
 }
 
 // A gate whose fourth pass waits for the sink.
-impl Gate for &Meeting {
+impl Gate for Meeting {
     fn pass(&self, _index: usize) {
         let before = self.passes.fetch_add(1, SeqCst);
         if before.saturating_add(1) == PASS {
@@ -153,13 +153,7 @@ fn a_turn_is_taken_beside_a_segment(rt: HostRuntime) -> Result<(), Fail> {
         bytes: 0,
     };
     let status = dettrace(
-        &rt,
-        &words,
-        &mut store,
-        &mut host,
-        &mut out,
-        &mut err,
-        &(&meeting),
+        &rt, &words, &mut store, &mut host, &mut out, &mut err, &meeting,
     );
     assert_eq!(rt; status, 0);
     assert_eq!(rt; meeting.missed.load(SeqCst), 0);

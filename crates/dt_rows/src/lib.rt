@@ -1,9 +1,11 @@
 //! Tests of whole calls of the program that need code: two runs, a number for the host, a store of which nothing is
-//! known, the first fault, and want of memory.
+//! known, the first fault, want of memory, and a turn beside a segment.
 #![tactic(auto)]
 
 #[cfg(test)]
 mod anywhere;
+#[cfg(test)]
+mod beside;
 #[cfg(test)]
 mod choices;
 #[cfg(test)]

@@ -1,6 +1,6 @@
 -- What the engine's calls make of a run in play.
 use Rattle.std.proofs.Common.{◌≡◌, ◌≢◌, ℕ, ◌≤◌, ◌==◌, Bool, true, false, cond, List, [], ◌∷◌, map, Option, Some, None, refl, sym, ap, subst, ◌∙◌, arith, ⊎_elim}
-use Rattle.std.specs.Prelude.{IsSome, IsTrue, option_map}
+use Rattle.std.specs.Prelude.{◌||◌, is_some, IsSome, IsTrue, option_map}
 use Rattle.std.proofs.lemmas.Bool.Decides.{nat_tests}
 use Rattle.std.specs.List.{AllByRecursion, list_any}
 use Rattle.std.specs.Cmp.{nat_cmp_total}
@@ -26,7 +26,7 @@ use Rattle.dt_run.specs.declared.happening.Admitted.TheVariants as admitted
 use Rattle.dt_run.specs.Work.{Work, owing_work}
 use Rattle.dt_run.specs.Turn.{turn}
 use Rattle.dt_run.specs.Playing.{Playing}
-use Rattle.dt_run.specs.Admission.{admission, admission_by, admission_of_turn, no_admission, awaited}
+use Rattle.dt_run.specs.Admission.{admission, admission_by, admission_of_turn, no_admission, awaited, is_idle}
 use Rattle.dt_run.specs.Happenings.{is_owing_work, is_live}
 use Rattle.dt_run.specs.Lent.{state_without_work, state_with_work, playing_with_work, returned_work}
 use Rattle.dt_run.specs.InPlay.{EngineView, playing_of, IsKeptProcess, IsKeptIn, IsKept, IsInPlay}
@@ -61,6 +61,15 @@ admission-late e w p whole none late = admission-by e w (Some p) none (awaited-l
 pub admission-ready : (e : EngineView) (w : World) (p : ℕ) → IsInPlay e → e.verdict ≡ None → head e.state.core ≡ Ready p
     → admission (playing_of e w) ≡ admission_of_turn (turn (state_of e.state w))
 admission-ready e w p whole none ready = admission-by e w None none (awaited-ready e.state w p whole.kept ready)
+
+-- there is something to do then
+pub not-idle : (e : EngineView) (w : World) (p : ℕ) → IsInPlay e → e.verdict ≡ None → head e.state.core ≡ Ready p
+    → IsTrue (is_idle (playing_of e w)) → ⊥
+not-idle e w p whole none ready idle =
+    let late = awaited-ready e.state w p whole.kept ready in
+    let off : is_idle (playing_of e w) ≡ false = ap (λ v. is_some v || is_some (awaited (state_of e.state w))) none ∙ ap is_some late in
+    let bad = sym off ∙ idle in
+    cc
 
 -- where the budget doesn't pay for the head's turn
 pub admission-spent : (e : EngineView) (w : World) (v : Verdict) → IsInPlay e → e.verdict ≡ None → IsCore e.state.core

@@ -19,11 +19,11 @@ use Rattle.dt_run.specs.Ahead.{with_works, state_with_works}
 use Rattle.dt_run.specs.Happenings.{is_owing_work, is_live}
 use Rattle.dt_run.specs.Playing.{Playing, rest_of}
 use Rattle.dt_run.specs.Lent.{playing_without_work}
-use Rattle.dt_run.specs.InPlay.{EngineView, playing_of, works_of, IsFull}
+use Rattle.dt_run.specs.InPlay.{EngineView, playing_of, works_of, with_places, IsFull}
 use Rattle.dt_run.specs.inner.InCode.{noted_stop, phase_in, works_in, work_in, state_of}
 use Rattle.dt_run.specs.inner.Good.{IsGood}
 use Rattle.dt_run.specs.inner.Going.{left_of, left_with}
-use Rattle.dt_run.specs.inner.Round.{slot_vpids, slot_works, IsAbsent, IsOnce, with_places, HasLent, IsBeside}
+use Rattle.dt_run.specs.inner.Round.{slot_vpids, slot_works, IsAbsent, IsOnce, HasLent, IsBeside}
 use Rattle.dt_run.proofs.Works.{get-works_in}
 use Rattle.dt_run.proofs.Arriving.{IsOwed, owed, all-owed}
 use Rattle.dt_run.proofs.Kept.{all-weaker}

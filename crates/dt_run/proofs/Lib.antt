@@ -23,6 +23,7 @@ pub mod Going
 pub mod Beside
 pub mod Brought
 pub mod Taking
+pub mod Left
 pub mod Ending
 pub mod Holding
 pub mod Completed

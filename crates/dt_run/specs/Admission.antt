@@ -1,5 +1,5 @@
 -- An admission: the head of the queue takes its turn, unless its segment has not arrived or the run is over.
-use Rattle.std.specs.Prelude.{ℕ, Bool, false, not, List, [], Option, Some, None, if◌then◌else◌}
+use Rattle.std.specs.Prelude.{ℕ, ◌||◌, Bool, false, not, is_some, List, [], Option, Some, None, if◌then◌else◌}
 use Rattle.std.specs.FinMap.{get}
 use Rattle.dt_base.specs.declared.event.Event.{Event}
 use Rattle.dt_base.specs.declared.event.Verdict.{Verdict}
@@ -48,6 +48,10 @@ abbrev pub admission_by : Playing → Option Verdict → Option ℕ → Admissio
 admission_by e (Some verdict) head = no_admission e (admitted.Over verdict)
 admission_by e None (Some p) = no_admission e (admitted.NotArrived p)
 admission_by e None None = admission_of_turn (turn e.state)
+
+-- it has nothing to do where a verdict stands or the head is awaited
+abbrev pub is_idle : Playing → Bool
+is_idle e = is_some e.verdict || is_some (awaited e.state)
 
 -- an admission
 unfoldable pub admission : Playing → Admission

@@ -13,7 +13,7 @@ use Rattle.dt_run.specs.Ahead.{with_segment_of}
 use Rattle.dt_run.specs.Playing.{Playing, playing_after_turn}
 use Rattle.dt_run.specs.Admission.{awaited}
 
--- a process lives: its turn comes
+-- a process lives: it stands in the order of turns
 abbrev pub is_live : ℕ → State → Bool
 is_live p s = list_any (λ q. q == p) s.schedule.order
 

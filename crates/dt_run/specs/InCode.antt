@@ -50,6 +50,7 @@ work_in phase m = record { machine = m; phase = phase }
 unfoldable pub works_in : Machines → (ℕ → Phase Seg) → Works
 works_in machines phases = from_entries (map (λ e. (e.0, work_in (phases e.0) e.1)) (entries machines))
 
+-- what a queue decides by
 abbrev pub schedule_of : CoreView → Schedule
 schedule_of core = record { order = map (λ (p : Process). p.vpid) core.queue; blocked = core.blocked; left = core.left }
 

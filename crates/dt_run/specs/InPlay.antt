@@ -29,6 +29,10 @@ playing_of e w = record { state = state_of e.state w; verdict = e.verdict }
 abbrev pub works_of : EngineView → Works
 works_of e = works_in (machines_at_home e.state.container.places) (phase_in e.state.core.queue e.state.stops)
 
+-- an engine with other places for machines
+abbrev pub with_places : EngineView → Places → EngineView
+with_places e places = record e { state = record e.state { container = record e.state.container { places = places } } }
+
 -- the processes that owe a segment, or whose machines are away, in the order of their turns
 abbrev pub owing_of : State → List ℕ
 owing_of s = filter (λ p. not (is_ready_work (get s.works p))) s.schedule.order

@@ -9,6 +9,7 @@ pub mod Admission
 pub mod Happenings
 pub mod Played
 pub mod Lent
+pub mod Left
 pub mod InCode
 pub mod InPlay
 pub mod Written

@@ -1,6 +1,7 @@
 // A run in play, which is taken on by segments and admissions in any order.
-ghost use Rattle.std.specs.Prelude.{◌≡◌, ◌<◌, ◌≤◌, ℕ, List, [], true, false, Some, None, is_some, IsSome, IsTrue, IfOk, OnOk, IsErrOf};
+ghost use Rattle.std.specs.Prelude.{◌≡◌, ◌==◌, ◌<◌, ◌≤◌, ℕ, List, [], true, false, Some, None, is_some, IsSome, IsTrue, IsOk, IfOk, OnOk, IsErrOf};
 ghost use Rattle.std.specs.FinMap.{get};
+ghost use Rattle.std.specs.List.{list_any};
 ghost use Rattle.dt_host.specs.Cause.{HasCause};
 ghost use Rattle.dt_host.specs.Sink.{added, AddsPart};
 ghost use Rattle.dt_host.specs.World.{World};
@@ -10,13 +11,12 @@ ghost use Rattle.dt_sched.specs.declared.settled.Head.TheVariants.{Ready};
 ghost use Rattle.dt_calls.specs.Sound.{IsSoundContainer};
 ghost use Rattle.dt_run.specs.Work.{owing_work};
 ghost use Rattle.dt_run.specs.Turn.{turn};
-ghost use Rattle.dt_run.specs.Admission.{admission, admission_of_turn};
+ghost use Rattle.dt_run.specs.Admission.{admission, admission_of_turn, is_idle};
 ghost use Rattle.dt_run.specs.Happenings.{is_live, is_owing_work};
 ghost use Rattle.dt_run.specs.Lent.{playing_without_work, playing_with_work, returned_work};
-ghost use Rattle.dt_run.specs.InPlay.{playing_of, works_of, owing_of, IsFull, IsInPlay, steps_left};
+ghost use Rattle.dt_run.specs.InPlay.{playing_of, works_of, with_places, owing_of, IsFull, IsInPlay, steps_left};
 ghost use Rattle.dt_run.specs.InCode.{state_of};
 ghost use Rattle.dt_run.specs.inner.Good.{IsGood};
-ghost use Rattle.dt_run.specs.inner.Round.{with_places};
 
 use crate::error::RunErr;
 use crate::happening::Admitted;
@@ -57,6 +57,13 @@ impl Engine {
         ensures core { IsCore self.now.state.core }
     {
         self.state.core.owing()
+    }
+
+    // Whether a process owes a segment, by the queue.
+    fn owes(&self, vpid: u32) -> bool
+        ensures { result ≡ list_any (λ q. q == vpid) (owing_vpids self.now.state.core.queue) }
+    {
+        self.state.core.owing().contains(&vpid)
     }
 
     // How many processes live.
@@ -102,12 +109,13 @@ impl Engine {
             → IsSoundContainer self.new.state.container w }
         ensures open { self.new.finished ≡ self.old.finished }
     {
-        if self.state.core.owing().contains(&vpid) {
+        if self.owes(vpid) {
             self.state.bring_home(vpid, machine, seg);
         }
     }
 
-    /// Admits the head of the queue, if its segment has arrived and no verdict stands, and writes what its turn shows.
+    /// Admits the head of the queue, if its segment has arrived and no verdict stands, and writes what its turn shows. Else
+    /// nothing changes: the answer is whose segment has not arrived, or the verdict.
     pub fn admit<H: Host, O: Sink>(&mut self, host: &mut H, out: &mut O) -> Result<Admitted, RunErr>
         requires whole { IsInPlay self.old }
         requires sound { IsSoundContainer self.old.state.container (H.view host.old) }
@@ -123,6 +131,13 @@ impl Engine {
         ensures sound { OnOk result (IsSoundContainer self.new.state.container (H.view host.new)) }
         ensures full { (let e = playing_of self.old (H.view host.old) in IsFull e.state)
             → OnOk result (let e = playing_of self.new (H.view host.new) in IsFull e.state) }
+
+        // Where it has nothing to do it doesn't fail, and asks nothing of host and sink.
+        ensures idle { IsTrue (is_idle (playing_of self.old (H.view host.old))) → IsOk result }
+        ensures idle_host { IsTrue (is_idle (playing_of self.old (H.view host.old)))
+            → (H.view host.new ≡ H.view host.old) × (H.count host.new ≡ H.count host.old) }
+        ensures idle_sink { IsTrue (is_idle (playing_of self.old (H.view host.old)))
+            → (O.told out.new ≡ O.told out.old) × (O.count out.new ≡ O.count out.old) }
 
         // Each turn brings the end nearer.
         ensures no_farther { OnOk result (steps_left self.new.state.core ≤ steps_left self.old.state.core) }

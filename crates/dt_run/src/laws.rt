@@ -1,5 +1,6 @@
 // Laws of turns and runs: what the order in which segments are run cannot change.
 ghost use Rattle.dt_run.specs.Ahead.{TurnAhead, RanAhead, TurnAway, RunsAlike};
+ghost use Rattle.dt_run.specs.Left.{ReportByParts, HappeningsLeave, AdmissionLeaves, AwayStays, LendLeaves, ReturnLeaves};
 ghost use Rattle.dt_run.specs.Lent.{ReturnRuns};
 ghost use Rattle.dt_run.specs.Played.{PlayedTurns};
 ghost use Rattle.dt_run.specs.Playing.{RestAtFirst};
@@ -43,4 +44,34 @@ pub fn happenings_come_to_turns()
 /// A machine that was lent and comes back from its segment has run that of its process.
 pub fn machine_that_comes_back_has_run_its_segment()
     ensures { ReturnRuns }
+{}
+
+/// A report is its first line, what the run shows, and its end.
+pub fn report_is_its_parts()
+    ensures { ReportByParts }
+{}
+
+/// What happenings show, and what is left after them, was left before.
+pub fn happenings_show_the_first_of_what_is_left()
+    ensures { HappeningsLeave }
+{}
+
+/// What an admission shows, and what is left after it, was left before, also where machines are away.
+pub fn admission_shows_the_first_of_what_is_left()
+    ensures { AdmissionLeaves }
+{}
+
+/// What is away before a turn is away after it, unless all processes have ended.
+pub fn machine_that_is_away_stays_away()
+    ensures { AwayStays }
+{}
+
+/// A machine that is lent is one more that is away.
+pub fn machine_that_is_lent_is_away()
+    ensures { LendLeaves }
+{}
+
+/// Where a machine comes back from its segment as much is left of the run as before.
+pub fn machine_that_comes_back_leaves_as_much()
+    ensures { ReturnLeaves }
 {}

@@ -19,8 +19,8 @@ use dt_host::{Host, Sink};
 use dt_rv64::Hints;
 
 impl Engine {
-    /// Lets the longest prefix of these happenings come that may, and answers how many they are. Segments are run here,
-    /// so no machine may be lent.
+    /// Does the longest prefix of these happenings that may happen, and answers its length. Segments are run here, so no
+    /// machine may be lent.
     pub fn play<H: Host, O: Sink>(
         &mut self,
         host: &mut H,

@@ -1,26 +1,30 @@
 // A round: the segments that processes owe are run by workers, and turns are taken beside them.
-ghost use Rattle.std.specs.Prelude.{◌≡◌, ◌<◌, ◌≤◌, List, length, true, None, Some, IsSome, IfOk, OnOk, IsErrOf};
-ghost use Rattle.std.specs.List.{AllZip};
+ghost use Rattle.std.specs.Prelude.{◌≡◌, ◌<◌, ◌≤◌, List, length, true, None, Some, IsSome};
+ghost use Rattle.std.specs.Prelude.{IfOk, OnOk, IsErrOf};
+ghost use Rattle.std.specs.FinMap.{get};
+ghost use Rattle.std.specs.List.{AllZip, Contains};
 ghost use Rattle.std.specs.Thread.{IsSync};
 ghost use Rattle.dt_host.specs.Cause.{HasCause};
 ghost use Rattle.dt_host.specs.Sink.{AddsPart};
 ghost use Rattle.dt_host.specs.World.{World};
 ghost use Rattle.dt_image.specs.Report.{events_text};
-ghost use Rattle.dt_sched.specs.Core.{owing_vpids};
+ghost use Rattle.dt_sched.specs.Core.{owing_vpids, is_segment_count};
 ghost use Rattle.dt_calls.specs.Sound.{IsSoundContainer};
 ghost use Rattle.dt_workers.specs.declared.slot.Slot.{Slot as LentSlot};
 ghost use Rattle.dt_workers.specs.Slots.{IsSlotAfter};
 ghost use Rattle.dt_run.specs.InPlay.{playing_of, IsInPlay, steps_left};
 ghost use Rattle.dt_run.specs.inner.Good.{IsGood};
 ghost use Rattle.dt_run.specs.inner.Going.{left_of, left_with};
-ghost use Rattle.dt_run.specs.inner.Round.{slot_vpids, slot_works, HasLent, IsBeside, GoesBeside, IsRound, IsAtRest, TakesOn};
+ghost use Rattle.dt_run.specs.inner.Round.{slot_vpids, slot_works, HasLent, IsBeside, GoesBeside};
+ghost use Rattle.dt_run.specs.inner.Round.{IsRound, IsAtRest, TakesOn, with_arrival};
 
 use crate::engine::Engine;
 use crate::error::RunErr;
 use crate::happening::Admitted;
+use crate::state::State;
 use dt_base::NoMemory;
 use dt_host::{Gate, Host, Sink};
-use dt_rv64::{Hints, Seg, Stop};
+use dt_rv64::{Hints, Machine, Seg, Stop};
 use dt_workers::{Slot, run_segments};
 use std::alloc::Global;
 use std::thread::{Threads, join_mut};
@@ -128,8 +132,8 @@ impl Engine {
         requires running { self.old.verdict ≡ None }
         requires owing { vpids.now ≡ owing_vpids self.old.state.core.queue }
         requires workers { 0 < runner.now.workers }
-        ensures round { IfOk result (λ slots. IsRound (left_of (playing_of self.old (H.view host.old))) (O.told out.old)
-            (playing_of self.new (H.view host.new)) vpids.now slots.items (O.told out.new)) }
+        ensures round { IfOk result (λ slots. IsRound (left_of (playing_of self.old (H.view host.old)))
+            (O.told out.old) (playing_of self.new (H.view host.new)) vpids.now slots.items (O.told out.new)) }
         ensures part { let r = left_of (playing_of self.old (H.view host.old)) in
             AddsPart (O.told out.old) (O.told out.new) (events_text r.events) }
         ensures whole { OnOk result (IsInPlay self.new) }
@@ -188,7 +192,8 @@ impl Engine {
         Ok(slots)
     }
 
-    // Has workers run the segments of slots, and beside them admits the head while it has arrived, at most so many times.
+    // Has workers run the segments of slots, and beside them admits the head while it has arrived, at most so many
+    // times.
     fn run_beside<R: AllocGlobal + Threads + Sync, H: Host + Send, O: Sink + Send, G: Gate + Sync>(
         &mut self,
         host: &mut H,
@@ -255,6 +260,21 @@ impl Engine {
             }
         }
         Ok(())
+    }
+}
+
+impl State {
+    /// Brings the machine of a process home from its segment, which arrives.
+    pub fn bring_home(&mut self, vpid: u32, machine: Machine, seg: Seg)
+        requires place { IsSome (get self.old.container.places vpid) }
+        requires noted { IsSome (get self.old.stops vpid) }
+        requires owing { Contains (owing_vpids self.old.core.queue) vpid }
+        requires count { is_segment_count seg.count ≡ true }
+        ensures { self.new ≡ with_arrival self.old vpid machine seg }
+    {
+        self.container.give_machine(vpid, machine);
+        self.stops.set(u64::from(vpid), seg.stop);
+        self.core.arrived(vpid, seg.count);
     }
 }
 

@@ -1,23 +1,22 @@
 // A run between two turns, and the arrivals of segments that were run.
-ghost use Rattle.std.specs.Prelude.{◌≡◌, ◌<◌, length, true, Some, IsSome, IfOk, OnOk, IsErrOf};
+ghost use Rattle.std.specs.Prelude.{◌≡◌, ◌<◌, length, Some, IsSome, IfOk, OnOk, IsErrOf};
 ghost use Rattle.std.specs.List.{Contains};
 ghost use Rattle.std.specs.FinMap.{empty, get, insert};
 ghost use Rattle.dt_host.specs.Cause.{HasCause};
 ghost use Rattle.dt_host.specs.World.{World};
 ghost use Rattle.dt_base.specs.declared.limits.TheConstants.{FIRST_PID as FIRST};
 ghost use Rattle.dt_rv64.specs.declared.segments.Stop.TheVariants.{Slice};
-ghost use Rattle.dt_sched.specs.Core.{first_core, owing_vpids, is_segment_count, IsCore};
+ghost use Rattle.dt_sched.specs.Core.{first_core, owing_vpids, IsCore};
 ghost use Rattle.dt_calls.specs.Sound.{IsSoundContainer};
 ghost use Rattle.dt_run.specs.Ahead.{with_all_segments, with_segment_of};
 ghost use Rattle.dt_run.specs.inner.InCode.{state_of};
 ghost use Rattle.dt_run.specs.inner.Good.{IsGood, steps_left};
-ghost use Rattle.dt_run.specs.inner.Round.{with_arrival};
 
 use crate::round::Runner;
 use dt_base::{FIRST_PID, NoMemory};
 use dt_calls::Container;
 use dt_host::{Gate, Host, HostErr};
-use dt_rv64::{Hints, Machine, Seg, Stop};
+use dt_rv64::{Hints, Stop};
 use dt_sched::Core;
 use dt_tables::Numbered;
 use std::alloc::Global;
@@ -101,18 +100,5 @@ impl State {
         self.stops.set(u64::from(vpid), seg.stop);
         self.core.arrived(vpid, seg.count);
         Ok(seg.stop)
-    }
-
-    /// Brings the machine of a process home from its segment, which arrives.
-    pub fn bring_home(&mut self, vpid: u32, machine: Machine, seg: Seg)
-        requires place { IsSome (get self.old.container.places vpid) }
-        requires noted { IsSome (get self.old.stops vpid) }
-        requires owing { Contains (owing_vpids self.old.core.queue) vpid }
-        requires count { is_segment_count seg.count ≡ true }
-        ensures { self.new ≡ with_arrival self.old vpid machine seg }
-    {
-        self.container.give_machine(vpid, machine);
-        self.stops.set(u64::from(vpid), seg.stop);
-        self.core.arrived(vpid, seg.count);
     }
 }

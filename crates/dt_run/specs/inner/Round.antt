@@ -6,7 +6,6 @@ use Rattle.dt_host.specs.World.{World}
 use Rattle.dt_rv64.specs.declared.machine.Machine.{Machine}
 use Rattle.dt_rv64.specs.declared.segments.Seg.{Seg}
 use Rattle.dt_sched.specs.Core.{core_after_arrival}
-use Rattle.dt_calls.specs.AtHome.{Places}
 use Rattle.dt_calls.specs.Sound.{IsSoundContainer}
 use Rattle.dt_workers.specs.declared.slot.Slot.{Slot}
 use Rattle.dt_workers.specs.Slots.{IsSlotAfter}
@@ -16,7 +15,7 @@ use Rattle.dt_run.specs.Run.{Run}
 use Rattle.dt_run.specs.Ahead.{Away, with_works, state_with_works}
 use Rattle.dt_run.specs.Happenings.{is_live}
 use Rattle.dt_run.specs.Playing.{Playing}
-use Rattle.dt_run.specs.InPlay.{EngineView, playing_of, works_of, IsFull, IsInPlay, steps_left}
+use Rattle.dt_run.specs.InPlay.{EngineView, playing_of, works_of, with_places, IsFull, IsInPlay, steps_left}
 use Rattle.dt_run.specs.inner.Going.{left_of, left_with, Goes}
 
 -- a run after a process's machine came home from its segment, which arrives
@@ -44,10 +43,6 @@ IsAbsent p ps = AllByRecursion (λ q. q ≢ p) ps
 abbrev pub IsOnce : List ℕ → Type 0
 IsOnce [] = ⊤
 IsOnce (p ∷ ps) = IsAbsent p ps × IsOnce ps
-
--- an engine with other places for machines
-abbrev pub with_places : EngineView → Places → EngineView
-with_places e places = record e { state = record e.state { container = record e.state.container { places = places } } }
 
 -- the machines of slots were lent: nothing else changed, and with them at home the works are as they were
 pub record HasLent (first : EngineView) (slots : List Slot) (now : EngineView) : Type 0 where

@@ -9,7 +9,7 @@ use Rattle.dt_run.specs.Admission.{Admission}
 use Rattle.dt_run.specs.InCode.{state_of}
 use Rattle.dt_run.specs.InPlay.{EngineView, playing_of}
 use Rattle.dt_run.proofs.Queueing.{full-good, good-full}
-use Rattle.dt_run.proofs.Engines.{admission-over, admission-late, admission-ready, admission-spent}
+use Rattle.dt_run.proofs.Engines.{not-idle, admission-over, admission-late, admission-ready, admission-spent}
 use Rattle.dt_run.proofs.Going.{if-answer}
 use Rattle.dt_run.proofs.engine.Engine.admit.Goals as goal
 
@@ -129,3 +129,21 @@ returns-in-Ready-clause-no_farther g c = on_ok_weaker c.take_turn.result (λ les
 
 pub returns-in-Ready-clause-nearer : goal.returns-in-Ready-clause-nearer
 returns-in-Ready-clause-nearer g c = if-answer c.take_turn.result _ _ c.take_turn.ensures.smaller
+
+pub returns-in-Ready-clause-idle : goal.returns-in-Ready-clause-idle
+returns-in-Ready-clause-idle g c = λ idle.
+    let none = ap (λ (e : EngineView). e.verdict) (sym c.self.view_is) ∙ c.in-None.is in
+    let ready = ap (λ (e : EngineView). head e.state.core) (sym c.self.view_is) ∙ sym c.head.ensures.head ∙ c.in-Ready.is in
+    absurd (not-idle c.args.self.now (g.H.Host.view c.args.host.now) c.in-Ready.vpid c.requires.whole none ready idle)
+
+pub returns-in-Ready-clause-idle_host : goal.returns-in-Ready-clause-idle_host
+returns-in-Ready-clause-idle_host g c = λ idle.
+    let none = ap (λ (e : EngineView). e.verdict) (sym c.self.view_is) ∙ c.in-None.is in
+    let ready = ap (λ (e : EngineView). head e.state.core) (sym c.self.view_is) ∙ sym c.head.ensures.head ∙ c.in-Ready.is in
+    absurd (not-idle c.args.self.now (g.H.Host.view c.args.host.now) c.in-Ready.vpid c.requires.whole none ready idle)
+
+pub returns-in-Ready-clause-idle_sink : goal.returns-in-Ready-clause-idle_sink
+returns-in-Ready-clause-idle_sink g c = λ idle.
+    let none = ap (λ (e : EngineView). e.verdict) (sym c.self.view_is) ∙ c.in-None.is in
+    let ready = ap (λ (e : EngineView). head e.state.core) (sym c.self.view_is) ∙ sym c.head.ensures.head ∙ c.in-Ready.is in
+    absurd (not-idle c.args.self.now (g.H.Host.view c.args.host.now) c.in-Ready.vpid c.requires.whole none ready idle)

@@ -7,8 +7,7 @@ use Rattle.dt_calls.proofs.Homes.{home-place}
 use Rattle.dt_run.specs.Happenings.{is_owing_work}
 use Rattle.dt_run.specs.Lent.{playing_without_work}
 use Rattle.dt_run.specs.InCode.{state_of}
-use Rattle.dt_run.specs.InPlay.{EngineView, playing_of, works_of, IsKept, IsInPlay}
-use Rattle.dt_run.specs.inner.Round.{with_places}
+use Rattle.dt_run.specs.InPlay.{EngineView, playing_of, works_of, with_places, IsKept, IsInPlay}
 use Rattle.dt_run.proofs.Engines.{lent-home, lent-work, lent-run, lent-kept, sound-placed}
 use Rattle.dt_run.proofs.engine.Engine.lend.Goals as goal
 

@@ -15,32 +15,32 @@ pub bring_home-requires-clause-place : goal.bring_home-requires-clause-place
 bring_home-requires-clause-place c =
     let s = c.self.inside.state in
     let whole = subst IsInPlay (sym c.self.view_is) c.requires.whole in
-    let found = ap (λ ps. list_any (λ q. q == c.args.vpid) ps) (sym c.owing.ensures.order) ∙ sym c.contains.ensures.value ∙ c.if-contains.true in
+    let found = ap (λ (e : EngineView). list_any (λ q. q == c.args.vpid) (owing_vpids e.state.core.queue)) c.self.view_is ∙ sym c.owes.ensures ∙ c.if-owes.true in
     let there = owing-there s c.args.vpid s.core.queue whole.kept.kept found in there.place
 
 pub bring_home-requires-clause-noted : goal.bring_home-requires-clause-noted
 bring_home-requires-clause-noted c =
     let s = c.self.inside.state in
     let whole = subst IsInPlay (sym c.self.view_is) c.requires.whole in
-    let found = ap (λ ps. list_any (λ q. q == c.args.vpid) ps) (sym c.owing.ensures.order) ∙ sym c.contains.ensures.value ∙ c.if-contains.true in
+    let found = ap (λ (e : EngineView). list_any (λ q. q == c.args.vpid) (owing_vpids e.state.core.queue)) c.self.view_is ∙ sym c.owes.ensures ∙ c.if-owes.true in
     let there = owing-there s c.args.vpid s.core.queue whole.kept.kept found in there.noted
 
-pub returns-then-contains-clause-run : goal.returns-then-contains-clause-run
-returns-then-contains-clause-run c = λ w.
+pub returns-then-owes-clause-run : goal.returns-then-owes-clause-run
+returns-then-owes-clause-run c = λ w.
     let s = c.self.inside.state in
     let verdict = c.self.inside.verdict in
     let p = c.args.vpid in
     let work = returned_work c.args.machine c.args.seg in
     let whole = subst IsInPlay (sym c.self.view_is) c.requires.whole in
-    let found = ap (λ ps. list_any (λ q. q == p) ps) (sym c.owing.ensures.order) ∙ sym c.contains.ensures.value ∙ c.if-contains.true in
+    let found = ap (λ (e : EngineView). list_any (λ q. q == p) (owing_vpids e.state.core.queue)) c.self.view_is ∙ sym c.owes.ensures ∙ c.if-owes.true in
     let there = owing-there s p s.core.queue whole.kept.kept found in
     ap (λ (s : State). record { state = state_of s w; verdict = verdict }) c.bring_home.ensures
     ∙ ap (λ state. record { state = state; verdict = verdict }) (back-run s p c.args.machine c.args.seg w there.queued)
     ∙ with-work-live p work (record { state = state_of s w; verdict = verdict }) (sym (queued-live p s.core.queue) ∙ there.queued)
     ∙ ap (λ (e : EngineView). playing_with_work p work (playing_of e w)) c.self.view_is
 
-pub returns-then-contains-clause-whole : goal.returns-then-contains-clause-whole
-returns-then-contains-clause-whole c =
+pub returns-then-owes-clause-whole : goal.returns-then-owes-clause-whole
+returns-then-owes-clause-whole c =
     let s = c.self.inside.state in
     let whole = subst IsInPlay (sym c.self.view_is) c.requires.whole in
     record {
@@ -48,38 +48,40 @@ returns-then-contains-clause-whole c =
       running = λ none. ap (λ (s : State). s.core.verdict) c.bring_home.ensures ∙ whole.running none;
     }
 
-pub returns-then-contains-clause-sound : goal.returns-then-contains-clause-sound
-returns-then-contains-clause-sound c = λ w sound.
+pub returns-then-owes-clause-sound : goal.returns-then-owes-clause-sound
+returns-then-owes-clause-sound c = λ w sound.
     let s = c.self.inside.state in
     let whole = subst IsInPlay (sym c.self.view_is) c.requires.whole in
-    let found = ap (λ ps. list_any (λ q. q == c.args.vpid) ps) (sym c.owing.ensures.order) ∙ sym c.contains.ensures.value ∙ c.if-contains.true in
+    let found = ap (λ (e : EngineView). list_any (λ q. q == c.args.vpid) (owing_vpids e.state.core.queue)) c.self.view_is ∙ sym c.owes.ensures ∙ c.if-owes.true in
     let there = owing-there s c.args.vpid s.core.queue whole.kept.kept found in
     subst (λ (s : State). IsSoundContainer s.container w) (sym c.bring_home.ensures)
     (sound-placed s.container w c.args.vpid (Some c.args.machine) there.place
     (subst (λ (e : EngineView). IsSoundContainer e.state.container w) (sym c.self.view_is) sound))
 
-pub returns-else-contains-clause-run : goal.returns-else-contains-clause-run
-returns-else-contains-clause-run c = λ w.
-    let same = ap (λ (e : EngineView). e.state) c.self.view_is in
+pub returns-else-owes-clause-run : goal.returns-else-owes-clause-run
+returns-else-owes-clause-run c = λ w.
     with-work-dead c.args.vpid (returned_work c.args.machine c.args.seg) (playing_of c.args.self.now w)
     (away-lives c.args.self.now.state w c.args.vpid c.requires.whole.kept c.requires.away
-    ∙ ap (λ ps. list_any (λ q. q == c.args.vpid) ps) (sym (c.owing.ensures.order ∙ ap (λ (s : State). owing_vpids s.core.queue) same))
-    ∙ sym c.contains.ensures.value ∙ c.if-contains.false)
+    ∙ sym c.owes.ensures ∙ c.if-owes.false)
 
-pub returns-else-contains-clause-nearer : goal.returns-else-contains-clause-nearer
-returns-else-contains-clause-nearer c = λ w live.
-    let same = ap (λ (e : EngineView). e.state) c.self.view_is in
+pub returns-else-owes-clause-nearer : goal.returns-else-owes-clause-nearer
+returns-else-owes-clause-nearer c = λ w live.
     let dead = away-lives c.args.self.now.state w c.args.vpid c.requires.whole.kept c.requires.away
-    ∙ ap (λ ps. list_any (λ q. q == c.args.vpid) ps) (sym (c.owing.ensures.order ∙ ap (λ (s : State). owing_vpids s.core.queue) same))
-    ∙ sym c.contains.ensures.value ∙ c.if-contains.false in
+    ∙ sym c.owes.ensures ∙ c.if-owes.false in
     let bad = sym live ∙ dead in
     cc
 
-pub returns-then-contains-clause-nearer : goal.returns-then-contains-clause-nearer
-returns-then-contains-clause-nearer c = λ w live.
+pub returns-then-owes-clause-nearer : goal.returns-then-owes-clause-nearer
+returns-then-owes-clause-nearer c = λ w live.
     let s = c.self.inside.state in
     subst (λ (e : EngineView). steps_left c.bring_home.new.self.core < steps_left e.state.core) c.self.view_is
     (arrive-smaller s.core c.bring_home.new.self.core c.args.vpid c.args.seg.count
     (found-contained c.args.vpid (owing_vpids s.core.queue)
-    (ap (λ ps. list_any (λ q. q == c.args.vpid) ps) (sym c.owing.ensures.order) ∙ sym c.contains.ensures.value ∙ c.if-contains.true))
+    (ap (λ (e : EngineView). list_any (λ q. q == c.args.vpid) (owing_vpids e.state.core.queue)) c.self.view_is ∙ sym c.owes.ensures ∙ c.if-owes.true))
     (ap (λ (s : State). s.core) c.bring_home.ensures))
+
+pub bring_home-requires-clause-owing : goal.bring_home-requires-clause-owing
+bring_home-requires-clause-owing c =
+    let s = c.self.inside.state in
+    found-contained c.args.vpid (owing_vpids s.core.queue)
+    (ap (λ (e : EngineView). list_any (λ q. q == c.args.vpid) (owing_vpids e.state.core.queue)) c.self.view_is ∙ sym c.owes.ensures ∙ c.if-owes.true)
