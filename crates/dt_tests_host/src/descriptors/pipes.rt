@@ -132,18 +132,24 @@ fn expect_moved(
     moves: &[usize],
     nonblock: bool,
 ) -> Result<(), HostErr> {
-    for (held, moved) in HELD.iter().zip(moves) {
-        let written = Written {
-            flags: if nonblock { O_NONBLOCK } else { 0 },
-            held: *held,
-            count,
-            done: 0,
-            outcome: answer(count, *moved, nonblock),
-            moved: *moved,
-        };
+    let held = HELD.as_slice();
+    for index in 0..held.len().min(moves.len()) {
+        let written = written_at(held[index], count, moves[index], nonblock);
         expect_written(rt, alloc, written)?;
     }
     Ok(())
+}
+
+// A write of so many bytes that moves so many, to a pipe that holds so many.
+fn written_at(held: usize, count: usize, moved: usize, nonblock: bool) -> Written {
+    Written {
+        flags: if nonblock { O_NONBLOCK } else { 0 },
+        held,
+        count,
+        done: 0,
+        outcome: answer(count, moved, nonblock),
+        moved,
+    }
 }
 
 // The same of a write that may wait and of one that may not, for each row of such a table.

@@ -387,8 +387,8 @@ fn is_of_dir(files: &Files, pid: u32, fd: u32) -> bool
 
 // The first index at which bytes are not those that are wanted, which are as many.
 fn first_difference(found: &[u8], wanted: &[u8]) -> Option<usize> {
-    for (index, (found, wanted)) in found.iter().zip(wanted).enumerate() {
-        if found != wanted {
+    for index in 0..found.len().min(wanted.len()) {
+        if found[index] != wanted[index] {
             return Some(index);
         }
     }

@@ -95,10 +95,11 @@ pub fn where_equal(outcome: Outcome, found: &[u8], want: &[u8]) -> Outcome {
 
 // The first index at which the bytes differ, or at which one of them ends.
 fn first_difference(found: &[u8], want: &[u8]) -> usize {
-    for (index, (left, right)) in found.iter().zip(want).enumerate() {
-        if left != right {
+    let length = found.len().min(want.len());
+    for index in 0..length {
+        if found[index] != want[index] {
             return index;
         }
     }
-    found.len().min(want.len())
+    length
 }

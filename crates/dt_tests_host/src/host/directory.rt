@@ -58,10 +58,19 @@ fn check_names(
 
 // Whether the entries have these names, in this order, and are all of that node.
 fn are_named(found: &[HostEntry], ino: u64, names: &[&str]) -> bool {
-    let named = |(entry, name): (&HostEntry, &&str)| {
-        entry.ino == ino && entry.name.as_slice() == name.as_bytes()
-    };
-    found.len() == names.len() && found.iter().zip(names).all(named)
+    if found.len() != names.len() {
+        return false;
+    }
+    for index in 0..found.len() {
+        if !is_named(&found[index], ino, names[index]) {
+            return false;
+        }
+    }
+    true
+}
+
+fn is_named(entry: &HostEntry, ino: u64, name: &str) -> bool {
+    entry.ino == ino && entry.name.as_slice() == name.as_bytes()
 }
 
 // What the host says of the directory.

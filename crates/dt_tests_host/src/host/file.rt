@@ -23,13 +23,13 @@ pub fn make(
     match call {
         FileCall::Write(bytes) => write(host, file, bytes),
         FileCall::Cut(length) => cut(host, file, length),
-        FileCall::Read(most, bytes) => brought(read(host, alloc, file, most), bytes),
+        FileCall::Read(most, bytes) => brought(read(host, alloc, file, 0, most), bytes),
         FileCall::Raw => raw_file(host, file),
     }
 }
 
-// Writes bytes at the start of the file.
-fn write(host: &mut MemHost, file: u64, bytes: &[u8]) -> Result<Outcome, HostErr>
+/// Writes bytes at the start of the file.
+pub fn write(host: &mut MemHost, file: u64, bytes: &[u8]) -> Result<Outcome, HostErr>
     requires { IsFile host.old.view.forest file }
     ensures { IsFile host.new.view.forest file }
 {
@@ -50,13 +50,19 @@ fn cut(host: &mut MemHost, file: u64, length: u64) -> Result<Outcome, HostErr>
     done(host.cut(file, length))
 }
 
-// What comes of at most so many bytes from the start of the file.
-fn read(host: &mut MemHost, alloc: Global, file: u64, most: usize) -> Result<Vec<u8>, HostErr>
+/// What comes of at most so many bytes of the file, from an offset on.
+pub fn read(
+    host: &mut MemHost,
+    alloc: Global,
+    file: u64,
+    offset: u64,
+    most: usize,
+) -> Result<Vec<u8>, HostErr>
     requires { IsFile host.old.view.forest file }
     ensures { host.new.view ≡ host.old.view }
 {
     let mut buf = vec![in alloc; 1; most]?;
-    let count = read_whole(host, file, 0, &mut buf)?;
+    let count = read_whole(host, file, offset, &mut buf)?;
     buf.truncate(count);
     Ok(buf)
 }

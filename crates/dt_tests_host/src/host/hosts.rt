@@ -2,6 +2,7 @@
 ghost use Rattle.std.specs.Prelude.{IfOk};
 ghost use Rattle.dt_host.specs.World.{IsFile, IsEmptyStart};
 
+use super::file;
 use super::play::{Table, expect_all};
 use super::scene::{At, Script};
 use super::step::Ask::{Clock, Cycles, NextStop, Random};
@@ -12,9 +13,10 @@ use super::step::Query::{self, Faults};
 use super::step::Row::{self, Ask, Check, InDir, InFile};
 use crate::expect::same;
 use dt_base::Blob;
-use dt_host::{Host, HostErr, NodeKind, RawStat, read_whole, write_whole};
-use dt_memhost::{MemHost, Picker};
+use dt_host::{Host, HostErr, NodeKind, RawStat};
+use dt_memhost::MemHost;
 use std::alloc::Global;
+use std::process::Abort;
 
 // Two words of a list, and then the first ones of the ChaCha8 key stream of a key of zeros and a nonce of zeros, from
 // the test vectors of draft-strombergson-chacha-test-vectors-01 (TC1, 8 rounds).
@@ -74,11 +76,8 @@ fn make_named(host: &mut MemHost, name: &[u8]) -> Result<(u64, Option<u64>), Hos
 fn write_and_read(host: &mut MemHost, alloc: Global, file: u64) -> Result<Vec<u8>, HostErr>
     requires { IsFile host.old.view.forest file }
 {
-    write_whole(host, file, 0, b"some bytes")?;
-    let mut buf = vec![in alloc; 0; 16]?;
-    let count = read_whole(host, file, 5, &mut buf)?;
-    buf.truncate(count);
-    Ok(buf)
+    let _ = file::write(host, file, b"some bytes")?;
+    file::read(host, alloc, file, 5, 16)
 }
 
 // The number of a file that is made and named, what is found under its name, and what is read of what was written to
@@ -110,16 +109,24 @@ fn host_keeps_what_was_written(rt: HostRuntime) -> Result<(), HostErr> {
     Ok(())
 }
 
-#[test]
-fn a_word_chooses_among_16384_numbers(rt: HostRuntime) -> Result<(), HostErr> {
-    let alloc = rt.alloc();
-    // The root has 1, so the word that comes round to it gives the next.
-    let picker = Picker::new(vec![in alloc; 16_383, 16_384, 16_383]?, 0);
-    let mut host = MemHost::new(alloc, picker, Vec::new(alloc))?;
-    for number in [16_384, 2, 3] {
-        same(&rt, host.make(NodeKind::File)?, number);
+// Ends the test unless files that the host makes get these numbers.
+fn expect_numbers(rt: &impl Abort, host: &mut MemHost, numbers: &[u64]) -> Result<(), HostErr> {
+    for number in numbers {
+        same(rt, host.make(NodeKind::File)?, *number);
     }
     Ok(())
+}
+
+#[test]
+fn a_word_chooses_among_16384_numbers(rt: HostRuntime) -> Result<(), HostErr> {
+    // The root has 1, so the word that comes round to it gives the next.
+    let script = Script {
+        words: &[16_383, 16_384, 16_383],
+        stream: 0,
+        fails: &[],
+    };
+    let mut host = script.host(rt.alloc())?;
+    expect_numbers(&rt, &mut host, &[16_384, 2, 3])
 }
 
 const TWO_ORDERS: &[Row] = &[

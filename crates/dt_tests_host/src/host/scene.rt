@@ -5,6 +5,7 @@ ghost use Rattle.dt_tests_host.specs.Subject.{IsOf};
 
 use super::step::{Ask, DirCall, FileCall, Outcome, PipeCall};
 use super::{ask, directory, file, pipe};
+use dt_base::NoMemory;
 use dt_host::{Host, HostErr, NodeKind};
 use dt_memhost::{MemHost, Picker};
 use std::alloc::Global;
@@ -27,9 +28,20 @@ impl Script<'_> {
     {
         let words = Vec::from_slice(alloc, self.words)?;
         let fails = Vec::from_slice(alloc, self.fails)?;
-        let host = MemHost::new(alloc, Picker::new(words, self.stream), fails)?;
-        Ok(host)
+        Ok(new_host(alloc, words, self.stream, fails)?)
     }
+}
+
+// A host that goes by this, before any call.
+fn new_host(
+    alloc: Global,
+    words: Vec<u32>,
+    stream: u64,
+    fails: Vec<u64>,
+) -> Result<MemHost, NoMemory>
+    ensures { IfOk result (λ host. IsEmptyStart host.view) }
+{
+    MemHost::new(alloc, Picker::new(words, stream), fails)
 }
 
 /// What the rows of a test are about. The first call of the host makes it, or finds the root.

@@ -25,8 +25,9 @@ const ENTRIES: &[EntryRow] = &[
 // Ends the test unless the entries are what these rows say.
 fn expect_entries(rt: &impl Abort, entries: &[Entry], rows: &[EntryRow]) {
     same(rt, entries.len(), rows.len());
-    for (entry, row) in entries.iter().zip(rows) {
-        same_at(rt, row.0, holds(entry, row), true);
+    for index in 0..entries.len().min(rows.len()) {
+        let row = &rows[index];
+        same_at(rt, row.0, holds(&entries[index], row), true);
     }
 }
 

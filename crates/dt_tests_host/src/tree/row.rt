@@ -110,8 +110,18 @@ pub fn is_met(wanted: &Outcome, found: &Found) -> bool {
 
 // Whether the entries are of these names, inodes and types.
 fn are_listed(entries: &[Listed], wanted: &[(&str, u64, u8)]) -> bool {
-    let same = |(l, w): (&Listed, &(&str, u64, u8))| {
-        l.name.as_slice() == w.0.as_bytes() && l.vino == w.1 && l.kind == w.2
-    };
-    entries.len() == wanted.len() && entries.iter().zip(wanted).all(same)
+    if entries.len() != wanted.len() {
+        return false;
+    }
+    for index in 0..entries.len() {
+        if !is_listed(&entries[index], wanted[index]) {
+            return false;
+        }
+    }
+    true
+}
+
+fn is_listed(entry: &Listed, wanted: (&str, u64, u8)) -> bool {
+    let (name, inode, kind) = wanted;
+    entry.name.as_slice() == name.as_bytes() && entry.vino == inode && entry.kind == kind
 }
