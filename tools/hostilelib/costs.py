@@ -200,9 +200,9 @@ def first_goes_last(guest: Guest) -> None:
 # --- programs and children
 
 def program_costs() -> Iterator[Cost]:
-    yield execve_cost(1_000, 100_000, E2BIG)
     yield execve_cost(10_000, 100_000, E2BIG)
-    yield execve_cost(1_000, 4 * MIB, E2BIG)
+    yield execve_cost(1_000_000, 100_000, E2BIG)
+    yield execve_cost(2_000_000, 4 * MIB, E2BIG)
     yield execve_cost(14_500, 0, ENOENT)
     yield Cost("clone, execve of 16 MiB in 64 segments, exit and wait4", nothing, executing_child, None, 3,
                {"great": great_program()}, MIB)
