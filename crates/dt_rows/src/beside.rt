@@ -59,7 +59,7 @@ fn twins(alloc: Global) -> Result<Vec<u8>, AsmErr> {
         rd: A1,
         imm: 0x10000,
     })?;
-    guest.ins(addi(A1, A1, 0xb8))?;
+    guest.ins(addi(A1, A1, 0xc4))?;
     guest.li(A2, 1)?;
     guest.call(WRITE)?;
     guest.ins(addi(S0, S0, -1))?;
