@@ -134,6 +134,16 @@ class Found(Case):
         self.finds(f"printf '{WHOLE}'", "seconds of a processor", "calls", SECONDS=-1000.0)
         self.finds(f"printf '{WHOLE}'", "MiB of memory", "calls", MEMORY=1)
 
+    def test_each_file_of_an_image_counts_by_itself(self) -> None:
+        image = self.top / "img"
+        image.mkdir()
+        (image / "blob").write_bytes(bytes(1000))
+        entries = [file_entry(path, "blob") for path in ("/a", "/b", "/c")]
+        (image / "image.json").write_bytes(index_of(*entries))
+        self.assertEqual(checking.bytes_of_files(self.top), 3000)
+        (image / "image.json").write_bytes(index_of(*entries, file_entry("/a", "blob")))
+        self.assertEqual(checking.bytes_of_files(self.top), 0)
+
     def test_what_is_kept_runs_again(self) -> None:
         script = self.stand_in("echo $# >&2; exit 9")
         self.hostile(script, 6)

@@ -7,7 +7,7 @@ from pathlib import Path
 from typing import List, Optional, Sequence
 
 from imagelib.errors import Refused, StoreFault
-from imagelib.index import read_image
+from imagelib.index import FILE, read_image
 from reportlib.reader import NotReport, Reader
 
 from .running import Ran
@@ -20,15 +20,29 @@ SUMMARY = re.compile(rb"demo ([0-9]+)\nstatus ([0-9]+)\nreport ([0-9]+) ([0-9a-f
 DECIDED = (0, 1, 10)
 
 # What a run of a try may take: of a processor's time so much, and so much more for each instruction of its budget (in a
-# loop execve costs the most: a millisecond for some twenty instructions); and of memory so much, and so many times what
-# it writes, which is kept until its end. No guest of a try makes calls with lists or buffers as long as they may be,
-# which cost more.
+# loop execve costs the most: a millisecond for some twenty instructions); and of memory so much, so many times what it
+# writes, and so many times the bytes of the image's files. No guest of a try makes calls with lists or buffers as long
+# as they may be, which cost more.
 SECONDS, SECONDS_OF_AN_INSTRUCTION = 10.0, 5e-5
-MEMORY, MEMORY_OF_OUTPUT = 1 << 30, 4
+MEMORY, MEMORY_OF_OUTPUT, MEMORY_OF_FILES = 1 << 30, 4, 2
 
 
 def seconds_for(budget: int) -> float:
     return SECONDS + budget * SECONDS_OF_AN_INSTRUCTION
+
+
+def memory_for(ran: Ran, folder: Path) -> int:
+    memory = MEMORY + MEMORY_OF_OUTPUT * ran.size
+    return memory if ran.memory <= memory else memory + MEMORY_OF_FILES * bytes_of_files(folder)
+
+
+def bytes_of_files(folder: Path) -> int:
+    """The bytes of an image's files, each by itself, also where several are one blob. None are kept where it is refused."""
+    try:
+        image = read_image(str(folder / "img"))
+    except (Refused, StoreFault):
+        return 0
+    return sum(image.sizes[entry.blob] for entry in image.entries if entry.type == FILE)
 
 
 def faults(tried: Try, runs: Sequence[Ran], folder: Path) -> List[str]:
@@ -63,7 +77,7 @@ def faults_of(tried: Try, ran: Ran, folder: Path) -> List[str]:
         found += image_faults(ran, folder)
     if ran.seconds > seconds_for(tried.budget):
         found.append(f"it took {ran.seconds:.1f} seconds of a processor, for a budget of {tried.budget}")
-    if ran.memory > MEMORY + MEMORY_OF_OUTPUT * ran.size:
+    if ran.memory > memory_for(ran, folder):
         found.append(f"it took {ran.memory >> 20} MiB of memory, and wrote {ran.size} bytes")
     return found
 
