@@ -20,9 +20,9 @@ SUMMARY = re.compile(rb"demo ([0-9]+)\nstatus ([0-9]+)\nreport ([0-9]+) ([0-9a-f
 DECIDED = (0, 1, 10)
 
 # What a run of a try may take: of a processor's time so much, and so much more for each instruction of its budget (in a
-# loop execve costs the most: a millisecond for some twenty instructions, and more on a machine that is busy); and of memory so much, so many times what it
-# writes, and so many times the bytes of the image's files. No guest of a try makes calls with lists or buffers as long
-# as they may be, which cost more.
+# loop execve costs the most: a millisecond for some twenty instructions, and more where the machine is busy); and of
+# memory so much, so many times what it writes, and so many times the bytes of the image's files. No guest of a try makes
+# calls with lists or buffers as long as they may be, which cost more.
 SECONDS, SECONDS_OF_AN_INSTRUCTION = 10.0, 1e-4
 MEMORY, MEMORY_OF_OUTPUT, MEMORY_OF_FILES = 1 << 30, 4, 2
 
