@@ -171,6 +171,7 @@ fn expect_one_fault<R: Abort + AllocGlobal + Threads + Sync>(
 fn nothing_is_asked_for_after_a_fault(rt: HostRuntime) -> Result<(), Fail> {
     let store = first_not_made(&rt, Failing::Store)?;
     let host = first_not_made(&rt, Failing::Host)?;
+    assert_eq!(rt; 150 < host, true);
     for number in [1, 2, 3, 50, 100, 150] {
         let fails = Each {
             store: number,
@@ -186,9 +187,10 @@ fn nothing_is_asked_for_after_a_fault(rt: HostRuntime) -> Result<(), Fail> {
             err: MANY,
         };
         expect_one_fault(&rt, RUN_HELLO, fails, 5, Each { host: 1, ..NONE })?;
+        // What the report shows is written between calls of the host, so that it makes fewer of them here.
         let fails = Each {
             store,
-            host,
+            host: MANY,
             out: number,
             err: MANY,
         };
