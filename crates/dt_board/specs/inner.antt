@@ -1,0 +1,2 @@
+-- Inner words: no public clause cites these.
+pub mod Held

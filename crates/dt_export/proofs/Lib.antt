@@ -1,0 +1,10 @@
+pub mod BlobNames
+pub mod Exported
+pub mod Gathered
+pub mod GoodPaths
+pub mod Nodes
+pub mod Objects
+pub mod Prepared
+pub mod Put
+pub mod ReadBack
+pub mod ReadEntries

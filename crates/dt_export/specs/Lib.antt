@@ -1,0 +1,6 @@
+pub mod ExportRefusal
+pub mod ExportedImage
+pub mod ExportedIndex
+pub mod ExportedFiles
+pub mod ReadBack
+pub mod inner

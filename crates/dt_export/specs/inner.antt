@@ -1,0 +1,5 @@
+-- Inner words: no public clause cites these.
+pub mod Errors
+pub mod Held
+pub mod Inodes
+pub mod PathView

@@ -1,0 +1,16 @@
+//! The export of a file tree: the image that it is, and the files that say so in a folder.
+#![tactic(auto)]
+
+mod folder;
+mod image;
+mod index;
+mod limits;
+mod paths;
+mod prepare;
+mod refusal;
+
+pub use folder::has_index;
+pub use image::{IMAGE_VERSION, image_of_tree};
+pub use index::index_text;
+pub use prepare::{Export, prepare_export};
+pub use refusal::{ExportErr, ExportRefusal};

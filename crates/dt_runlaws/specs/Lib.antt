@@ -1,0 +1,5 @@
+pub mod Shown
+pub mod Driver
+pub mod Carried
+pub mod Few
+pub mod FewRun
