@@ -9,22 +9,25 @@ ghost use Rattle.dt_run.specs.Run.{status_of_run};
 ghost use Rattle.dt_run.specs.Statuses.{is_run_status};
 ghost use Rattle.dt_run.specs.Wanted.{written_on};
 
+use crate::expect::same;
 use crate::program::{HELLO_INDEX, RUN_HELLO, hello, strings};
-use crate::twice::{InMemory, outside};
-use dt_host::{Host, NoGate, Sink, Store};
+use crate::twice::outside;
+use dt_host::{Gate, Host, NoGate, Sink, Store};
 use dt_run::{Outside, dettrace};
-use std::alloc::Global;
 use std::test::Fail;
 use std::thread::Threads;
 
 // Runs what the words ask for. A run that was completed is one of the words on some image, both well formed, and the
 // status is its own. (A demonstration is the same on each image.) Words that ask for nothing are refused, or memory is
 // wanting: both add nothing to the report.
-fn run<R: AllocGlobal + Threads + Sync, S: Store, H: Host + Send, O: Sink + Send, E: Sink>(
-    rt: &R,
-    words: &[String],
-    met: &mut Outside<S, H, O, E>,
-) -> u8
+fn run<
+    R: AllocGlobal + Threads + Sync,
+    S: Store,
+    H: Host + Send,
+    O: Sink + Send,
+    E: Sink,
+    G: Gate + Sync,
+>(rt: &R, words: &[String], met: &mut Outside<S, H, O, E>, gate: &G) -> u8
     requires { IsEmptyStart (H.view met.old.host) }
     ensures completed { IsTrue (is_run_status result) → (form : Form) × (image : List Entry)
         × (form_of (map string_bytes words.now) ≡ Some form) × IsImage image
@@ -39,19 +42,48 @@ fn run<R: AllocGlobal + Threads + Sync, S: Store, H: Host + Send, O: Sink + Send
         &mut met.host,
         &mut met.out,
         &mut met.err,
-        &NoGate,
+        gate,
     )
+}
+
+/// The status of what the lines of a text ask for, at a host that holds nothing.
+pub fn status_of<
+    R: AllocGlobal + Threads + Sync,
+    S: Store,
+    H: Host + Send,
+    O: Sink + Send,
+    E: Sink,
+>(rt: &R, words: &str, met: &mut Outside<S, H, O, E>) -> Result<u8, Fail>
+    requires { IsEmptyStart (H.view met.old.host) }
+{
+    status_beside(rt, words, met, &NoGate)
+}
+
+/// The same, where the workers pass a gate.
+pub fn status_beside<
+    R: AllocGlobal + Threads + Sync,
+    S: Store,
+    H: Host + Send,
+    O: Sink + Send,
+    E: Sink,
+    G: Gate + Sync,
+>(rt: &R, words: &str, met: &mut Outside<S, H, O, E>, gate: &G) -> Result<u8, Fail>
+    requires { IsEmptyStart (H.view met.old.host) }
+{
+    let words = strings(rt.alloc(), words)?;
+    Ok(run(rt, &words, met, gate))
+}
+
+// The status of these words where `/hello` is the image's one file.
+fn status_with_hello<R: AllocGlobal + Threads + Sync>(rt: &R, words: &str) -> Result<u8, Fail> {
+    let program = hello(rt.alloc())?;
+    let mut met = outside(rt.alloc(), 3, HELLO_INDEX, &program)?;
+    status_of(rt, words, &mut met)
 }
 
 #[test]
 fn a_completed_run_is_one_of_the_words_on_an_image(rt: HostRuntime) -> Result<(), Fail> {
-    let alloc = rt.alloc();
-    let program = hello(alloc)?;
-    let words = strings(alloc, RUN_HELLO)?;
-    let mut met: InMemory = outside(alloc, 3, HELLO_INDEX, program.as_slice())?;
-    assert_eq!(rt; run(&rt, &words, &mut met), 0);
-    let mut met: InMemory = outside(alloc, 3, HELLO_INDEX, program.as_slice())?;
-    let words = strings(alloc, "run\nimg")?;
-    assert_eq!(rt; run(&rt, &words, &mut met), 2);
+    same(&rt, status_with_hello(&rt, RUN_HELLO)?, 0);
+    same(&rt, status_with_hello(&rt, "run\nimg")?, 2);
     Ok(())
 }

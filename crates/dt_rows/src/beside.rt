@@ -1,23 +1,24 @@
 // A turn is taken, and what it shows is written, while another process's segment runs.
-ghost use Rattle.std.specs.Prelude.{None};
+ghost use Rattle.std.specs.Prelude.{None, IfOk};
+ghost use Rattle.dt_host.specs.World.{IsEmptyStart};
 
-use crate::program::{HELLO_INDEX, strings};
+use crate::anywhere::status_beside;
+use crate::expect::same;
+use crate::program::HELLO_INDEX;
+use crate::twice::{outside_with, sink};
 use dt_asm::{AsmErr, Guest};
+use dt_base::NoMemory;
 use dt_base::abi::{A0, A1, A2};
 use dt_host::{Gate, Sink, SinkErr};
-use dt_memhost::{MemHost, MemSink, MemStore, Picker};
-use dt_run::dettrace;
+use dt_memhost::{MemHost, MemSink, MemStore};
+use dt_run::Outside;
 use dt_rv64::Instr;
 use std::alloc::Global;
 use std::sync::atomic::AtomicU64;
 use std::sync::atomic::Ordering::SeqCst;
 use std::test::Fail;
 
-// The registers of a call's fourth and fifth argument, and one that calls keep.
-const A3: u8 = 13;
-
-const A4: u8 = 14;
-
+// A register that calls keep.
 const S0: u8 = 8;
 
 // Calls (asm-generic/unistd.h).
@@ -47,13 +48,32 @@ const LOOKS: u64 = 1_000_000_000;
 // Makes a child; then both write `x` to standard output a hundred times, and end with code 0.
 fn twins(alloc: Global) -> Result<Vec<u8>, AsmErr> {
     let mut guest = Guest::new(alloc);
-    guest.li(A0, SIGCHLD)?;
-    for argument in [A1, A2, A3, A4] {
-        guest.li(argument, 0)?;
+    call(&mut guest, CLONE, &[SIGCHLD, 0, 0, 0, 0])?;
+    write_often(&mut guest)?;
+    call(&mut guest, EXIT, &[0])?;
+    guest.bytes(b"x")?;
+    guest.elf()
+}
+
+// Makes a call with arguments in the registers from a0 on.
+fn call(guest: &mut Guest, number: u32, arguments: &[i64]) -> Result<(), NoMemory> {
+    let mut register = A0;
+    for argument in arguments {
+        guest.li(register, *argument)?;
+        register = register.wrapping_add(1);
     }
-    guest.call(CLONE)?;
+    guest.call(number)
+}
+
+fn write_often(guest: &mut Guest) -> Result<(), NoMemory> {
     guest.li(S0, 100)?;
     guest.label(AGAIN)?;
+    write(guest)?;
+    guest.ins(addi(S0, S0, -1))?;
+    guest.branch(BNE, S0, 0, AGAIN)
+}
+
+fn write(guest: &mut Guest) -> Result<(), NoMemory> {
     guest.li(A0, 1)?;
     guest.ins(Instr::Lui {
         rd: A1,
@@ -61,13 +81,7 @@ fn twins(alloc: Global) -> Result<Vec<u8>, AsmErr> {
     })?;
     guest.ins(addi(A1, A1, 0xc4))?;
     guest.li(A2, 1)?;
-    guest.call(WRITE)?;
-    guest.ins(addi(S0, S0, -1))?;
-    guest.branch(BNE, S0, 0, AGAIN)?;
-    guest.li(A0, 0)?;
-    guest.call(EXIT)?;
-    guest.bytes(b"x")?;
-    guest.elf()
+    guest.call(WRITE)
 }
 
 fn addi(rd: u8, rs1: u8, imm: i64) -> Instr {
@@ -129,34 +143,30 @@ impl Sink for Waiting<'_> {
     }
 }
 
+// What a run of the twins meets, whose report goes to a sink that waits.
+fn with_twins<'a>(
+    alloc: Global,
+    meeting: &'a Meeting,
+) -> Result<Outside<MemStore, MemHost, Waiting<'a>, MemSink>, Fail>
+    ensures { IfOk result (λ met. IsEmptyStart met.host.view) }
+{
+    let program = twins(alloc)?;
+    let out = Waiting { meeting, bytes: 0 };
+    let err = sink(alloc, 1)?;
+    Ok(outside_with(alloc, 1, HELLO_INDEX, &program, out, err)?)
+}
+
 #[test]
 fn a_turn_is_taken_beside_a_segment(rt: HostRuntime) -> Result<(), Fail> {
-    let alloc = rt.alloc();
-    let mut store = MemStore::new(alloc, Picker::new(Vec::new(alloc), 1), Vec::new(alloc))?;
-    store.put("img/image.json", HELLO_INDEX)?;
-    store.put("img/hello", &twins(alloc)?)?;
-    let words = strings(alloc, "run\nimg\n--workers\n2\n--\n/hello")?;
-    let mut host = MemHost::new(alloc, Picker::new(Vec::new(alloc), 1), Vec::new(alloc))?;
-    let mut err = MemSink::new(
-        alloc,
-        Picker::new(Vec::new(alloc), 1),
-        Vec::new(alloc),
-        None,
-    )?;
     let meeting = Meeting {
         passes: AtomicU64::new(0),
         bytes: AtomicU64::new(0),
         missed: AtomicU64::new(0),
     };
-    let mut out = Waiting {
-        meeting: &meeting,
-        bytes: 0,
-    };
-    let status = dettrace(
-        &rt, &words, &mut store, &mut host, &mut out, &mut err, &meeting,
-    );
-    assert_eq!(rt; status, 0);
-    assert_eq!(rt; meeting.missed.load(SeqCst), 0);
-    assert_eq!(rt; BYTES < out.bytes, true);
+    let mut met = with_twins(rt.alloc(), &meeting)?;
+    let words = "run\nimg\n--workers\n2\n--\n/hello";
+    same(&rt, status_beside(&rt, words, &mut met, &meeting)?, 0);
+    same(&rt, meeting.missed.load(SeqCst), 0);
+    same(&rt, BYTES < met.out.bytes, true);
     Ok(())
 }

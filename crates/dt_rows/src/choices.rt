@@ -1,9 +1,13 @@
 // What a number for the host does to its choices.
-use crate::program::{HELLO_INDEX, HELLO_REPORT, RUN_HELLO, hello, strings};
+ghost use Rattle.std.specs.Prelude.{◌≡◌};
+ghost use Rattle.dt_host.specs.World.{IsEmptyStart};
+
+use crate::anywhere::status_of;
+use crate::expect::same_at;
+use crate::program::{HELLO_INDEX, HELLO_REPORT, RUN_HELLO, hello};
 use crate::twice::{InMemory, outside};
-use dt_host::{Host, NoGate};
-use dt_run::dettrace;
-use std::alloc::Global;
+use dt_host::{Host, HostErr};
+use std::process::Abort;
 use std::test::Fail;
 use std::thread::Threads;
 
@@ -22,45 +26,82 @@ fn run<R: AllocGlobal + Threads + Sync>(
     words: &str,
     by_hand: Option<u64>,
 ) -> Result<Ran, Fail> {
-    let alloc = rt.alloc();
-    let mut met: InMemory = outside(alloc, 5, HELLO_INDEX, &hello(alloc)?)?;
-    if let Some(number) = by_hand {
-        met.host.disturb(number)?;
-    }
-    let status = dettrace(
-        rt,
-        &strings(alloc, words)?,
-        &mut met.store,
-        &mut met.host,
-        &mut met.out,
-        &mut met.err,
-        &NoGate,
-    );
+    let program = hello(rt.alloc())?;
+    let mut met = outside(rt.alloc(), 5, HELLO_INDEX, &program)?;
+    run_at(rt, words, by_hand, &mut met)
+}
+
+// The same at what it meets.
+fn run_at<R: AllocGlobal + Threads + Sync>(
+    rt: &R,
+    words: &str,
+    by_hand: Option<u64>,
+    met: &mut InMemory,
+) -> Result<Ran, Fail>
+    requires { IsEmptyStart met.old.host.view }
+{
+    disturb(&mut met.host, by_hand)?;
+    let status = status_of(rt, words, met)?;
+    let next = met.host.clock()?;
+    let report = Vec::from_slice(rt.alloc(), met.out.bytes())?;
     Ok(Ran {
         status,
-        report: Vec::from_slice(alloc, met.out.bytes())?,
-        next: met.host.clock()?,
+        report,
+        next,
     })
 }
+
+// Disturbs the host by hand, where a number is given.
+fn disturb<H: Host>(host: &mut H, by_hand: Option<u64>) -> Result<(), HostErr>
+    ensures { H.view host.new ≡ H.view host.old }
+{
+    match by_hand {
+        Some(number) => host.disturb(number),
+        None => Ok(()),
+    }
+}
+
+// Ends the test unless a run came to the end and the report of `/hello`.
+fn expect_hello(rt: &impl Abort, number: u64, ran: &Ran) {
+    same_at(rt, number, ran.status, 0);
+    same_at(rt, number, ran.report.as_slice(), HELLO_REPORT);
+}
+
+// Ends the test unless a number among the words disturbs the host as it does by hand, and as none of the numbers before
+// it did. The word by which the host chooses next.
+fn expect_disturbed<R: Abort + AllocGlobal + Threads + Sync>(
+    rt: &R,
+    number: u64,
+    seen: &[u64],
+) -> Result<u64, Fail> {
+    let words = format!(in rt.alloc(); "run\nimg\n--host\n{number}\n--\n/hello")?;
+    let by_words = run(rt, words.as_str(), None)?;
+    expect_hello(rt, number, &by_words);
+    let by_hand = run(rt, RUN_HELLO, Some(number))?;
+    expect_hello(rt, number, &by_hand);
+    same_at(rt, number, by_words.next, by_hand.next);
+    same_at(rt, number, seen.contains(&by_words.next), false);
+    Ok(by_words.next)
+}
+
+// Ends the test unless it is so for each of these numbers.
+fn expect_all_disturbed<R: Abort + AllocGlobal + Threads + Sync>(
+    rt: &R,
+    numbers: &[u64],
+) -> Result<(), Fail> {
+    let mut seen = Vec::new(rt.alloc());
+    seen.push(run(rt, RUN_HELLO, None)?.next)?;
+    for number in numbers {
+        seen.push(expect_disturbed(rt, *number, &seen)?)?;
+    }
+    Ok(())
+}
+
+const NUMBERS: &[u64] = &[0, 1, 7, 1 << 32, (1 << 32) + 7, 1 << 63, u64::MAX];
 
 #[test]
 fn a_number_among_the_words_disturbs_the_host_as_it_does_by_hand(
     rt: HostRuntime,
 ) -> Result<(), Fail> {
-    let alloc = rt.alloc();
-    let mut seen = Vec::new(alloc);
-    seen.push(run(&rt, RUN_HELLO, None)?.next)?;
-    for number in [0, 1, 7, 1 << 32, (1 << 32) + 7, 1 << 63, u64::MAX] {
-        let words = format!(in alloc; "run\nimg\n--host\n{number}\n--\n/hello")?;
-        let by_words = run(&rt, words.as_str(), None)?;
-        let by_hand = run(&rt, RUN_HELLO, Some(number))?;
-        assert_eq!(rt; by_words.next, by_hand.next, "{number}");
-        assert!(rt; !seen.contains(&by_words.next), "{number}");
-        seen.push(by_words.next)?;
-        for ran in [by_words, by_hand] {
-            assert_eq!(rt; ran.status, 0, "{number}");
-            assert_eq!(rt; ran.report.as_slice(), HELLO_REPORT, "{number}");
-        }
-    }
-    Ok(())
+    expect_all_disturbed(&rt, NUMBERS)
 }

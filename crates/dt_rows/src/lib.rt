@@ -9,6 +9,8 @@ mod beside;
 #[cfg(test)]
 mod choices;
 #[cfg(test)]
+mod expect;
+#[cfg(test)]
 mod first;
 #[cfg(test)]
 mod memory;

@@ -2,6 +2,7 @@
 use crate::encodings::WORDS;
 use crate::expect::{same, same_at};
 use dt_asm::{AsmErr, Guest, cat1, encode, first, hello, late, trio};
+use dt_base::NoMemory;
 use dt_rv64::{Instr, Machine, Step, decode};
 use dt_space::Space;
 use std::alloc::{AllocError, Global};
@@ -181,51 +182,60 @@ fn number_of_a_call_in_a_word(rt: HostRuntime) -> Result<(), Fail> {
     Ok(())
 }
 
+// Ends the test unless none of these instructions has a word.
+fn expect_no_words(rt: &impl Abort, instructions: &[Instr]) {
+    for instruction in instructions {
+        same(rt, encode(instruction), None);
+    }
+}
+
 #[test]
 fn a_register_past_31_has_no_word(rt: HostRuntime) -> Result<(), Fail> {
-    for i in [
-        mulhsu(32, 0, 0),
-        mulhsu(0, 32, 0),
-        mulhsu(0, 0, 32),
-        addi(32, 0, 0),
-        addi(0, 32, 0),
-        sd(32, 0, 0),
-        sd(0, 32, 0),
-        bgeu(32, 0, 0),
-        bgeu(0, 32, 0),
-        lui(32, 0),
-        jal(32, 0),
-        srai(32, 0, 0),
-        srai(0, 32, 0),
-        slliw(32, 0, 0),
-        slliw(0, 32, 0),
-        read_counter(32, 0xc00),
-    ] {
-        same(&rt, encode(&i), None);
-    }
+    expect_no_words(
+        &rt,
+        &[
+            mulhsu(32, 0, 0),
+            mulhsu(0, 32, 0),
+            mulhsu(0, 0, 32),
+            addi(32, 0, 0),
+            addi(0, 32, 0),
+            sd(32, 0, 0),
+            sd(0, 32, 0),
+            bgeu(32, 0, 0),
+            bgeu(0, 32, 0),
+            lui(32, 0),
+            jal(32, 0),
+            srai(32, 0, 0),
+            srai(0, 32, 0),
+            slliw(32, 0, 0),
+            slliw(0, 32, 0),
+            read_counter(32, 0xc00),
+        ],
+    );
     Ok(())
 }
 
 #[test]
 fn an_immediate_past_its_limits_has_no_word(rt: HostRuntime) -> Result<(), Fail> {
-    for i in [
-        addi(0, 0, 2048),
-        addi(0, 0, -2049),
-        sd(0, 0, 2048),
-        sd(0, 0, -2049),
-        lui(0, 0x8000_0000),
-        lui(0, -0x8000_1000),
-        bgeu(0, 0, 4096),
-        bgeu(0, 0, -4098),
-        jal(0, 0x10_0000),
-        jal(0, -0x10_0002),
-        // Offsets are even, and the low twelve bits of an upper immediate are 0.
-        bgeu(0, 0, 1),
-        jal(0, 1),
-        lui(0, 1),
-    ] {
-        same(&rt, encode(&i), None);
-    }
+    expect_no_words(
+        &rt,
+        &[
+            addi(0, 0, 2048),
+            addi(0, 0, -2049),
+            sd(0, 0, 2048),
+            sd(0, 0, -2049),
+            lui(0, 0x8000_0000),
+            lui(0, -0x8000_1000),
+            bgeu(0, 0, 4096),
+            bgeu(0, 0, -4098),
+            jal(0, 0x10_0000),
+            jal(0, -0x10_0002),
+            // Offsets are even, and the low twelve bits of an upper immediate are 0.
+            bgeu(0, 0, 1),
+            jal(0, 1),
+            lui(0, 1),
+        ],
+    );
     Ok(())
 }
 
@@ -233,14 +243,15 @@ fn an_immediate_past_its_limits_has_no_word(rt: HostRuntime) -> Result<(), Fail>
 fn a_shift_or_a_counter_past_its_limit_and_what_is_unknown_have_no_word(
     rt: HostRuntime,
 ) -> Result<(), Fail> {
-    for i in [
-        srai(0, 0, 64),
-        slliw(0, 0, 32),
-        read_counter(0, 0xbff),
-        read_counter(0, 0xc03),
-    ] {
-        same(&rt, encode(&i), None);
-    }
+    expect_no_words(
+        &rt,
+        &[
+            srai(0, 0, 64),
+            slliw(0, 0, 32),
+            read_counter(0, 0xbff),
+            read_counter(0, 0xc03),
+        ],
+    );
     same(&rt, encode(&Instr::Unknown), None);
     Ok(())
 }
@@ -302,15 +313,14 @@ enum Put {
 use Put::{Branch, Jump, Label, Unknown, Zeros};
 
 impl Put {
-    fn put(self, alloc: Global, guest: &mut Guest) -> Result<(), Fail> {
+    fn put(self, alloc: Global, guest: &mut Guest) -> Result<(), NoMemory> {
         match self {
-            Zeros(count) => guest.bytes(&vec![in alloc; 0; count]?)?,
-            Unknown => guest.ins(Instr::Unknown)?,
-            Branch(label) => guest.branch(5, 1, 2, label)?,
-            Jump(label) => guest.jump(label)?,
-            Label(label) => guest.label(label)?,
+            Zeros(count) => guest.bytes(&vec![in alloc; 0; count]?),
+            Unknown => guest.ins(Instr::Unknown),
+            Branch(label) => guest.branch(5, 1, 2, label),
+            Jump(label) => guest.jump(label),
+            Label(label) => guest.label(label),
         }
-        Ok(())
     }
 }
 
@@ -337,7 +347,11 @@ const FAR_BACK: [(Put, Option<u8>); 5] = [
 ];
 
 // Ends the test unless each that comes to a new guest's end makes this refusal.
-fn expect_refusals(rt: &impl Abort, alloc: Global, puts: &[(Put, Option<u8>)]) -> Result<(), Fail> {
+fn expect_refusals(
+    rt: &impl Abort,
+    alloc: Global,
+    puts: &[(Put, Option<u8>)],
+) -> Result<(), NoMemory> {
     let mut guest = Guest::new(alloc);
     for (number, (put, want)) in puts.iter().enumerate() {
         put.put(alloc, &mut guest)?;
@@ -348,34 +362,51 @@ fn expect_refusals(rt: &impl Abort, alloc: Global, puts: &[(Put, Option<u8>)]) -
 
 #[test]
 fn refusals_in_their_order(rt: HostRuntime) -> Result<(), Fail> {
-    expect_refusals(&rt, rt.alloc(), &REFUSALS)
+    expect_refusals(&rt, rt.alloc(), &REFUSALS)?;
+    Ok(())
 }
 
 #[test]
 fn a_branch_reaches_4096_bytes_back(rt: HostRuntime) -> Result<(), Fail> {
-    expect_refusals(&rt, rt.alloc(), &FAR_BACK)
+    expect_refusals(&rt, rt.alloc(), &FAR_BACK)?;
+    Ok(())
+}
+
+// Ends the test unless a branch over so many bytes makes this refusal.
+fn expect_branch_over(
+    rt: &impl Abort,
+    alloc: Global,
+    between: usize,
+    want: Option<u8>,
+) -> Result<(), NoMemory> {
+    let puts = [
+        (Branch(3), Some(1)),
+        (Zeros(between), Some(1)),
+        (Label(3), want),
+    ];
+    expect_refusals(rt, alloc, &puts)
 }
 
 #[test]
 fn a_branch_reaches_4094_bytes(rt: HostRuntime) -> Result<(), Fail> {
-    for (between, want) in [(4090, None), (4091, Some(3)), (4092, Some(3))] {
-        let puts = [
-            (Branch(3), Some(1)),
-            (Zeros(between), Some(1)),
-            (Label(3), want),
-        ];
-        expect_refusals(&rt, rt.alloc(), &puts)?;
-    }
+    expect_branch_over(&rt, rt.alloc(), 4090, None)?;
+    expect_branch_over(&rt, rt.alloc(), 4091, Some(3))?;
+    expect_branch_over(&rt, rt.alloc(), 4092, Some(3))?;
     Ok(())
+}
+
+// The number of the refusal of a guest with this branch to its first byte.
+fn branch_refusal(alloc: Global, funct3: u8, rs1: u8, rs2: u8) -> Result<Option<u8>, NoMemory> {
+    let mut guest = Guest::new(alloc);
+    guest.label(0)?;
+    guest.branch(funct3, rs1, rs2, 0)?;
+    Ok(refusal_number(&guest))
 }
 
 #[test]
 fn fields_of_a_branch_are_looked_at(rt: HostRuntime) -> Result<(), Fail> {
     for (funct3, rs1, rs2) in [(2, 0, 0), (3, 0, 0), (8, 0, 0), (0, 32, 0), (0, 0, 32)] {
-        let mut guest = Guest::new(rt.alloc());
-        guest.label(0)?;
-        guest.branch(funct3, rs1, rs2, 0)?;
-        same(&rt, refusal_number(&guest), Some(4));
+        same(&rt, branch_refusal(rt.alloc(), funct3, rs1, rs2)?, Some(4));
     }
     Ok(())
 }
@@ -392,26 +423,29 @@ fn a_file_over_its_limit_is_refused(rt: HostRuntime) -> Result<(), Fail> {
     Ok(())
 }
 
+// Numbers, each with the steps that it takes to load it.
+const LOADED: [(i64, u32); 14] = [
+    (0, 1),
+    (2047, 1),
+    (2048, 2),
+    (-2048, 1),
+    (-2049, 2),
+    (0x7fff_ffff, 2),
+    (-0x8000_0000, 2),
+    (0x7fff_f800, 2),
+    (0x7fff_f7ff, 2),
+    (-0x8000_0001, 4),
+    (0x8000_0000, 4),
+    (0x1234_5678_9abc_def0, 8),
+    (i64::MIN, 8),
+    (i64::MAX, 8),
+];
+
 #[test]
 fn a_loaded_number_is_in_its_register(rt: HostRuntime) -> Result<(), Fail> {
-    for (number, steps) in [
-        (0, 1),
-        (2047, 1),
-        (2048, 2),
-        (-2048, 1),
-        (-2049, 2),
-        (0x7fff_ffff, 2),
-        (-0x8000_0000, 2),
-        (0x7fff_f800, 2),
-        (0x7fff_f7ff, 2),
-        (-0x8000_0001, 4),
-        (0x8000_0000, 4),
-        (0x1234_5678_9abc_def0, 8),
-        (i64::MIN, 8),
-        (i64::MAX, 8),
-    ] {
-        let want = (number.cast_unsigned(), steps);
-        same_at(&rt, number, loaded(rt.alloc(), number)?, want);
+    for (number, steps) in &LOADED {
+        let want = (number.cast_unsigned(), *steps);
+        same_at(&rt, *number, loaded(rt.alloc(), *number)?, want);
     }
     Ok(())
 }
@@ -423,14 +457,18 @@ fn loaded(alloc: Global, number: i64) -> Result<(u64, u32), Fail> {
     guest.ins(Instr::Ecall)?;
     let file = guest.elf()?;
     let mut machine = start_machine(alloc, file.get(HEADERS..).unwrap_or(&[]))?;
-    let mut ran = 0;
-    for step in 1..10 {
-        if machine.step()? != Step::Ran {
-            break;
-        }
-        ran = step;
-    }
+    let ran = steps(&mut machine)?;
     Ok((machine.reg(31), ran))
+}
+
+// How many steps of the first nine a machine takes until it comes to a call.
+fn steps(machine: &mut Machine) -> Result<u32, NoMemory> {
+    for ran in 0..9 {
+        if machine.step()? != Step::Ran {
+            return Ok(ran);
+        }
+    }
+    Ok(9)
 }
 
 // The number of a guest's refusal.

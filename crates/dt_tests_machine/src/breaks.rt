@@ -1,9 +1,10 @@
 // Breaks that move up and down, and stay.
 use crate::expect::{same, same_at};
-use dt_base::{ADDRESS_LIMIT, Answer, PAGE_LIMIT, PAGE_SIZE};
+use dt_base::{ADDRESS_LIMIT, Answer, NoMemory, PAGE_LIMIT, PAGE_SIZE};
 use dt_mcalls::{Break, brk, mmap, munmap};
 use dt_space::{EXECUTE, Miss, READ, Space, WriteErr};
 use std::alloc::{AllocError, Global};
+use std::process::Abort;
 use std::test::Fail;
 
 // One page of code, right before the break's start.
@@ -15,29 +16,41 @@ fn space(rt: HostRuntime) -> Result<Space, Fail> {
     Ok(space)
 }
 
-#[test]
-fn break_takes_whole_pages(rt: HostRuntime) -> Result<(), Fail> {
-    let mut space = space(rt)?;
+// Ends the test unless calls of these addresses answer so, each with so many pages then.
+fn expect_breaks(
+    rt: &impl Abort,
+    space: &mut Space,
+    rows: &[(u64, u64, usize)],
+) -> Result<(), NoMemory> {
     let mut end = Break {
         start: START,
         end: START,
     };
-    for (address, answer, pages) in [
-        (0, 0x1_1000, 1),
-        (0x1_0fff, 0x1_1000, 1),
-        (0x1_1000, 0x1_1000, 1),
-        (0x1_1001, 0x1_1001, 2),
-        (0x1_0fff, 0x1_1001, 2),
-        (0x1_2000, 0x1_2000, 2),
-        (0x1_2001, 0x1_2001, 3),
-        (0x1_5000, 0x1_5000, 5),
-        (u64::MAX, 0x1_5000, 5),
-        (0x1_2fff, 0x1_2fff, 3),
-        (0x1_1000, 0x1_1000, 1),
-    ] {
-        same_at(&rt, address, brk(&mut end, &mut space, address)?, answer);
-        same_at(&rt, address, space.pages(), pages);
+    for (address, answer, pages) in rows {
+        same_at(rt, *address, brk(&mut end, space, *address)?, *answer);
+        same_at(rt, *address, space.pages(), *pages);
     }
+    Ok(())
+}
+
+const WHOLE_PAGES: &[(u64, u64, usize)] = &[
+    (0, 0x1_1000, 1),
+    (0x1_0fff, 0x1_1000, 1),
+    (0x1_1000, 0x1_1000, 1),
+    (0x1_1001, 0x1_1001, 2),
+    (0x1_0fff, 0x1_1001, 2),
+    (0x1_2000, 0x1_2000, 2),
+    (0x1_2001, 0x1_2001, 3),
+    (0x1_5000, 0x1_5000, 5),
+    (u64::MAX, 0x1_5000, 5),
+    (0x1_2fff, 0x1_2fff, 3),
+    (0x1_1000, 0x1_1000, 1),
+];
+
+#[test]
+fn break_takes_whole_pages(rt: HostRuntime) -> Result<(), Fail> {
+    let mut space = space(rt)?;
+    expect_breaks(&rt, &mut space, WHOLE_PAGES)?;
     same(&rt, space.fetch(0x1_0000), Ok(0));
     Ok(())
 }
@@ -63,23 +76,18 @@ fn pages_of_the_break_can_be_read_and_written(rt: HostRuntime) -> Result<(), Fai
     Ok(())
 }
 
+const BELOW_A_PAGE: &[(u64, u64, usize)] = &[
+    (0x1_4000, 0x1_4000, 5),
+    (0x1_4001, 0x1_4000, 5),
+    (0x1_5001, 0x1_4000, 5),
+    (0x1_3000, 0x1_3000, 4),
+];
+
 #[test]
 fn break_stays_where_its_pages_cannot_come(rt: HostRuntime) -> Result<(), Fail> {
     let mut space = space(rt)?;
     space.map(0x14, 1, READ)?;
-    let mut end = Break {
-        start: START,
-        end: START,
-    };
-    for (address, answer, pages) in [
-        (0x1_4000, 0x1_4000, 5),
-        (0x1_4001, 0x1_4000, 5),
-        (0x1_5001, 0x1_4000, 5),
-        (0x1_3000, 0x1_3000, 4),
-    ] {
-        same_at(&rt, address, brk(&mut end, &mut space, address)?, answer);
-        same_at(&rt, address, space.pages(), pages);
-    }
+    expect_breaks(&rt, &mut space, BELOW_A_PAGE)?;
     Ok(())
 }
 
@@ -133,33 +141,46 @@ enum Act {
 use Act::{Mapped, Moved, Stays, Unmapped};
 
 impl Act {
-    fn act(self, end: &mut Break, space: &mut Space) -> Result<bool, Fail> {
-        let old = end.end;
-        Ok(match self {
-            Moved(address) => brk(end, space, address)? == address && end.end == address,
-            Stays(address) => brk(end, space, address)? == old && end.end == old,
-            Unmapped(address) => munmap(space, address, PAGE_SIZE) == Answer::Value(0),
-            Mapped(address) => {
-                mmap(space, address, PAGE_SIZE, 1, 0x32)? == Answer::Value(address)
+    // Whether it comes to what it says.
+    fn act(self, end: &mut Break, space: &mut Space) -> Result<bool, NoMemory> {
+        match self {
+            Moved(address) => goes(end, space, address, address),
+            Stays(address) => {
+                let old = end.end;
+                goes(end, space, address, old)
             }
-        })
+            Unmapped(address) => Ok(munmap(space, address, PAGE_SIZE) == Answer::Value(0)),
+            Mapped(address) => {
+                let mapped = mmap(space, address, PAGE_SIZE, 1, 0x32)?;
+                Ok(mapped == Answer::Value(address))
+            }
+        }
     }
+}
+
+// Whether a call of this address answers another one, and the break is there then.
+fn goes(end: &mut Break, space: &mut Space, address: u64, there: u64) -> Result<bool, NoMemory> {
+    Ok(brk(end, space, address)? == there && end.end == there)
 }
 
 // Of seven pages from the break's start on: which can be written, which only read, and which are not there.
 fn shown(alloc: Global, space: &Space) -> Result<String, AllocError> {
     let mut pages = String::new(alloc);
     for page in 0..7 {
-        let address = START + page * PAGE_SIZE;
-        pages.push(if space.writable(address, PAGE_SIZE).is_ok() {
-            'w'
-        } else if space.readable(address, PAGE_SIZE).is_ok() {
-            'r'
-        } else {
-            '.'
-        })?;
+        pages.push(letter(space, START + page * PAGE_SIZE))?;
     }
     Ok(pages)
+}
+
+// What is said of a page.
+fn letter(space: &Space, address: u64) -> char {
+    if space.writable(address, PAGE_SIZE).is_ok() {
+        'w'
+    } else if space.readable(address, PAGE_SIZE).is_ok() {
+        'r'
+    } else {
+        '.'
+    }
 }
 
 // Acts one after the other, each with the pages that are there after it.

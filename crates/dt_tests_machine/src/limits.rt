@@ -6,6 +6,7 @@ use dt_elf::{ElfErr, read_elf};
 use dt_rv64::{Hints, Machine, Seg, Stop, segment};
 use dt_space::Space;
 use std::alloc::{AllocError, Global};
+use std::process::Abort;
 use std::test::Fail;
 
 const ENTRY: u64 = 0x1_0078;
@@ -34,26 +35,30 @@ fn executable(
     Ok(file)
 }
 
+// Entries, how many program headers there are, the address and size of the first segment, and why it is refused.
+const LIMITS: [(u64, u8, u64, u64, Option<ElfErr>); 8] = [
+    (ENTRY, 64, BASE, 1, None),
+    (ENTRY, 65, BASE, 1, Some(ElfErr::Header)),
+    (0x3f_ffff_fffc, 1, BASE, 1, None),
+    (0x40_0000_0000, 1, BASE, 1, Some(ElfErr::Header)),
+    (ENTRY, 1, 4096, 1, None),
+    (ENTRY, 1, 4095, 1, Some(ElfErr::Segment)),
+    (ENTRY, 1, 0x1f_ffff_f000, 4096, None),
+    (ENTRY, 1, 0x1f_ffff_f000, 4097, Some(ElfErr::Segment)),
+];
+
+fn expect_limits(rt: &impl Abort, alloc: Global) -> Result<(), AllocError> {
+    for (entry, headers, vaddr, memsz, refusal) in &LIMITS {
+        let file = executable(alloc, *entry, *headers, *vaddr, *memsz)?;
+        let at = (*entry, *headers, *vaddr, *memsz);
+        same_at(rt, at, read_elf(alloc, &file).err(), *refusal);
+    }
+    Ok(())
+}
+
 #[test]
 fn limits_of_an_executable(rt: HostRuntime) -> Result<(), Fail> {
-    for (entry, headers, vaddr, memsz, refusal) in [
-        (ENTRY, 64, BASE, 1, None),
-        (ENTRY, 65, BASE, 1, Some(ElfErr::Header)),
-        (0x3f_ffff_fffc, 1, BASE, 1, None),
-        (0x40_0000_0000, 1, BASE, 1, Some(ElfErr::Header)),
-        (ENTRY, 1, 4096, 1, None),
-        (ENTRY, 1, 4095, 1, Some(ElfErr::Segment)),
-        (ENTRY, 1, 0x1f_ffff_f000, 4096, None),
-        (ENTRY, 1, 0x1f_ffff_f000, 4097, Some(ElfErr::Segment)),
-    ] {
-        let file = executable(rt.alloc(), entry, headers, vaddr, memsz)?;
-        same_at(
-            &rt,
-            (entry, headers, vaddr, memsz),
-            read_elf(rt.alloc(), &file).err(),
-            refusal,
-        );
-    }
+    expect_limits(&rt, rt.alloc())?;
     Ok(())
 }
 
@@ -83,18 +88,21 @@ fn counting_machine(alloc: Global, pc: u64, count: u64) -> Result<Machine, Fail>
 
 #[test]
 fn a_segment_has_65536_steps_at_most(rt: HostRuntime) -> Result<(), Fail> {
-    for (pc, count, stop) in [
-        (BASE + 8, 65_535, Stop::Call),
-        (BASE + 4, 65_536, Stop::Call),
-        (BASE, 65_536, Stop::Slice),
-    ] {
-        let mut machine = counting_machine(rt.alloc(), pc, 32_767)?;
-        same_at(
-            &rt,
-            pc,
-            segment(&mut machine, &mut Hints::new())?,
-            Seg { count, stop },
-        );
-    }
+    expect_segment(&rt, rt.alloc(), BASE + 8, 65_535, Stop::Call)?;
+    expect_segment(&rt, rt.alloc(), BASE + 4, 65_536, Stop::Call)?;
+    expect_segment(&rt, rt.alloc(), BASE, 65_536, Stop::Slice)
+}
+
+// Ends the test unless the segment of a machine at this word has so many steps, and ends so.
+fn expect_segment(
+    rt: &impl Abort,
+    alloc: Global,
+    pc: u64,
+    count: u32,
+    stop: Stop,
+) -> Result<(), Fail> {
+    let mut machine = counting_machine(alloc, pc, 32_767)?;
+    let found = segment(&mut machine, &mut Hints::new())?;
+    same_at(rt, pc, found, Seg { count, stop });
     Ok(())
 }

@@ -3,6 +3,7 @@ use crate::expect::{same, same_at};
 use dt_space::{
     EXECUTE, MapErr, Miss, PageHint, READ, ReadErr, Space, TextErr, Unmapped, WRITE, WriteErr,
 };
+use std::alloc::Global;
 use std::process::Abort;
 use std::test::Fail;
 
@@ -10,13 +11,17 @@ use std::test::Fail;
 const TOP: u64 = 1 << 38;
 
 // Pages 1 and 2 to write, 3 to read, 4 to execute and the last of all to write; 5 is not there.
-fn space(rt: HostRuntime) -> Result<Space, Fail> {
+fn space(rt: HostRuntime) -> Result<Space, MapErr> {
     let mut space = Space::new(rt.alloc());
+    add_pages(&mut space)?;
+    Ok(space)
+}
+
+fn add_pages(space: &mut Space) -> Result<(), MapErr> {
     space.map(1, 2, WRITE)?;
     space.map(3, 1, READ)?;
     space.map(4, 1, EXECUTE)?;
-    space.map((1 << 26) - 1, 1, READ | WRITE | 8)?;
-    Ok(space)
+    space.map((1 << 26) - 1, 1, READ | WRITE | 8)
 }
 
 // What is done to a space or seen of it, with what it comes to.
@@ -104,23 +109,30 @@ fn numbers_cross_pages_lowest_byte_first(rt: HostRuntime) -> Result<(), Fail> {
     Ok(())
 }
 
+// Ranges, and where they end that are to be read, and to be written.
+const RANGES: [(u64, u64, Option<u64>, Option<u64>); 9] = [
+    (0x1000, 0x3000, None, Some(0x3000)),
+    (0x1000, 0x3001, Some(0x4000), Some(0x3000)),
+    (0xfff, 2, Some(0xfff), Some(0xfff)),
+    (0x2fff, 1, None, None),
+    (0x2fff, 2, None, Some(0x3000)),
+    (TOP - 8, 8, None, None),
+    (TOP - 8, 9, Some(TOP), Some(TOP)),
+    (u64::MAX, 2, Some(u64::MAX), Some(u64::MAX)),
+    (u64::MAX, 0, None, None),
+];
+
+fn expect_ranges(rt: &impl Abort, space: &Space) {
+    for (at, len, read, write) in &RANGES {
+        same_at(rt, (*at, *len), missed(space.readable(*at, *len)), *read);
+        same_at(rt, (*at, *len), missed(space.writable(*at, *len)), *write);
+    }
+}
+
 #[test]
 fn ranges_end_at_their_first_byte_without_the_right(rt: HostRuntime) -> Result<(), Fail> {
     let space = space(rt)?;
-    for (at, len, read, write) in [
-        (0x1000, 0x3000, None, Some(0x3000)),
-        (0x1000, 0x3001, Some(0x4000), Some(0x3000)),
-        (0xfff, 2, Some(0xfff), Some(0xfff)),
-        (0x2fff, 1, None, None),
-        (0x2fff, 2, None, Some(0x3000)),
-        (TOP - 8, 8, None, None),
-        (TOP - 8, 9, Some(TOP), Some(TOP)),
-        (u64::MAX, 2, Some(u64::MAX), Some(u64::MAX)),
-        (u64::MAX, 0, None, None),
-    ] {
-        same_at(&rt, (at, len), missed(space.readable(at, len)), read);
-        same_at(&rt, (at, len), missed(space.writable(at, len)), write);
-    }
+    expect_ranges(&rt, &space);
     Ok(())
 }
 
@@ -170,27 +182,57 @@ const MAPPED: [Step; 9] = [
     Pages(2),
 ];
 
+// Ranges, and why they are not mapped.
+const REFUSED: [(u64, u64, MapErr); 6] = [
+    (1, 0, MapErr::BadRange),
+    (1, 1 << 26, MapErr::BadRange),
+    (u64::MAX, 2, MapErr::BadRange),
+    (4, 20_000, MapErr::Busy),
+    (3, 2, MapErr::Busy),
+    (5, 16_380, MapErr::Full),
+];
+
+fn expect_refused(rt: &impl Abort, space: &mut Space) {
+    for (first, count, want) in &REFUSED {
+        let found = space.map(*first, *count, READ);
+        same_at(rt, (*first, *count), found, Err(*want));
+        same(rt, space.pages(), 5);
+    }
+}
+
 #[test]
 fn mapping_is_refused_in_order(rt: HostRuntime) -> Result<(), Fail> {
     let mut space = space(rt)?;
-    for (first, count, want) in [
-        (1, 0, MapErr::BadRange),
-        (1, 1 << 26, MapErr::BadRange),
-        (u64::MAX, 2, MapErr::BadRange),
-        (4, 20_000, MapErr::Busy),
-        (3, 2, MapErr::Busy),
-        (5, 16_380, MapErr::Full),
-    ] {
-        same_at(
-            &rt,
-            (first, count),
-            space.map(first, count, READ),
-            Err(want),
-        );
-        same(&rt, space.pages(), 5);
-    }
+    expect_refused(&rt, &mut space);
     same(&rt, MapErr::BadRange.number(), 3);
     take(&rt, &mut space, &MAPPED);
+    Ok(())
+}
+
+// Addresses, and how many bytes are read of so many there, or the address of the first that can't be read.
+const BUFFERS: [(u64, u64, Result<usize, u64>); 7] = [
+    (0x1000, 0x3000, Ok(0x3000)),
+    (0x5000, 0, Ok(0)),
+    (0x5000, 1, Err(0x5000)),
+    (0x4000, 2, Err(0x4000)),
+    (0x2fff, 0x1002, Err(0x4000)),
+    (TOP - 2, 1 << 31, Err(TOP)),
+    (u64::MAX, 2, Err(u64::MAX)),
+];
+
+// How many bytes are read, or the address of the first that can't be read.
+fn came(alloc: Global, space: &Space, at: u64, count: u64) -> Result<Result<usize, u64>, ReadErr> {
+    match space.read_vec(alloc, at, count) {
+        Ok(bytes) => Ok(Ok(bytes.len())),
+        Err(ReadErr::Miss(miss)) => Ok(Err(miss.at)),
+        Err(error) => Err(error),
+    }
+}
+
+fn expect_buffers(rt: &impl Abort, alloc: Global, space: &Space) -> Result<(), ReadErr> {
+    for (at, count, want) in &BUFFERS {
+        same_at(rt, *at, came(alloc, space, *at, *count)?, *want);
+    }
     Ok(())
 }
 
@@ -201,21 +243,7 @@ fn buffers_are_read_whole_or_not_at_all(rt: HostRuntime) -> Result<(), Fail> {
     let alloc = rt.alloc();
     let written = space.read_vec(alloc, 0x1ffe, 4)?;
     same(&rt, written.as_slice(), b"abcd".as_slice());
-    for (at, count, want) in [
-        (0x1000, 0x3000, Ok(0x3000)),
-        (0x5000, 0, Ok(0)),
-        (0x5000, 1, Err(0x5000)),
-        (0x4000, 2, Err(0x4000)),
-        (0x2fff, 0x1002, Err(0x4000)),
-        (TOP - 2, 1 << 31, Err(TOP)),
-        (u64::MAX, 2, Err(u64::MAX)),
-    ] {
-        match space.read_vec(alloc, at, count) {
-            Ok(bytes) => same_at(&rt, at, Ok(bytes.len()), want),
-            Err(ReadErr::Miss(miss)) => same_at(&rt, at, Err(miss.at), want),
-            Err(error) => return Err(error.into()),
-        }
-    }
+    expect_buffers(&rt, alloc, &space)?;
     Ok(())
 }
 

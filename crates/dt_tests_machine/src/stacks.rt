@@ -128,27 +128,43 @@ fn hello_starts_with_its_path_as_its_argument(rt: HostRuntime) -> Result<(), Fai
     Ok(())
 }
 
+// Second arguments, each with the stack pointer, and where the random bytes start.
+const POINTERS: [(&str, u64, u64); 4] = [
+    ("1", 0x3f_ffff_ded0, 0x3f_ffff_dfe0),
+    ("12", 0x3f_ffff_dec0, 0x3f_ffff_dfd0),
+    ("12345678901234567", 0x3f_ffff_dec0, 0x3f_ffff_dfd0),
+    ("123456789012345678", 0x3f_ffff_deb0, 0x3f_ffff_dfc0),
+];
+
+// Ends the test unless a file starts so with this second argument.
+fn expect_pointer(
+    rt: &impl Abort,
+    alloc: Global,
+    file: &[u8],
+    second: &str,
+    pointer: u64,
+    start: u64,
+) -> Result<(), Fail> {
+    let command = command(alloc, &[b"/hello", second.as_bytes()], &[])?;
+    let machine = start_file(alloc, file, &command, b"/hello")?;
+    same_at(rt, second, machine.reg(SP), pointer);
+    let behind_the_vector = pointer.saturating_add(0xd8);
+    let words = [
+        (pointer, 2),
+        (behind_the_vector, 25),
+        (behind_the_vector.saturating_add(8), start),
+    ];
+    expect_words(rt, &machine, &words);
+    Ok(())
+}
+
 // The strings take 31 bytes and those of the second argument; the 33 words are followed by 8 bytes more.
 #[test]
 fn stack_pointer_is_a_multiple_of_16(rt: HostRuntime) -> Result<(), Fail> {
     let alloc = rt.alloc();
     let file = dt_asm::hello(alloc)?.elf()?;
-    for (second, pointer, start) in [
-        ("1", 0x3f_ffff_ded0_u64, 0x3f_ffff_dfe0),
-        ("12", 0x3f_ffff_dec0, 0x3f_ffff_dfd0),
-        ("12345678901234567", 0x3f_ffff_dec0, 0x3f_ffff_dfd0),
-        ("123456789012345678", 0x3f_ffff_deb0, 0x3f_ffff_dfc0),
-    ] {
-        let command = command(alloc, &[b"/hello", second.as_bytes()], &[])?;
-        let machine = start_file(alloc, &file, &command, b"/hello")?;
-        same_at(&rt, second, machine.reg(SP), pointer);
-        let behind_the_vector = pointer.saturating_add(0xd8);
-        let words = [
-            (pointer, 2),
-            (behind_the_vector, 25),
-            (behind_the_vector.saturating_add(8), start),
-        ];
-        expect_words(&rt, &machine, &words);
+    for (second, pointer, start) in &POINTERS {
+        expect_pointer(&rt, alloc, &file, second, *pointer, *start)?;
     }
     Ok(())
 }
@@ -163,36 +179,48 @@ fn registers_but_the_stack_pointer_are_0(rt: HostRuntime) -> Result<(), Fail> {
     Ok(())
 }
 
+// Addresses, and whether what stands there can be read, written and fetched.
+const RIGHTS: [(u64, bool, bool, bool); 7] = [
+    (0x3f_ffef_dffc, false, false, false),
+    (0x3f_ffef_e000, true, true, false),
+    (0x3f_ffff_dffc, true, true, false),
+    (0x3f_ffff_e000, false, false, false),
+    (0x3f_ffff_effc, false, false, false),
+    (0x3f_ffff_f000, true, false, true),
+    (0x3f_ffff_fffc, true, false, true),
+];
+
 #[test]
 fn stack_and_trampoline_stand_where_they_are_to(rt: HostRuntime) -> Result<(), Fail> {
     let mut machine = start_hello(rt.alloc())?;
-    for (at, read, write, execute) in [
-        (0x3f_ffef_dffc, false, false, false),
-        (0x3f_ffef_e000, true, true, false),
-        (0x3f_ffff_dffc, true, true, false),
-        (0x3f_ffff_e000, false, false, false),
-        (0x3f_ffff_effc, false, false, false),
-        (0x3f_ffff_f000, true, false, true),
-        (0x3f_ffff_fffc, true, false, true),
-    ] {
-        same_at(&rt, at, machine.space.load4(at).is_ok(), read);
-        same_at(&rt, at, machine.space.fetch(at).is_ok(), execute);
-        same_at(&rt, at, machine.space.store4(at, 0).is_ok(), write);
+    for (at, read, write, execute) in &RIGHTS {
+        let found = rights(&mut machine, *at);
+        same_at(&rt, *at, found, (*read, *write, *execute));
     }
     Ok(())
 }
 
+// Whether a word of four bytes can be read, written and fetched.
+fn rights(machine: &mut Machine, at: u64) -> (bool, bool, bool) {
+    let read = machine.space.load4(at).is_ok();
+    let execute = machine.space.fetch(at).is_ok();
+    let write = machine.space.store4(at, 0).is_ok();
+    (read, write, execute)
+}
+
 // A call of rt_sigreturn, and nothing behind it.
+const TRAMPOLINE: [(u64, u32); 4] = [
+    (0x3f_ffff_f000, 0x08b0_0893),
+    (0x3f_ffff_f004, 0x0000_0073),
+    (0x3f_ffff_f008, 0),
+    (0x3f_ffff_fffc, 0),
+];
+
 #[test]
 fn trampoline_calls_and_nothing_else(rt: HostRuntime) -> Result<(), Fail> {
     let machine = start_hello(rt.alloc())?;
-    for (at, word) in [
-        (0x3f_ffff_f000, 0x08b0_0893),
-        (0x3f_ffff_f004, 0x0000_0073),
-        (0x3f_ffff_f008, 0),
-        (0x3f_ffff_fffc, 0),
-    ] {
-        same_at(&rt, at, machine.space.fetch(at), Ok(word));
+    for (at, word) in &TRAMPOLINE {
+        same_at(&rt, *at, machine.space.fetch(*at), Ok(*word));
     }
     Ok(())
 }

@@ -1,13 +1,17 @@
 // Slots that are run by workers, on threads where there are several.
+ghost use Rattle.std.specs.Prelude.{◌<◌};
+
 use crate::expect::{same, same_at};
 use dt_host::{Gate, NoGate};
 use dt_rv64::{Machine, Seg, Stop};
 use dt_space::Space;
 use dt_workers::{Slot, run_segments};
 use std::alloc::Global;
+use std::process::Abort;
 use std::sync::atomic::Ordering::SeqCst;
 use std::sync::atomic::{AtomicBool, AtomicU64};
 use std::test::Fail;
+use std::thread::Threads;
 
 const BASE: u64 = 0x1_0000;
 
@@ -129,29 +133,51 @@ impl Gate for Passes {
     }
 }
 
+// Ends the test unless a slot came to what its case says.
+fn expect_slot(rt: &impl Abort, workers: usize, slot: &Slot, case: Case) {
+    let at = (workers, case.vpid);
+    let seg = Seg {
+        count: case.count,
+        stop: case.stop,
+    };
+    same_at(rt, at, slot.vpid, case.vpid);
+    same_at(rt, at, slot.result, Some(Ok(seg)));
+    same_at(rt, at, slot.machine.pc.wrapping_sub(BASE), case.offset);
+    same_at(rt, at, slot.machine.reg(5), case.t0);
+}
+
+fn expect_slots(rt: &impl Abort, workers: usize, slots: &[Slot]) {
+    same_at(rt, workers, slots.len(), CASES.len());
+    for index in 0..slots.len().min(CASES.len()) {
+        expect_slot(rt, workers, &slots[index], CASES[index]);
+    }
+}
+
+// Ends the test unless each index has passed once.
+fn expect_passes(rt: &impl Abort, workers: usize, passes: &Passes) {
+    for count in &passes.counts {
+        same_at(rt, workers, count.load(SeqCst), 1);
+    }
+}
+
+// Ends the test unless so many workers run all slots.
+fn expect_run<R: Abort + AllocGlobal + Threads + Sync>(rt: &R, workers: usize) -> Result<(), Fail>
+    requires { 0 < workers }
+{
+    let mut slots = slots(rt.alloc())?;
+    let passes = Passes::none();
+    run_segments(rt, &mut slots, workers, &passes);
+    expect_slots(rt, workers, &slots);
+    expect_passes(rt, workers, &passes);
+    Ok(())
+}
+
 #[test]
 fn slots_are_the_same_for_any_number_of_workers(rt: HostRuntime) -> Result<(), Fail> {
-    for workers in [1, 2, 3, 64] {
-        let mut slots = slots(rt.alloc())?;
-        let passes = Passes::none();
-        run_segments(&rt, &mut slots, workers, &passes);
-        same_at(&rt, workers, slots.len(), CASES.len());
-        for (slot, case) in slots.iter().zip(CASES) {
-            let at = (workers, case.vpid);
-            let seg = Seg {
-                count: case.count,
-                stop: case.stop,
-            };
-            same_at(&rt, at, slot.vpid, case.vpid);
-            same_at(&rt, at, slot.result, Some(Ok(seg)));
-            same_at(&rt, at, slot.machine.pc.wrapping_sub(BASE), case.offset);
-            same_at(&rt, at, slot.machine.reg(5), case.t0);
-        }
-        for count in &passes.counts {
-            same_at(&rt, workers, count.load(SeqCst), 1);
-        }
-    }
-    Ok(())
+    expect_run(&rt, 1)?;
+    expect_run(&rt, 2)?;
+    expect_run(&rt, 3)?;
+    expect_run(&rt, 64)
 }
 
 #[test]

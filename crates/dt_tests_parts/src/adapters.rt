@@ -2,7 +2,10 @@
 use crate::expect::{same, same_at};
 use dt_adapters::{FolderStore, StdSink};
 use dt_host::{Sink, SinkErr, Store, StoreErr};
+use std::fs::File;
 use std::io::{ErrorKind, Write};
+use std::process::Abort;
+use std::rt::Files;
 use std::test::Fail;
 use std::{fs, io};
 
@@ -25,28 +28,41 @@ impl Write for Writer {
     }
 }
 
+// What a writer takes at most, what a sink before it answers to three bytes, and how many faults it counts then.
+type Row = (Option<usize>, Result<usize, SinkErr>, u64);
+
+const ROWS: &[Row] = &[
+    (Some(9), Ok(3), 0),
+    (Some(2), Ok(2), 0),
+    (Some(0), Err(SinkErr::Failed), 1),
+    (None, Err(SinkErr::Failed), 1),
+];
+
+fn expect_row(rt: &impl Abort, row: &Row) {
+    let (most, answer, faults) = *row;
+    let mut sink = StdSink::new(Writer { most });
+    same_at(rt, most, sink.faults(), 0);
+    same_at(rt, most, sink.write(b"abc"), answer);
+    same_at(rt, most, sink.faults(), faults);
+}
+
+fn expect_rows(rt: &impl Abort, rows: &[Row]) {
+    for row in rows {
+        expect_row(rt, row);
+    }
+}
+
 #[test]
 fn a_sink_passes_on_a_part_and_counts_a_writer_that_takes_nothing(rt: HostRuntime) {
-    let cases = [
-        (Some(9), Ok(3), 0),
-        (Some(2), Ok(2), 0),
-        (Some(0), Err(SinkErr::Failed), 1),
-        (None, Err(SinkErr::Failed), 1),
-    ];
-    for (most, answer, faults) in cases {
-        let mut sink = StdSink::new(Writer { most });
-        same(&rt, sink.faults(), 0);
-        same_at(&rt, most, sink.write(b"abc"), answer);
-        same_at(&rt, most, sink.faults(), faults);
-    }
+    expect_rows(&rt, ROWS);
 }
 
 #[test]
 fn a_sink_counts_each_fault(rt: HostRuntime) {
     let mut sink = StdSink::new(Writer { most: None });
     for faults in 1..4 {
-        same(&rt, sink.write(b"abc"), Err(SinkErr::Failed));
-        same(&rt, sink.faults(), faults);
+        same_at(&rt, faults, sink.write(b"abc"), Err(SinkErr::Failed));
+        same_at(&rt, faults, sink.faults(), faults);
     }
 }
 
@@ -54,43 +70,62 @@ const FOLDER: &str = "folder_store_test";
 
 const ABC: &str = "folder_store_test/abc";
 
+const NOTHING: &str = "folder_store_test/nothing";
+
+fn make_folder<F: AllocGlobal + Files<File = File>>(files: &F) -> io::Result<()> {
+    let _ = fs::remove_dir_all(files, FOLDER);
+    fs::create_dir(files, FOLDER)?;
+    fs::write(files, ABC, b"abc".as_slice())
+}
+
+fn expect_reads<F: Files<File = File>>(rt: &impl Abort, store: &mut FolderStore<F>) {
+    let mut piece = [0; 4];
+    same(rt, store.size(ABC), Ok(Some(3)));
+    same(rt, store.read_at(ABC, 1, &mut piece), Ok(2));
+    same(rt, piece, *b"bc\0\0");
+    same(rt, store.size(NOTHING), Ok(None));
+    same(rt, store.faults(), 0);
+}
+
+fn expect_faults<F: Files<File = File>>(rt: &impl Abort, store: &mut FolderStore<F>) {
+    expect_no_size(rt, store, "a folder", FOLDER);
+    same(rt, store.faults(), 1);
+    let through = "folder_store_test/abc/nothing";
+    expect_no_size(rt, store, "a path through a file", through);
+    same(rt, store.faults(), 2);
+    expect_no_piece(rt, store, "a file that has ended", ABC, 3);
+    same(rt, store.faults(), 3);
+    expect_no_piece(rt, store, "a file that is gone", NOTHING, 0);
+    same(rt, store.faults(), 4);
+}
+
+fn expect_no_size<F: Files<File = File>>(
+    rt: &impl Abort,
+    store: &mut FolderStore<F>,
+    what: &str,
+    path: &str,
+) {
+    same_at(rt, what, store.size(path), Err(StoreErr::Failed));
+}
+
+fn expect_no_piece<F: Files<File = File>>(
+    rt: &impl Abort,
+    store: &mut FolderStore<F>,
+    what: &str,
+    path: &str,
+    offset: u64,
+) {
+    let mut piece = [0; 4];
+    let read = store.read_at(path, offset, &mut piece);
+    same_at(rt, what, read, Err(StoreErr::Failed));
+}
+
 #[test]
 fn a_store_reads_what_is_there_and_counts_what_is_not(rt: HostRuntime) -> Result<(), Fail> {
-    let _ = fs::remove_dir_all(&rt, FOLDER);
-    fs::create_dir(&rt, FOLDER)?;
-    fs::write(&rt, ABC, b"abc".as_slice())?;
+    make_folder(&rt)?;
     let mut store = FolderStore::new(&rt);
-    let mut piece = [0; 4];
-
-    same(&rt, store.size(ABC), Ok(Some(3)));
-    same(&rt, store.read_at(ABC, 1, &mut piece), Ok(2));
-    same(&rt, piece, *b"bc\0\0");
-    same(&rt, store.size("folder_store_test/nothing"), Ok(None));
-    same(&rt, store.faults(), 0);
-
-    same_at(&rt, "a folder", store.size(FOLDER), Err(StoreErr::Failed));
-    same(&rt, store.faults(), 1);
-    same_at(
-        &rt,
-        "a path through a file",
-        store.size("folder_store_test/abc/nothing"),
-        Err(StoreErr::Failed),
-    );
-    same(&rt, store.faults(), 2);
-    same_at(
-        &rt,
-        "a file that has ended",
-        store.read_at(ABC, 3, &mut piece),
-        Err(StoreErr::Failed),
-    );
-    same(&rt, store.faults(), 3);
-    same_at(
-        &rt,
-        "a file that is gone",
-        store.read_at("folder_store_test/nothing", 0, &mut piece),
-        Err(StoreErr::Failed),
-    );
-    same(&rt, store.faults(), 4);
+    expect_reads(&rt, &mut store);
+    expect_faults(&rt, &mut store);
     fs::remove_dir_all(&rt, FOLDER)?;
     Ok(())
 }

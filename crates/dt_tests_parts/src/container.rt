@@ -1,14 +1,13 @@
 // Calls of a container that no run makes: a machine that is taken away, and what is shown before a turn.
 ghost use Rattle.dt_host.specs.World.{IsEmptyStart};
 
-use crate::copies::{INDEX, run_options};
+use crate::copies::{HELLO_INDEX, image, run_options};
 use crate::expect::same;
-use dt_asm::hello;
+use dt_asm::{AsmErr, hello};
 use dt_base::{Command, FIRST_PID, Image};
 use dt_calls::{Container, Launch};
 use dt_host::{Host, HostErr};
-use dt_image::read_image;
-use dt_memhost::{MemHost, MemStore, Picker};
+use dt_memhost::{MemHost, Picker};
 use dt_rv64::{Hints, Seg, Stop};
 use std::alloc::Global;
 use std::test::Fail;
@@ -35,26 +34,27 @@ fn first_segment<H: Host>(
     }
 }
 
-#[test]
-fn a_machine_that_was_away_runs_from_its_start(rt: HostRuntime) -> Result<(), Fail> {
-    let alloc = rt.alloc();
-    let mut store = MemStore::new(alloc, Picker::new(Vec::new(alloc), 1), Vec::new(alloc))?;
-    store.put("img/image.json", INDEX)?;
-    store.put("img/hello", hello(alloc)?.elf()?.as_slice())?;
-    let image = read_image(alloc, &mut store, "img")?;
+// The same of `/hello` at a host that holds nothing.
+fn first_of_hello(alloc: Global) -> Result<Option<(Seg, usize)>, Fail> {
+    let program = hello_file(alloc)?;
+    let image = image(alloc, HELLO_INDEX, "img/hello", &program)?;
     let command = run_options(alloc, &["run", "img", "--", "/hello"])?.command;
     let mut host = MemHost::new(alloc, Picker::new(Vec::new(alloc), 1), Vec::new(alloc))?;
-    match first_segment(alloc, &mut host, &image, &command)? {
-        Some((segment, events)) => {
-            // `hello` asks for its first call by its sixth instruction.
-            let first = Seg {
-                count: 6,
-                stop: Stop::Call,
-            };
-            same(&rt, segment, first);
-            same(&rt, events, 0);
-        }
-        None => assert!(rt; false, "no start"),
-    }
+    Ok(first_segment(alloc, &mut host, &image, &command)?)
+}
+
+fn hello_file(alloc: Global) -> Result<Vec<u8>, AsmErr> {
+    hello(alloc)?.elf()
+}
+
+// `hello` asks for its first call by its sixth instruction.
+const FIRST: Seg = Seg {
+    count: 6,
+    stop: Stop::Call,
+};
+
+#[test]
+fn a_machine_that_was_away_runs_from_its_start(rt: HostRuntime) -> Result<(), Fail> {
+    same(&rt, first_of_hello(rt.alloc())?, Some((FIRST, 0)));
     Ok(())
 }

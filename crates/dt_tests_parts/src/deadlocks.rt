@@ -1,13 +1,15 @@
 // Processes that all wait.
 use crate::driver::{Came, Driver};
 use crate::expect::same;
-use dt_base::Verdict;
+use dt_base::{NoMemory, Verdict};
 use dt_sched::Head;
+use std::alloc::Global;
+use std::process::Abort;
 use std::test::Fail;
 
 // Whose turn comes after these turns.
-fn head(rt: HostRuntime, turns: &[Came]) -> Result<Head, Fail> {
-    let mut driver = Driver::new(rt.alloc(), 100)?;
+fn head(alloc: Global, turns: &[Came]) -> Result<Head, NoMemory> {
+    let mut driver = Driver::new(alloc, 100)?;
     for came in turns {
         driver.arrive(0, &[]);
         driver.turn(*came);
@@ -16,59 +18,60 @@ fn head(rt: HostRuntime, turns: &[Came]) -> Result<Head, Fail> {
     Ok(driver.core().head())
 }
 
+const DEADLOCK: Head = Head::Over(Verdict::Deadlock);
+
+// Turns, and whose comes after them.
+type Row = (&'static [Came], Head);
+
+fn expect_heads(rt: &impl Abort, alloc: Global, rows: &[Row]) -> Result<(), NoMemory> {
+    for (turns, then) in rows {
+        same(rt, head(alloc, *turns)?, *then);
+    }
+    Ok(())
+}
+
+const ONE: &[Row] = &[
+    (&[Came::Waits], DEADLOCK),
+    (&[Came::Moved], Head::Ready(1)),
+    (&[Came::Again, Came::Waits], DEADLOCK),
+];
+
+const TWO: &[Row] = &[
+    (&[Came::Child, Came::Waits, Came::Waits], DEADLOCK),
+    (&[Came::Child, Came::Waits], Head::Ready(2)),
+    (
+        &[Came::Child, Came::Waits, Came::Again, Came::Waits],
+        Head::Ready(2),
+    ),
+    (
+        &[Came::Child, Came::Waits, Came::Moved, Came::Waits],
+        Head::Ready(2),
+    ),
+    (
+        &[
+            Came::Child,
+            Came::Waits,
+            Came::Moved,
+            Came::Waits,
+            Came::Waits,
+        ],
+        DEADLOCK,
+    ),
+    (&[Came::Child, Came::Waits, Came::Gone], Head::Ready(1)),
+    (
+        &[Came::Child, Came::Waits, Came::Gone, Came::Waits],
+        DEADLOCK,
+    ),
+];
+
 #[test]
 fn one_process_that_waits_is_a_deadlock(rt: HostRuntime) -> Result<(), Fail> {
-    same(
-        &rt,
-        head(rt, &[Came::Waits])?,
-        Head::Over(Verdict::Deadlock),
-    );
-    same(&rt, head(rt, &[Came::Moved])?, Head::Ready(1));
-    same(
-        &rt,
-        head(rt, &[Came::Again, Came::Waits])?,
-        Head::Over(Verdict::Deadlock),
-    );
+    expect_heads(&rt, rt.alloc(), ONE)?;
     Ok(())
 }
 
 #[test]
 fn two_processes_that_wait_are_a_deadlock(rt: HostRuntime) -> Result<(), Fail> {
-    for (turns, then) in [
-        (
-            [Came::Child, Came::Waits, Came::Waits].as_slice(),
-            Head::Over(Verdict::Deadlock),
-        ),
-        ([Came::Child, Came::Waits].as_slice(), Head::Ready(2)),
-        (
-            [Came::Child, Came::Waits, Came::Again, Came::Waits].as_slice(),
-            Head::Ready(2),
-        ),
-        (
-            [Came::Child, Came::Waits, Came::Moved, Came::Waits].as_slice(),
-            Head::Ready(2),
-        ),
-        (
-            [
-                Came::Child,
-                Came::Waits,
-                Came::Moved,
-                Came::Waits,
-                Came::Waits,
-            ]
-            .as_slice(),
-            Head::Over(Verdict::Deadlock),
-        ),
-        (
-            [Came::Child, Came::Waits, Came::Gone].as_slice(),
-            Head::Ready(1),
-        ),
-        (
-            [Came::Child, Came::Waits, Came::Gone, Came::Waits].as_slice(),
-            Head::Over(Verdict::Deadlock),
-        ),
-    ] {
-        same(&rt, head(rt, turns)?, then);
-    }
+    expect_heads(&rt, rt.alloc(), TWO)?;
     Ok(())
 }

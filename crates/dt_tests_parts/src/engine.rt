@@ -1,17 +1,18 @@
 // Happenings in any order on `trio`: how many of them come, what shows, who owes a segment then, and what an admission
 // answers.
+ghost use Rattle.std.specs.Prelude.{IfOk};
 ghost use Rattle.dt_host.specs.World.{IsEmptyStart};
 
-use crate::copies::run_options;
+use crate::copies::{image, run_options};
 use crate::expect::same_at;
 use crate::happenings::CASES;
-use dt_asm::trio;
+use dt_asm::{AsmErr, trio};
 use dt_base::{Command, Image, NoMemory};
 use dt_host::Host;
-use dt_image::read_image;
-use dt_memhost::{MemHost, MemSink, MemStore, Picker};
+use dt_memhost::{MemHost, MemSink, Picker};
 use dt_run::{Admitted, Engine, Happening, RunErr};
 use std::alloc::Global;
+use std::process::Abort;
 use std::test::Fail;
 
 // An index of one file, `/trio`.
@@ -48,6 +49,15 @@ struct Played {
     next: Admitted,
 }
 
+fn trio_image(alloc: Global) -> Result<Image, Fail> {
+    let program = trio_file(alloc)?;
+    Ok(image(alloc, TRIO_INDEX, "img/trio", &program)?)
+}
+
+fn trio_file(alloc: Global) -> Result<Vec<u8>, AsmErr> {
+    trio(alloc)?.elf()
+}
+
 // What a program is run on.
 #[derive(Drop)]
 struct Given {
@@ -58,13 +68,12 @@ struct Given {
 
 impl Given {
     fn new(alloc: Global) -> Result<Self, Fail> {
-        let mut store = MemStore::new(alloc, Picker::new(Vec::new(alloc), 1), Vec::new(alloc))?;
-        store.put("img/image.json", TRIO_INDEX)?;
-        store.put("img/trio", trio(alloc)?.elf()?.as_slice())?;
+        let command = run_options(alloc, &["run", "img", "--", "/trio"])?.command;
+        let image = trio_image(alloc)?;
         Ok(Given {
             alloc,
-            image: read_image(alloc, &mut store, "img")?,
-            command: run_options(alloc, &["run", "img", "--", "/trio"])?.command,
+            image,
+            command,
         })
     }
 
@@ -101,43 +110,62 @@ impl Given {
     }
 }
 
-fn sink(alloc: Global, room: Option<u64>) -> Result<MemSink, Fail> {
+fn sink(alloc: Global, room: Option<u64>) -> Result<MemSink, NoMemory> {
     let picker = Picker::new(Vec::new(alloc), 7);
-    Ok(MemSink::new(alloc, picker, Vec::new(alloc), room)?)
+    MemSink::new(alloc, picker, Vec::new(alloc), room)
 }
 
-#[test]
-fn the_longest_prefix_comes_that_may(rt: HostRuntime) -> Result<(), Fail> {
-    let alloc = rt.alloc();
-    let given = Given::new(alloc)?;
-    for (budget, list, count, ends, owing, next) in CASES {
-        let mut host = MemHost::new(alloc, Picker::new(Vec::new(alloc), 7), Vec::new(alloc))?;
-        let mut out = sink(alloc, None)?;
-        let played = given.play(&mut host, &mut out, *budget, *list)?;
-        same_at(&rt, (*budget, *list), played.count, *count);
-        let shown = SHOWN.get(..LENGTHS[*ends % 4]);
-        same_at(
-            &rt,
-            (*budget, *list),
-            out.bytes().get(..played.shown),
-            shown,
-        );
-        same_at(&rt, (*budget, *list), played.owing.as_slice(), *owing);
-        same_at(&rt, (*budget, *list), played.next, *next);
+fn host(alloc: Global) -> Result<MemHost, NoMemory>
+    ensures { IfOk result (λ host. IsEmptyStart host.view) }
+{
+    MemHost::new(alloc, Picker::new(Vec::new(alloc), 7), Vec::new(alloc))
+}
+
+// As `CASES` has them.
+type Row = (u64, &'static str, usize, usize, &'static [u32], Admitted);
+
+fn expect_row(rt: &impl Abort, given: &Given, row: &Row) -> Result<(), RunErr> {
+    let (budget, list, count, ends, owing, next) = row;
+    let mut host = host(given.alloc)?;
+    let mut out = sink(given.alloc, None)?;
+    let played = given.play(&mut host, &mut out, *budget, *list)?;
+    let shown = out.bytes().get(..played.shown);
+    let at = (*budget, *list);
+    same_at(rt, at, played.count, *count);
+    same_at(rt, at, shown, SHOWN.get(..LENGTHS[*ends % 4]));
+    same_at(rt, at, played.owing.as_slice(), *owing);
+    same_at(rt, at, played.next, *next);
+    Ok(())
+}
+
+fn expect_rows(rt: &impl Abort, given: &Given, rows: &[Row]) -> Result<(), RunErr> {
+    for row in rows {
+        expect_row(rt, given, row)?;
     }
     Ok(())
 }
 
 #[test]
+fn the_longest_prefix_comes_that_may(rt: HostRuntime) -> Result<(), Fail> {
+    let given = Given::new(rt.alloc())?;
+    expect_rows(&rt, &given, CASES)?;
+    Ok(())
+}
+
+fn expect_prefix(rt: &impl Abort, given: &Given, room: u64) -> Result<(), NoMemory> {
+    let mut host = host(given.alloc)?;
+    let mut out = sink(given.alloc, Some(room))?;
+    let played = given.play(&mut host, &mut out, 1000, "1a21a31aaa1a1a");
+    same_at(rt, room, played.err(), Some(RunErr::Sink));
+    same_at(rt, room, Some(out.bytes()), SHOWN.get(..room as usize));
+    Ok(())
+}
+
+#[test]
 fn what_a_full_sink_has_is_a_prefix(rt: HostRuntime) -> Result<(), Fail> {
-    let alloc = rt.alloc();
-    let given = Given::new(alloc)?;
+    let given = Given::new(rt.alloc())?;
     for room in 0..53 {
-        let mut host = MemHost::new(alloc, Picker::new(Vec::new(alloc), 7), Vec::new(alloc))?;
-        let mut out = sink(alloc, Some(room))?;
-        let played = given.play(&mut host, &mut out, 1000, "1a21a31aaa1a1a");
-        same_at(&rt, room, played.err(), Some(RunErr::Sink));
-        same_at(&rt, room, Some(out.bytes()), SHOWN.get(..room as usize));
+        expect_prefix(&rt, &given, room)?;
     }
     Ok(())
 }
