@@ -5,7 +5,7 @@ ghost use Rattle.dt_base.specs.Image.{IsImage};
 ghost use Rattle.dt_host.specs.World.{IsEmptyStart};
 ghost use Rattle.dt_options.specs.Options.{Form, form_of};
 ghost use Rattle.dt_run.specs.declared.status.TheConstants.{WORDS_REFUSED, OUT_OF_MEMORY};
-ghost use Rattle.dt_run.specs.Run.{status_of_run};
+ghost use Rattle.dt_engine.specs.Run.{status_of_run};
 ghost use Rattle.dt_run.specs.Statuses.{is_run_status};
 ghost use Rattle.dt_run.specs.Wanted.{written_on};
 

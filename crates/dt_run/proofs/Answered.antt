@@ -15,10 +15,10 @@ use Rattle.dt_options.specs.Options.{Request, Form, run_form, demo_form, form_of
 use Rattle.dt_run.specs.declared.failure.Failure.{Failure}
 use Rattle.dt_run.specs.declared.failure.Failure.TheVariants.{Usage, Image, Store, Host, Output, NoMemory}
 use Rattle.dt_run.specs.Failure.{failure_status, failure_line}
-use Rattle.dt_run.specs.HoldsTree.{HoldSame}
-use Rattle.dt_run.specs.Written.{Written}
+use Rattle.dt_engine.specs.HoldsTree.{HoldSame}
+use Rattle.dt_engine.specs.Completed.{Written, Finishes}
 use Rattle.dt_run.specs.SomeRun.{SomeRun, AddsTextPart}
-use Rattle.dt_run.specs.Statuses.{is_status, is_run_status, precedes_run, fails_run, status_line, Finishes, AddsLine, AddsRefusal}
+use Rattle.dt_run.specs.Statuses.{is_status, is_run_status, precedes_run, fails_run, status_line, AddsLine, AddsRefusal}
 use Rattle.dt_run.specs.Wanted.{written_on, run_or_refusal, wanted, form_written}
 use Rattle.dt_run.proofs.Ran.{finishes-status, never}
 use Rattle.dt_run.proofs.Lines.{run_line}

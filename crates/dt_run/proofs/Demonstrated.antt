@@ -7,9 +7,9 @@ use Rattle.dt_asm.specs.Demo.{demo_entries, demo_command}
 use Rattle.dt_host.specs.Cause.{HasCause}
 use Rattle.dt_host.specs.World.{World}
 use Rattle.dt_run.specs.declared.demo.TheConstants.{DEMO_BUDGET}
-use Rattle.dt_run.specs.Run.{Run, run_of, status_of_run, report_of}
+use Rattle.dt_engine.specs.Run.{Run, run_of, status_of_run, report_of}
 use Rattle.dt_run.specs.Written.{demo_run, summary}
-use Rattle.dt_run.specs.Statuses.{Completes}
+use Rattle.dt_engine.specs.Completed.{Completes}
 
 -- the run of what was made for a number is the demonstration's
 pub demo_run-made : (image : List Entry) (command : Words) (number : ℕ) → image ≡ demo_entries number → command ≡ demo_command → run_of image command number DEMO_BUDGET ≡ demo_run number

@@ -6,7 +6,7 @@ use Rattle.dt_host.specs.Store.{StoreFiles}
 use Rattle.dt_run.specs.declared.failure.Failure.{Failure}
 use Rattle.dt_run.specs.declared.failure.Failure.TheVariants.{Usage, Image, Store, Host, Output, NoMemory}
 use Rattle.dt_run.specs.Failure.{failure_status}
-use Rattle.dt_run.specs.Written.{Written}
+use Rattle.dt_engine.specs.Completed.{Written}
 use Rattle.dt_run.specs.Wanted.{wanted, written_on, ReadsStore}
 use Rattle.dt_run.specs.SomeRun.{SomeRun, AddsTextPart}
 use Rattle.dt_run.specs.Statuses.{RefusesImage, is_run_status, precedes_run, fails_run}

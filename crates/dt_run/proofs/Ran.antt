@@ -9,10 +9,10 @@ use Rattle.dt_host.specs.Store.{StoreFiles}
 use Rattle.dt_host.specs.World.{World}
 use Rattle.dt_base.specs.declared.limits.TheConstants.{FIRST_PID}
 use Rattle.dt_procs.specs.Members.{end_of}
-use Rattle.dt_run.specs.Run.{status_by}
-use Rattle.dt_run.specs.Written.{Written}
+use Rattle.dt_engine.specs.Run.{status_by}
+use Rattle.dt_engine.specs.Completed.{Written, Finishes}
 use Rattle.dt_run.specs.SomeRun.{SomeRun}
-use Rattle.dt_run.specs.Statuses.{is_status, is_run_status, precedes_run, fails_run, Finishes}
+use Rattle.dt_run.specs.Statuses.{is_status, is_run_status, precedes_run, fails_run}
 
 code_status : (b : Bool) → IsTrue (is_run_status (cond b 0 1))
 code_status true = refl

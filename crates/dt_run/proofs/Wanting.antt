@@ -13,11 +13,12 @@ use Rattle.dt_options.specs.Options.{Request, DemoRequest, Form, run_form, demo_
 use Rattle.dt_options.specs.declared.options.UsageErr.{UsageErr}
 use Rattle.dt_options.specs.declared.options.UsageErr.TheVariants.{Refused as WordsRefused, NoMemory as NoWordsMemory}
 use Rattle.dt_image.specs.ImageOf.{image_of}
-use Rattle.dt_run.specs.declared.error.RunErr.{RunErr}
-use Rattle.dt_run.specs.declared.error.RunErr.TheVariants.{Host as HostFailed, Sink as SinkFailed, NoMemory as NoRunMemory}
+use Rattle.dt_engine.specs.declared.error.RunErr.{RunErr}
+use Rattle.dt_engine.specs.declared.error.RunErr.TheVariants.{Host as HostFailed, Sink as SinkFailed, NoMemory as NoRunMemory}
 use Rattle.dt_run.specs.declared.failure.Failure.{Failure}
 use Rattle.dt_run.specs.declared.failure.Failure.TheVariants.{Usage, Image}
-use Rattle.dt_run.specs.Written.{Written, reported, demonstrated}
+use Rattle.dt_engine.specs.Completed.{Written, reported}
+use Rattle.dt_run.specs.Written.{demonstrated}
 use Rattle.dt_run.specs.Wanted.{run_on, run_or_refusal, wanted, form_written, run_request, ReadsStore}
 use Rattle.dt_run.specs.SomeRun.{SomeRun, AddsTextPart}
 use Rattle.dt_run.specs.inner.Fails.{HasFailureCause}

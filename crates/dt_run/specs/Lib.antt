@@ -1,17 +1,4 @@
 pub mod Failure
-pub mod HoldsTree
-pub mod Work
-pub mod Turn
-pub mod Run
-pub mod Ahead
-pub mod Playing
-pub mod Admission
-pub mod Happenings
-pub mod Played
-pub mod Lent
-pub mod Left
-pub mod InCode
-pub mod InPlay
 pub mod Written
 pub mod Wanted
 pub mod SomeRun

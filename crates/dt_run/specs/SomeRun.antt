@@ -5,7 +5,7 @@ use Rattle.dt_base.specs.Image.{IsImage}
 use Rattle.dt_host.specs.Sink.{AddsPart}
 use Rattle.dt_host.specs.Store.{StoreFiles}
 use Rattle.dt_options.specs.Options.{Form, form_of}
-use Rattle.dt_run.specs.Written.{Written}
+use Rattle.dt_engine.specs.Completed.{Written}
 use Rattle.dt_run.specs.Wanted.{written_on, wanted}
 
 -- what the words ask for on some image has this property: the run, and what is written of it; where it is known what is

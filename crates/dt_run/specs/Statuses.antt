@@ -3,14 +3,12 @@ use Rattle.std.specs.Prelude.{◌≡◌, ◌⊎◌, ◌||◌, ◌==◌, ℕ, Boo
 use Rattle.dt_base.specs.declared.refusal.Refusal.{Refusal}
 use Rattle.dt_host.specs.Cause.{HasRisen}
 use Rattle.dt_host.specs.Sink.{added, AddsPart}
-use Rattle.dt_host.specs.World.{World}
 use Rattle.dt_run.specs.declared.failure.Failure.{Failure}
 use Rattle.dt_run.specs.declared.failure.Failure.TheVariants.{Usage, Image, Store, Host, Output}
-use Rattle.dt_run.specs.declared.status.TheConstants.{ENDED_ZERO, ENDED_OTHERWISE, WORDS_REFUSED, IMAGE_REFUSED, STORE_FAULT, HOST_FAULT, OUTPUT_FAULT, OUT_OF_MEMORY, NOT_ENDED}
+use Rattle.dt_engine.specs.declared.status.TheConstants.{ENDED_ZERO, ENDED_OTHERWISE, NOT_ENDED}
+use Rattle.dt_run.specs.declared.status.TheConstants.{WORDS_REFUSED, IMAGE_REFUSED, STORE_FAULT, HOST_FAULT, OUTPUT_FAULT, OUT_OF_MEMORY}
 use Rattle.dt_run.specs.Failure.{failure_line}
-use Rattle.dt_run.specs.HoldsTree.{HoldsTree}
-use Rattle.dt_run.specs.Run.{Run, status_of_run}
-use Rattle.dt_run.specs.Written.{Written, reported}
+use Rattle.dt_engine.specs.Completed.{Written}
 
 -- the status of a run that was completed
 abbrev pub is_run_status : ℕ → Bool
@@ -31,16 +29,6 @@ fails_run status = (status == HOST_FAULT) || (status == OUTPUT_FAULT)
 -- no call failed, as far as the count shows: it did not rise, and doesn't stand at its last value
 abbrev pub Stayed : ℕ → ℕ → Type 0
 Stayed before now = ¬ HasRisen before now
-
--- a run was completed: its status is the answer, what is written of it was added, and the host holds its last tree
-pub record Finishes (written : Written) (answer : ℕ) (old new : Option (List ℕ)) (w : World) : Type 0 where
-  pub status : answer ≡ status_of_run written.run
-  pub report : new ≡ added old written.text
-  pub tree : HoldsTree w written.run.last.tree
-
--- likewise, and what was added is its report
-abbrev pub Completes : Run → ℕ → Option (List ℕ) → Option (List ℕ) → World → Type 0
-Completes run = Finishes (reported run)
 
 -- what is wanted is an image that is refused
 pub record RefusesImage (found : Result Written Failure) : Type 0 where

@@ -7,8 +7,9 @@ use Rattle.dt_run.specs.declared.failure.Failure.{Failure}
 use Rattle.dt_run.specs.declared.failure.Failure.TheVariants.{Usage, Image}
 use Rattle.dt_options.specs.Options.{Request, Form, run_form, demo_form, form_of}
 use Rattle.dt_image.specs.ImageOf.{image_of}
-use Rattle.dt_run.specs.Run.{Run, run_of}
-use Rattle.dt_run.specs.Written.{Written, reported, demonstrated}
+use Rattle.dt_engine.specs.Run.{Run, run_of}
+use Rattle.dt_engine.specs.Completed.{Written, reported}
+use Rattle.dt_run.specs.Written.{demonstrated}
 
 -- a request's run on an image
 abbrev pub run_on : Request → List Entry → Run

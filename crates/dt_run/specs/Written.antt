@@ -5,16 +5,8 @@ use Rattle.hex.specs.Hex.{encode_lower}
 use Rattle.sha2.specs.Sha256.{sha256}
 use Rattle.dt_asm.specs.Demo.{demo_entries, demo_command}
 use Rattle.dt_run.specs.declared.demo.TheConstants.{DEMO_BUDGET}
-use Rattle.dt_run.specs.Run.{Run, run_of, status_of_run, report_of}
-
--- a run, and what is written of it
-pub record Written : Type 0 where
-  pub run : Run
-  pub text : List ℕ
-
--- a run with its report
-abbrev pub reported : Run → Written
-reported run = record { run = run; text = report_of run }
+use Rattle.dt_engine.specs.Run.{Run, run_of, status_of_run, report_of}
+use Rattle.dt_engine.specs.Completed.{Written}
 
 -- the run of a demonstration's image and command, whose seed is its number
 unfoldable pub demo_run : ℕ → Run

@@ -1,8 +1,3 @@
 -- Inner words: no public clause cites these.
-pub mod Errors
 pub mod Failures
 pub mod Fails
-pub mod InCode
-pub mod Good
-pub mod Going
-pub mod Round

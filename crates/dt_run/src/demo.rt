@@ -6,13 +6,13 @@ ghost use Rattle.dt_host.specs.World.{IsEmptyStart};
 ghost use Rattle.hex.specs.Hex.{encode_lower};
 ghost use Rattle.sha2.specs.Sha256.{sha256};
 ghost use Rattle.dt_run.specs.Written.{demo_run, summary, demonstrated};
-ghost use Rattle.dt_run.specs.Statuses.{Completes, Finishes};
+ghost use Rattle.dt_engine.specs.Completed.{Completes, Finishes};
 
-use crate::error::RunErr;
 use crate::run::run_container;
 use crate::top::disturb;
 use dt_asm::demo_image;
 use dt_base::NoMemory;
+use dt_engine::RunErr;
 use dt_host::{Gate, Host, HostErr, Sink, VecSink, sink_all};
 use dt_options::DemoOptions;
 use sha2::{Digest, Sha256};

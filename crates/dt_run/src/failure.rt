@@ -3,11 +3,11 @@ ghost use Rattle.std.specs.Prelude.{◌≡◌};
 ghost use Rattle.dt_run.specs.Failure.{failure_status, failure_line};
 ghost use Rattle.dt_run.specs.declared.failure.Failure.TheVariants.{NoMemory as OutOfMemory};
 
-use crate::error::RunErr;
 use crate::status::{
     HOST_FAULT, IMAGE_REFUSED, OUT_OF_MEMORY, OUTPUT_FAULT, STORE_FAULT, WORDS_REFUSED,
 };
 use dt_base::{ImageErr, NoMemory, Refusal};
+use dt_engine::RunErr;
 use dt_options::UsageErr;
 
 /// Why there is no whole report, in the order in which it is found.

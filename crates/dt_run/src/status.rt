@@ -1,10 +1,6 @@
 //! The exit statuses of the program.
 
-/// The run has ended, and its first process with code 0.
-pub const ENDED_ZERO: u8 = 0;
-
-/// The run has ended, and its first process with another code or by a signal.
-pub const ENDED_OTHERWISE: u8 = 1;
+pub use dt_engine::status::{ENDED_OTHERWISE, ENDED_ZERO, NOT_ENDED};
 
 /// The words of the command line ask for no run, and none was made.
 pub const WORDS_REFUSED: u8 = 2;
@@ -23,6 +19,3 @@ pub const OUTPUT_FAULT: u8 = 6;
 
 /// Memory ran out.
 pub const OUT_OF_MEMORY: u8 = 7;
-
-/// The run is over, and its first process has not ended.
-pub const NOT_ENDED: u8 = 10;

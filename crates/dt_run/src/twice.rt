@@ -2,7 +2,7 @@
 ghost use Rattle.std.specs.Prelude.{◌≡◌, ◌⊎◌, map, string_bytes, IsSome, IsTrue};
 ghost use Rattle.dt_host.specs.World.{IsEmptyStart};
 ghost use Rattle.dt_run.specs.declared.status.TheConstants.{WORDS_REFUSED, OUT_OF_MEMORY};
-ghost use Rattle.dt_run.specs.HoldsTree.{HoldSame};
+ghost use Rattle.dt_engine.specs.HoldsTree.{HoldSame};
 ghost use Rattle.dt_run.specs.Statuses.{is_run_status, precedes_run};
 ghost use Rattle.dt_run.specs.Agree.{AskTheSame, is_decided, AddAlike, AddLineAlike, IsCaused};
 

@@ -15,11 +15,11 @@ use Rattle.dt_exec.specs.Program.{start_program}
 use Rattle.dt_virt.specs.Words.{start_bytes}
 use Rattle.dt_calls.specs.Container.{Container, first_container}
 use Rattle.dt_calls.specs.Launch.{launch_of_program, launch}
-use Rattle.dt_run.specs.Work.{owing_work}
-use Rattle.dt_run.specs.Ahead.{state_with_works}
-use Rattle.dt_run.specs.Playing.{Playing, playing_from, first_playing, rest_of}
-use Rattle.dt_run.specs.Run.{after_events}
-use Rattle.dt_run.proofs.Returns.{rest-at-first}
+use Rattle.dt_engine.specs.Work.{owing_work}
+use Rattle.dt_engine.specs.Ahead.{state_with_works}
+use Rattle.dt_engine.specs.Playing.{Playing, playing_from, first_playing, rest_of}
+use Rattle.dt_engine.specs.Run.{after_events}
+use Rattle.dt_engine.proofs.Returns.{rest-at-first}
 use Rattle.dt_runlaws.specs.Shown.{AreLent}
 use Rattle.dt_runlaws.specs.Carried.{BeginShows}
 

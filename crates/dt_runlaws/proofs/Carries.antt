@@ -13,27 +13,27 @@ use Rattle.dt_tables.proofs.Maps.{at_insert, at_remove, get-insert_other}
 use Rattle.dt_rv64.specs.declared.machine.Machine.{Machine}
 use Rattle.dt_rv64.specs.Segment.{segment_of}
 use Rattle.dt_sched.specs.Core.{is_owing}
-use Rattle.dt_run.specs.declared.happening.Happening.{Happening}
-use Rattle.dt_run.specs.declared.happening.Happening.TheVariants.{Ran, Admit}
-use Rattle.dt_run.specs.Work.{Work, Works, owing_work, work_after_segment}
-use Rattle.dt_run.specs.Turn.{State, Turn, head_pid, is_ended_verdict, turn}
-use Rattle.dt_run.specs.Run.{Run, after_events}
-use Rattle.dt_run.specs.Ahead.{Away, HasHead, with_works, works_with_segment, with_segment_of, state_with_works, turn_with_works}
-use Rattle.dt_run.specs.Playing.{Playing, rest_of, playing_after_turn}
-use Rattle.dt_run.specs.Admission.{admission, admission_by, awaited, is_ready_work}
-use Rattle.dt_run.specs.Happenings.{Step, may_happen, step_of, is_live, is_owing_work}
-use Rattle.dt_run.specs.Lent.{playing_without_work, state_without_work, state_with_work, playing_with_work}
-use Rattle.dt_run.specs.Played.{none_played, played_then, played}
-use Rattle.dt_run.specs.InPlay.{IsFull, owing_of}
-use Rattle.dt_run.proofs.Aheads.{ran-ahead}
-use Rattle.dt_run.proofs.Aways.{over, get-put_all, turn-away}
-use Rattle.dt_run.proofs.Going.{has-head, left-alike}
-use Rattle.dt_run.proofs.Happened.{next-step, a-step}
-use Rattle.dt_run.proofs.Kept.{all-weaker}
-use Rattle.dt_run.proofs.Left.{lend-leaves, return-leaves, admission-leaves}
-use Rattle.dt_run.proofs.Numbers.{turn-apart, turn-later}
-use Rattle.dt_run.proofs.Orders.{IsHeadOnce, TurnsOn, turn-on}
-use Rattle.dt_run.proofs.Turns.{after-after}
+use Rattle.dt_engine.specs.declared.happening.Happening.{Happening}
+use Rattle.dt_engine.specs.declared.happening.Happening.TheVariants.{Ran, Admit}
+use Rattle.dt_engine.specs.Work.{Work, Works, owing_work, work_after_segment}
+use Rattle.dt_engine.specs.Turn.{State, Turn, head_pid, is_ended_verdict, turn}
+use Rattle.dt_engine.specs.Run.{Run, after_events}
+use Rattle.dt_engine.specs.Ahead.{Away, HasHead, with_works, works_with_segment, with_segment_of, state_with_works, turn_with_works}
+use Rattle.dt_engine.specs.Playing.{Playing, rest_of, playing_after_turn}
+use Rattle.dt_engine.specs.Admission.{admission, admission_by, awaited, is_ready_work}
+use Rattle.dt_engine.specs.Happenings.{Step, may_happen, step_of, is_live, is_owing_work}
+use Rattle.dt_engine.specs.Lent.{playing_without_work, state_without_work, state_with_work, playing_with_work}
+use Rattle.dt_engine.specs.Played.{none_played, played_then, played}
+use Rattle.dt_engine.specs.InPlay.{IsFull, owing_of}
+use Rattle.dt_engine.proofs.Aheads.{ran-ahead}
+use Rattle.dt_engine.proofs.Aways.{over, get-put_all, turn-away}
+use Rattle.dt_engine.proofs.Going.{has-head, left-alike}
+use Rattle.dt_engine.proofs.Happened.{next-step, a-step}
+use Rattle.dt_engine.proofs.Kept.{all-weaker}
+use Rattle.dt_engine.proofs.Left.{lend-leaves, return-leaves, admission-leaves}
+use Rattle.dt_engine.proofs.Numbers.{turn-apart, turn-later}
+use Rattle.dt_engine.proofs.Orders.{IsHeadOnce, TurnsOn, turn-on}
+use Rattle.dt_engine.proofs.Turns.{after-after}
 use Rattle.dt_runlaws.specs.Shown.{Lent, lent_pids, lent_works, IsLent, AreDistinct, HasDistinctOrder, AreLent, left_with_lent, Shows}
 use Rattle.dt_runlaws.specs.Carried.{OwesAtHome, LendShows, LentIsAway, ReturnShows, AdmissionShows, HappeningsShow, NothingLent, VerdictShows}
 use Rattle.dt_runlaws.proofs.Pids.{distinct-more, absent-rest, any-absent, all-among, all-filtered}

@@ -15,7 +15,7 @@ use Rattle.dt_calls.specs.declared.container.Served.TheVariants.{Done, Child, La
 use Rattle.dt_calls.specs.Container.{Tasks}
 use Rattle.dt_calls.specs.Sound.{LivesOn}
 use Rattle.dt_calls.proofs.Fits.{FitsChild}
-use Rattle.dt_run.specs.Turn.{settled_of}
+use Rattle.dt_engine.specs.Turn.{settled_of}
 
 abbrev pub Differ : ℕ → ℕ → Type 0
 Differ a b = a ≢ b

@@ -19,16 +19,16 @@ use Rattle.dt_calls.specs.Launch.{launch, launch_of_program}
 use Rattle.dt_calls.specs.Settle.{turn_of_machine, effect_of_turn, process_turn}
 use Rattle.dt_calls.proofs.Fits.{FitsChild, served-fits}
 use Rattle.dt_calls.proofs.Tasks.{task-here}
-use Rattle.dt_run.specs.declared.happening.Happening.{Happening}
-use Rattle.dt_run.specs.declared.happening.Happening.TheVariants.{Ran, Admit}
-use Rattle.dt_run.specs.Turn.{State, turn, turn_of_head, turn_of_work, turn_of_act, stuck_turn, head_pid, act, paid_act, unpaid_act, act_of_turn, settled_of}
-use Rattle.dt_run.specs.Work.{Work, Prepared, prepared_of}
-use Rattle.dt_run.specs.Ahead.{with_segment_of}
-use Rattle.dt_run.specs.Playing.{Playing, playing_from, playing_in, first_playing}
-use Rattle.dt_run.specs.Happenings.{Step, is_live, may_happen, step_of, step_of_turn}
-use Rattle.dt_run.specs.Admission.{admission, admission_by, awaited}
-use Rattle.dt_run.specs.Played.{none_played, played, played_then, turns}
-use Rattle.dt_run.specs.Lent.{state_with_work}
+use Rattle.dt_engine.specs.declared.happening.Happening.{Happening}
+use Rattle.dt_engine.specs.declared.happening.Happening.TheVariants.{Ran, Admit}
+use Rattle.dt_engine.specs.Turn.{State, turn, turn_of_head, turn_of_work, turn_of_act, stuck_turn, head_pid, act, paid_act, unpaid_act, act_of_turn, settled_of}
+use Rattle.dt_engine.specs.Work.{Work, Prepared, prepared_of}
+use Rattle.dt_engine.specs.Ahead.{with_segment_of}
+use Rattle.dt_engine.specs.Playing.{Playing, playing_from, playing_in, first_playing}
+use Rattle.dt_engine.specs.Happenings.{Step, is_live, may_happen, step_of, step_of_turn}
+use Rattle.dt_engine.specs.Admission.{admission, admission_by, awaited}
+use Rattle.dt_engine.specs.Played.{none_played, played, played_then, turns}
+use Rattle.dt_engine.specs.Lent.{state_with_work}
 use Rattle.dt_runlaws.specs.Few.{ShowsFew, HasFewProcesses}
 use Rattle.dt_runlaws.specs.FewRun.{HasFewIn, TurnShowsFew, AdmissionShowsFew, StatesShowFew, FirstStatesHaveFew, AdmissionsShowFew, PlayingsKeepFew, RunsShowFew}
 use Rattle.dt_runlaws.proofs.FewCalls.{Comes, turned, shows-none}

@@ -15,14 +15,14 @@ use Rattle.dt_calls.specs.Settle.{ProcessTurn, is_end_of_all, turn_of_machine, w
 use Rattle.dt_calls.proofs.Fits.{Fits, served-fits}
 use Rattle.dt_sched.specs.declared.settled.Settled.{Settled}
 use Rattle.dt_sched.specs.Order.{Schedule, order_after_turn, verdict_after, schedule_after_turn, verdict_of_turn}
-use Rattle.dt_run.specs.Work.{Work, Works, Prepared, owing_work, prepared_of}
-use Rattle.dt_run.specs.Turn.{State, settled_of, own_work_after, act_of_turn, paid_act, unpaid_act, act, is_ended_verdict, with_child_work, works_after_act, turn_of_act, turn_of_work, turn_of_head, head_pid, turn}
-use Rattle.dt_run.specs.InPlay.{IsFull}
-use Rattle.dt_run.proofs.Kept.{all-weaker, own-lives, child-is}
-use Rattle.dt_run.proofs.Noted.{fits-next}
-use Rattle.dt_run.proofs.Placed.{born-child, next-later, next-child}
-use Rattle.dt_run.proofs.Rounds.{all-more}
-use Rattle.dt_run.proofs.Standings.{GoesOn, IsNext, makes_child}
+use Rattle.dt_engine.specs.Work.{Work, Works, Prepared, owing_work, prepared_of}
+use Rattle.dt_engine.specs.Turn.{State, settled_of, own_work_after, act_of_turn, paid_act, unpaid_act, act, is_ended_verdict, with_child_work, works_after_act, turn_of_act, turn_of_work, turn_of_head, head_pid, turn}
+use Rattle.dt_engine.specs.InPlay.{IsFull}
+use Rattle.dt_engine.proofs.Kept.{all-weaker, own-lives, child-is}
+use Rattle.dt_engine.proofs.Noted.{fits-next}
+use Rattle.dt_engine.proofs.Placed.{born-child, next-later, next-child}
+use Rattle.dt_engine.proofs.Rounds.{all-more}
+use Rattle.dt_engine.proofs.Standings.{GoesOn, IsNext, makes_child}
 use Rattle.dt_runlaws.specs.Shown.{AreDistinct, HasDistinctOrder}
 use Rattle.dt_runlaws.proofs.Pids.{distinct-more, distinct-two-more, all-two-more}
 

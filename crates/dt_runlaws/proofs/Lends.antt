@@ -8,10 +8,10 @@ use Rattle.std.specs.Cmp.{nat_cmp_total}
 use Rattle.std.specs.FinMap.{find, get, same_map, nat_cmp-IsAntisymmetric}
 use Rattle.dt_tables.proofs.Maps.{number_tie}
 use Rattle.dt_rv64.specs.declared.machine.Machine.{Machine}
-use Rattle.dt_run.specs.Work.{Work, owing_work}
-use Rattle.dt_run.specs.Turn.{State}
-use Rattle.dt_run.specs.Ahead.{Away, state_with_works}
-use Rattle.dt_run.proofs.Aways.{over, get-put_all}
+use Rattle.dt_engine.specs.Work.{Work, owing_work}
+use Rattle.dt_engine.specs.Turn.{State}
+use Rattle.dt_engine.specs.Ahead.{Away, state_with_works}
+use Rattle.dt_engine.proofs.Aways.{over, get-put_all}
 use Rattle.dt_runlaws.specs.Shown.{Lent, lent_pids, lent_works, IsLent, AreDistinct}
 
 -- whether two pids are the same, by their order

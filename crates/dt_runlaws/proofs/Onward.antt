@@ -8,12 +8,12 @@ use Rattle.dt_rv64.specs.declared.segments.Seg.{Seg}
 use Rattle.dt_sched.specs.Core.{is_owing}
 use Rattle.dt_sched.specs.declared.process.Phase.{Phase}
 use Rattle.dt_sched.specs.declared.process.Phase.TheVariants.{Owes, Ran, Waits}
-use Rattle.dt_run.specs.declared.happening.Happening.{Happening}
-use Rattle.dt_run.specs.Work.{Work, owing_work}
-use Rattle.dt_run.specs.Run.{Run, run_of}
-use Rattle.dt_run.specs.Playing.{Playing}
-use Rattle.dt_run.specs.Happenings.{is_owing_work}
-use Rattle.dt_run.specs.Lent.{playing_without_work}
+use Rattle.dt_engine.specs.declared.happening.Happening.{Happening}
+use Rattle.dt_engine.specs.Work.{Work, owing_work}
+use Rattle.dt_engine.specs.Run.{Run, run_of}
+use Rattle.dt_engine.specs.Playing.{Playing}
+use Rattle.dt_engine.specs.Happenings.{is_owing_work}
+use Rattle.dt_engine.specs.Lent.{playing_without_work}
 use Rattle.dt_runlaws.specs.declared.driver.Action.{Action}
 use Rattle.dt_runlaws.specs.declared.driver.Action.TheVariants.{Lend, Return, Admit, Play}
 use Rattle.dt_runlaws.specs.Shown.{Lent, Shows}

@@ -2,8 +2,8 @@
 use Rattle.std.proofs.Common.{◌≡◌, ◌≢◌, ℕ, ◌==◌, ◌||◌, Bool, true, false, cond, List, [], ◌∷◌, ◌++◌, refl, sym, arith}
 use Rattle.std.proofs.lemmas.Bool.Decides.{nat_tests}
 use Rattle.std.specs.List.{AllByRecursion, filter, list_any}
-use Rattle.dt_run.proofs.Kept.{all-weaker}
-use Rattle.dt_run.proofs.Rounds.{all-more}
+use Rattle.dt_engine.proofs.Kept.{all-weaker}
+use Rattle.dt_engine.proofs.Rounds.{all-more}
 use Rattle.dt_runlaws.specs.Shown.{AreDistinct}
 
 -- one more that is none of them

@@ -14,17 +14,17 @@ use Rattle.dt_host.specs.World.{World}
 use Rattle.dt_rv64.specs.declared.machine.Machine.{Machine}
 use Rattle.dt_rv64.specs.declared.segments.Seg.{Seg}
 use Rattle.dt_rv64.specs.Segment.{segment_of}
-use Rattle.dt_run.specs.declared.happening.Admitted.{Admitted}
-use Rattle.dt_run.specs.declared.happening.Admitted.TheVariants as admitted
-use Rattle.dt_run.specs.declared.happening.Happening.{Happening}
-use Rattle.dt_run.specs.Work.{owing_work, work_after_segment}
-use Rattle.dt_run.specs.Turn.{turn}
-use Rattle.dt_run.specs.Playing.{Playing, first_playing}
-use Rattle.dt_run.specs.Admission.{admission, admission_by, answer_of_turn, awaited}
-use Rattle.dt_run.specs.Lent.{playing_without_work, playing_with_work, returned_work}
-use Rattle.dt_run.specs.Played.{played}
-use Rattle.dt_run.specs.InPlay.{EngineView, playing_of, works_of, owing_of}
-use Rattle.dt_run.proofs.Rounds.{map-removed}
+use Rattle.dt_engine.specs.declared.happening.Admitted.{Admitted}
+use Rattle.dt_engine.specs.declared.happening.Admitted.TheVariants as admitted
+use Rattle.dt_engine.specs.declared.happening.Happening.{Happening}
+use Rattle.dt_engine.specs.Work.{owing_work, work_after_segment}
+use Rattle.dt_engine.specs.Turn.{turn}
+use Rattle.dt_engine.specs.Playing.{Playing, first_playing}
+use Rattle.dt_engine.specs.Admission.{admission, admission_by, answer_of_turn, awaited}
+use Rattle.dt_engine.specs.Lent.{playing_without_work, playing_with_work, returned_work}
+use Rattle.dt_engine.specs.Played.{played}
+use Rattle.dt_engine.specs.InPlay.{EngineView, playing_of, works_of, owing_of}
+use Rattle.dt_engine.proofs.Rounds.{map-removed}
 use Rattle.dt_runlaws.specs.declared.driver.Action.{Action}
 use Rattle.dt_runlaws.specs.declared.driver.LentMachine.{LentMachine}
 use Rattle.dt_runlaws.specs.declared.driver.Driver.{Driver}

@@ -22,24 +22,24 @@ use Rattle.dt_procs.specs.Members.{end_of}
 use Rattle.dt_procs.specs.Table.{members_of}
 use Rattle.dt_calls.specs.InCode.{shared_of}
 use Rattle.dt_calls.specs.Sound.{IsSoundContainer}
-use Rattle.dt_run.specs.declared.error.RunErr.{RunErr}
-use Rattle.dt_run.specs.declared.happening.Admitted.{Admitted}
-use Rattle.dt_run.specs.declared.happening.Admitted.TheVariants as admitted
-use Rattle.dt_run.specs.declared.happening.Happening.{Happening}
-use Rattle.dt_run.specs.Work.{owing_work, work_after_segment}
-use Rattle.dt_run.specs.Run.{Run, run_of, after_events, status_by}
-use Rattle.dt_run.specs.Statuses.{Completes}
-use Rattle.dt_run.specs.Ahead.{state_with_works}
-use Rattle.dt_run.specs.Playing.{Playing, first_playing, last_text}
-use Rattle.dt_run.specs.Admission.{admission}
-use Rattle.dt_run.specs.Lent.{playing_without_work, playing_with_work, returned_work}
-use Rattle.dt_run.specs.Played.{played}
-use Rattle.dt_run.specs.InPlay.{EngineView, playing_of, works_of, owing_of, IsInPlay}
-use Rattle.dt_run.specs.inner.Going.{IsDone}
-use Rattle.dt_run.proofs.Completed.{completed}
-use Rattle.dt_run.proofs.Going.{texts-append, over-stands}
-use Rattle.dt_run.proofs.Queueing.{found-contained}
-use Rattle.dt_run.proofs.Rounds.{map-removed}
+use Rattle.dt_engine.specs.declared.error.RunErr.{RunErr}
+use Rattle.dt_engine.specs.declared.happening.Admitted.{Admitted}
+use Rattle.dt_engine.specs.declared.happening.Admitted.TheVariants as admitted
+use Rattle.dt_engine.specs.declared.happening.Happening.{Happening}
+use Rattle.dt_engine.specs.Work.{owing_work, work_after_segment}
+use Rattle.dt_engine.specs.Run.{Run, run_of, after_events, status_by}
+use Rattle.dt_engine.specs.Completed.{Completes}
+use Rattle.dt_engine.specs.Ahead.{state_with_works}
+use Rattle.dt_engine.specs.Playing.{Playing, first_playing, last_text}
+use Rattle.dt_engine.specs.Admission.{admission}
+use Rattle.dt_engine.specs.Lent.{playing_without_work, playing_with_work, returned_work}
+use Rattle.dt_engine.specs.Played.{played}
+use Rattle.dt_engine.specs.InPlay.{EngineView, playing_of, works_of, owing_of, IsInPlay}
+use Rattle.dt_engine.specs.Onward.{IsDone}
+use Rattle.dt_engine.proofs.Completed.{completed}
+use Rattle.dt_engine.proofs.Going.{texts-append, over-stands}
+use Rattle.dt_engine.proofs.Queueing.{found-contained}
+use Rattle.dt_engine.proofs.Rounds.{map-removed}
 use Rattle.dt_runlaws.specs.declared.driver.LentMachine.{LentMachine}
 use Rattle.dt_runlaws.specs.Shown.{Lent, lent_pids, lent_works, IsLent, AreLent, left_with_lent, Shows, HasWritten, WritesPrefix}
 use Rattle.dt_runlaws.specs.declared.driver.Driver.{Driver}

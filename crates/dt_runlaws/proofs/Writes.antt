@@ -5,12 +5,12 @@ use Rattle.dt_base.specs.declared.event.Event.{Event}
 use Rattle.dt_host.specs.Sink.{added, AddsPart}
 use Rattle.dt_host.proofs.Growth.{added-added, adds_all}
 use Rattle.dt_image.specs.Report.{header, events_text}
-use Rattle.dt_run.specs.Run.{Run, report_of}
-use Rattle.dt_run.specs.Playing.{Playing, last_text}
-use Rattle.dt_run.specs.Admission.{admission}
-use Rattle.dt_run.specs.Played.{played}
-use Rattle.dt_run.proofs.Going.{texts-append}
-use Rattle.dt_run.proofs.Happened.{adds_within}
+use Rattle.dt_engine.specs.Run.{Run, report_of}
+use Rattle.dt_engine.specs.Playing.{Playing, last_text}
+use Rattle.dt_engine.specs.Admission.{admission}
+use Rattle.dt_engine.specs.Played.{played}
+use Rattle.dt_engine.proofs.Going.{texts-append}
+use Rattle.dt_engine.proofs.Happened.{adds_within}
 use Rattle.dt_runlaws.specs.Shown.{Lent, left_with_lent, Shows, HasWritten, WritesPrefix}
 use Rattle.dt_runlaws.specs.Carried.{VerdictReports, BeginWrites, ShownIsPrefix, AdmissionWrites, HappeningsWrite, EndWrites, PrefixIsPart}
 use Rattle.dt_runlaws.proofs.Carries.{admission-shows, happenings-show, verdict-shows}

@@ -11,15 +11,15 @@ use Rattle.dt_host.specs.Sink.{AddsPart}
 use Rattle.dt_image.specs.Report.{header, events_text}
 use Rattle.dt_rv64.specs.declared.machine.Machine.{Machine}
 use Rattle.dt_rv64.specs.Segment.{segment_of}
-use Rattle.dt_run.specs.declared.happening.Happening.{Happening}
-use Rattle.dt_run.specs.Work.{owing_work, work_after_segment}
-use Rattle.dt_run.specs.Run.{Run, run_of, report_of}
-use Rattle.dt_run.specs.Playing.{Playing, first_playing, last_text}
-use Rattle.dt_run.specs.Admission.{admission}
-use Rattle.dt_run.specs.Happenings.{is_owing_work}
-use Rattle.dt_run.specs.Lent.{playing_without_work, playing_with_work}
-use Rattle.dt_run.specs.Played.{played}
-use Rattle.dt_run.specs.InPlay.{IsFull, owing_of}
+use Rattle.dt_engine.specs.declared.happening.Happening.{Happening}
+use Rattle.dt_engine.specs.Work.{owing_work, work_after_segment}
+use Rattle.dt_engine.specs.Run.{Run, run_of, report_of}
+use Rattle.dt_engine.specs.Playing.{Playing, first_playing, last_text}
+use Rattle.dt_engine.specs.Admission.{admission}
+use Rattle.dt_engine.specs.Happenings.{is_owing_work}
+use Rattle.dt_engine.specs.Lent.{playing_without_work, playing_with_work}
+use Rattle.dt_engine.specs.Played.{played}
+use Rattle.dt_engine.specs.InPlay.{IsFull, owing_of}
 use Rattle.dt_runlaws.specs.declared.driver.Action.{Action}
 use Rattle.dt_runlaws.specs.Driver.{may_lend, first_point, point_after_all}
 use Rattle.dt_runlaws.specs.Shown.{Lent, IsLent, AreLent, Shows, HasWritten, WritesPrefix}

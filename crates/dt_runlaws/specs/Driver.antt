@@ -9,14 +9,14 @@ use Rattle.dt_host.specs.World.{World}
 use Rattle.dt_rv64.specs.declared.machine.Machine.{Machine}
 use Rattle.dt_rv64.specs.Segment.{segment_of}
 use Rattle.dt_calls.specs.Sound.{IsSoundContainer}
-use Rattle.dt_run.specs.declared.happening.Happening.{Happening}
-use Rattle.dt_run.specs.Work.{Work, work_after_segment}
-use Rattle.dt_run.specs.Run.{Run}
-use Rattle.dt_run.specs.Playing.{Playing, first_playing}
-use Rattle.dt_run.specs.Admission.{admission}
-use Rattle.dt_run.specs.Lent.{playing_without_work, playing_with_work}
-use Rattle.dt_run.specs.Played.{played}
-use Rattle.dt_run.specs.InPlay.{playing_of, owing_of, IsInPlay}
+use Rattle.dt_engine.specs.declared.happening.Happening.{Happening}
+use Rattle.dt_engine.specs.Work.{Work, work_after_segment}
+use Rattle.dt_engine.specs.Run.{Run}
+use Rattle.dt_engine.specs.Playing.{Playing, first_playing}
+use Rattle.dt_engine.specs.Admission.{admission}
+use Rattle.dt_engine.specs.Lent.{playing_without_work, playing_with_work}
+use Rattle.dt_engine.specs.Played.{played}
+use Rattle.dt_engine.specs.InPlay.{playing_of, owing_of, IsInPlay}
 use Rattle.dt_runlaws.specs.declared.driver.Action.{Action}
 use Rattle.dt_runlaws.specs.declared.driver.Action.TheVariants.{Lend, Return, Admit, Play}
 use Rattle.dt_runlaws.specs.declared.driver.LentMachine.{LentMachine}

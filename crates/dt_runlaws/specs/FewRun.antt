@@ -4,14 +4,14 @@ use Rattle.std.specs.List.{All, AllPairs}
 use Rattle.std.specs.FinMap.{get}
 use Rattle.dt_base.specs.declared.image.Entry.{Entry}
 use Rattle.dt_base.specs.Command.{Words}
-use Rattle.dt_run.specs.declared.happening.Happening.{Happening}
-use Rattle.dt_run.specs.Work.{Work}
-use Rattle.dt_run.specs.Turn.{State, Turn, turn}
-use Rattle.dt_run.specs.Playing.{Playing, first_playing}
-use Rattle.dt_run.specs.Happenings.{step_of_turn}
-use Rattle.dt_run.specs.Admission.{Admission, admission}
-use Rattle.dt_run.specs.Played.{played, turns}
-use Rattle.dt_run.specs.Lent.{playing_without_work, playing_with_work}
+use Rattle.dt_engine.specs.declared.happening.Happening.{Happening}
+use Rattle.dt_engine.specs.Work.{Work}
+use Rattle.dt_engine.specs.Turn.{State, Turn, turn}
+use Rattle.dt_engine.specs.Playing.{Playing, first_playing}
+use Rattle.dt_engine.specs.Happenings.{step_of_turn}
+use Rattle.dt_engine.specs.Admission.{Admission, admission}
+use Rattle.dt_engine.specs.Played.{played, turns}
+use Rattle.dt_engine.specs.Lent.{playing_without_work, playing_with_work}
 use Rattle.dt_runlaws.specs.Few.{ShowsFew, HasFewProcesses}
 
 -- between two turns there are few processes, and each one in the order of turns stands there once and has a task

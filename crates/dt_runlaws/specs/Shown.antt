@@ -8,13 +8,13 @@ use Rattle.dt_base.specs.declared.event.Event.{Event}
 use Rattle.dt_host.specs.Sink.{added}
 use Rattle.dt_image.specs.Report.{header, events_text}
 use Rattle.dt_rv64.specs.declared.machine.Machine.{Machine}
-use Rattle.dt_run.specs.Work.{owing_work}
-use Rattle.dt_run.specs.Turn.{State}
-use Rattle.dt_run.specs.Run.{Run, after_events, report_of}
-use Rattle.dt_run.specs.Ahead.{Away, IsAway, state_with_works}
-use Rattle.dt_run.specs.Playing.{Playing, rest_of}
-use Rattle.dt_run.specs.Happenings.{is_live}
-use Rattle.dt_run.specs.InPlay.{IsFull}
+use Rattle.dt_engine.specs.Work.{owing_work}
+use Rattle.dt_engine.specs.Turn.{State}
+use Rattle.dt_engine.specs.Run.{Run, after_events, report_of}
+use Rattle.dt_engine.specs.Ahead.{Away, IsAway, state_with_works}
+use Rattle.dt_engine.specs.Playing.{Playing, rest_of}
+use Rattle.dt_engine.specs.Happenings.{is_live}
+use Rattle.dt_engine.specs.InPlay.{IsFull}
 
 -- machines that are lent, each with the pid of its process
 abbrev pub Lent : Type 0

@@ -8,10 +8,10 @@ ghost use Rattle.dt_host.specs.Cause.{HasCause};
 ghost use Rattle.dt_host.specs.Sink.{AddsPart};
 ghost use Rattle.dt_host.specs.World.{World, IsEmptyStart};
 ghost use Rattle.dt_calls.specs.Sound.{IsSoundContainer};
-ghost use Rattle.dt_run.specs.Admission.{admission};
-ghost use Rattle.dt_run.specs.InPlay.{playing_of, owing_of};
-ghost use Rattle.dt_run.specs.Run.{Run, run_of, report_of};
-ghost use Rattle.dt_run.specs.Statuses.{Completes};
+ghost use Rattle.dt_engine.specs.Admission.{admission};
+ghost use Rattle.dt_engine.specs.InPlay.{playing_of, owing_of};
+ghost use Rattle.dt_engine.specs.Run.{Run, run_of, report_of};
+ghost use Rattle.dt_engine.specs.Completed.{Completes};
 ghost use Rattle.dt_runlaws.specs.Shown.{HasWritten, WritesPrefix};
 ghost use Rattle.dt_runlaws.specs.Driver.{lent_of, may_lend, IsDriving, IsDrivingAt, HasShown, HasReported};
 ghost use Rattle.dt_runlaws.specs.Driver.{first_point, point_of, IsAt};
@@ -19,8 +19,8 @@ ghost use Rattle.dt_runlaws.specs.Driver.{point_after_lending, point_after_retur
 ghost use Rattle.dt_runlaws.specs.Driver.{point_after_happening, point_after, point_after_all};
 
 use dt_base::{Command, Image, NoMemory};
+use dt_engine::{Admitted, Engine, Happening, RunErr};
 use dt_host::{Host, Sink};
-use dt_run::{Admitted, Engine, Happening, RunErr};
 use dt_rv64::{Hints, Machine, segment};
 use std::alloc::Global;
 

@@ -3,8 +3,8 @@ use Rattle.dt_base.specs.declared.refusal.ImageErr.{ImageErr}
 use Rattle.dt_base.specs.declared.refusal.ImageErr.TheVariants.{Refused as ImageRefused, Store as StoreFailed, NoMemory as NoImageMemory}
 use Rattle.dt_options.specs.declared.options.UsageErr.{UsageErr}
 use Rattle.dt_options.specs.declared.options.UsageErr.TheVariants.{Refused as WordsRefused, NoMemory as NoWordsMemory}
-use Rattle.dt_run.specs.declared.error.RunErr.{RunErr}
-use Rattle.dt_run.specs.declared.error.RunErr.TheVariants.{Host as HostFailed, Sink as SinkFailed, NoMemory as NoRunMemory}
+use Rattle.dt_engine.specs.declared.error.RunErr.{RunErr}
+use Rattle.dt_engine.specs.declared.error.RunErr.TheVariants.{Host as HostFailed, Sink as SinkFailed, NoMemory as NoRunMemory}
 use Rattle.dt_run.specs.declared.failure.Failure.{Failure}
 use Rattle.dt_run.specs.declared.failure.Failure.TheVariants.{Usage, Image, Store, Host, Output, NoMemory}
 

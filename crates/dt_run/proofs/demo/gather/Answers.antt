@@ -1,6 +1,5 @@
 use Rattle.std.proofs.Common.{Some, subst}
-use Rattle.dt_run.specs.Written.{reported}
-use Rattle.dt_run.specs.Statuses.{Finishes}
+use Rattle.dt_engine.specs.Completed.{reported, Finishes}
 use Rattle.dt_run.proofs.Demonstrated.{demo_run-made}
 use Rattle.dt_run.proofs.demo.gather.Goals as goal
 

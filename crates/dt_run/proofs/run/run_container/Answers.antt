@@ -1,12 +1,12 @@
 use Rattle.std.proofs.Common.{arith, Err, refl, sym, ap, subst}
 use Rattle.std.specs.Prelude.{IfOk, IsSome}
 use Rattle.dt_host.specs.Sink.{AddsPart}
-use Rattle.dt_run.specs.Run.{Run, run_of, report_of}
-use Rattle.dt_run.specs.Statuses.{Completes}
-use Rattle.dt_run.specs.InPlay.{playing_of}
-use Rattle.dt_run.specs.inner.Going.{left_of}
+use Rattle.dt_engine.specs.Run.{Run, run_of, report_of}
+use Rattle.dt_engine.specs.Completed.{Completes}
+use Rattle.dt_engine.specs.InPlay.{playing_of}
+use Rattle.dt_engine.specs.Onward.{left_of}
 use Rattle.dt_host.proofs.Asking.{cause-from, passed_on}
-use Rattle.dt_run.proofs.Completed.{run-is, part-begun, part-going, part-finished, completed}
+use Rattle.dt_engine.proofs.Completed.{run-is, part-begun, part-going, part-finished, completed}
 use Rattle.dt_run.proofs.run.run_container.Goals as goal
 
 pub returns-in_err-engine-clause-part : goal.returns-in_err-engine-clause-part

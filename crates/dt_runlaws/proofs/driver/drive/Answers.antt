@@ -1,7 +1,7 @@
 use Rattle.std.proofs.Common.{◌≡◌, get_or, Err, refl, sym, ap, subst, ◌∙◌, arith}
 use Rattle.std.specs.Prelude.{is_some, IfOk}
 use Rattle.dt_host.proofs.Asking.{cause-from, passed_on}
-use Rattle.dt_run.specs.Run.{run_of}
+use Rattle.dt_engine.specs.Run.{run_of}
 use Rattle.dt_runlaws.specs.Shown.{HasWritten}
 use Rattle.dt_runlaws.specs.Driver.{Point, first_point, point_of, point_after, point_after_all, point_after_admission, IsAt, HasReported}
 use Rattle.dt_runlaws.proofs.Writes.{prefix-is-part}

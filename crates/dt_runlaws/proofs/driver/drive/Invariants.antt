@@ -1,5 +1,5 @@
 use Rattle.std.proofs.Common.{◌≡◌, ◌≤◌, drop}
-use Rattle.dt_run.specs.Run.{run_of}
+use Rattle.dt_engine.specs.Run.{run_of}
 use Rattle.dt_runlaws.specs.Driver.{Point, first_point, point_after_all, IsAt, IsDrivingAt, HasReported}
 use Rattle.dt_runlaws.proofs.driver.drive.Given as goal
 

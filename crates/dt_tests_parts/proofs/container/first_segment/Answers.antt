@@ -5,7 +5,7 @@ use Rattle.std.specs.FinMap.{get, nat_cmp-IsAntisymmetric}
 use Rattle.dt_tables.proofs.Maps.{get-insert_same}
 use Rattle.dt_base.specs.declared.limits.TheConstants.{FIRST_PID}
 use Rattle.dt_calls.specs.InCode.{ContainerView, machines_at_home}
-use Rattle.dt_run.proofs.Ending.{launched-home}
+use Rattle.dt_engine.proofs.Ending.{launched-home}
 use Rattle.dt_tests_parts.proofs.container.first_segment.Goals as goal
 
 pub take_machine-machine-requires : goal.take_machine-machine-requires

@@ -1,5 +1,5 @@
 use Rattle.std.proofs.Common.{refl}
-use Rattle.dt_run.specs.InPlay.{playing_of}
+use Rattle.dt_engine.specs.InPlay.{playing_of}
 use Rattle.dt_runlaws.specs.Driver.{lent_of}
 use Rattle.dt_runlaws.proofs.Writes.{admission-writes}
 use Rattle.dt_runlaws.proofs.Points.{admit-at}

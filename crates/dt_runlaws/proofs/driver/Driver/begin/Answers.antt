@@ -1,6 +1,6 @@
 use Rattle.std.proofs.Common.{[], sym, subst}
-use Rattle.dt_run.specs.Run.{run_of}
-use Rattle.dt_run.specs.InPlay.{playing_of}
+use Rattle.dt_engine.specs.Run.{run_of}
+use Rattle.dt_engine.specs.InPlay.{playing_of}
 use Rattle.dt_runlaws.specs.Shown.{AreLent, Shows}
 use Rattle.dt_runlaws.specs.Driver.{lent_of}
 use Rattle.dt_runlaws.proofs.Writes.{begin-writes}

@@ -2,8 +2,8 @@ use Rattle.std.proofs.Common.{◌≡◌, ◌<◌, ◌≤◌, [], length, Some, �
 use Rattle.std.specs.Prelude.{slice_get}
 use Rattle.std.proofs.lemmas.List.{length-map}
 use Rattle.dt_runlaws.specs.declared.driver.LentMachine.{LentMachine}
-use Rattle.dt_run.specs.InPlay.{playing_of}
-use Rattle.dt_run.proofs.Arriving.{run-counts}
+use Rattle.dt_engine.specs.InPlay.{playing_of}
+use Rattle.dt_engine.proofs.Arriving.{run-counts}
 use Rattle.dt_runlaws.specs.Driver.{lent_of}
 use Rattle.dt_runlaws.proofs.Carries.{lent-is-away}
 use Rattle.dt_runlaws.proofs.Points.{entry-past, return-not, return-at}

@@ -1,8 +1,8 @@
 use Rattle.std.proofs.Common.{◌++◌, refl, sym, ap, subst, ◌∙◌}
 use Rattle.std.specs.Prelude.{IsSome, is_some}
-use Rattle.dt_run.specs.Admission.{admission}
-use Rattle.dt_run.specs.InPlay.{playing_of}
-use Rattle.dt_run.proofs.Going.{over-stands}
+use Rattle.dt_engine.specs.Admission.{admission}
+use Rattle.dt_engine.specs.InPlay.{playing_of}
+use Rattle.dt_engine.proofs.Going.{over-stands}
 use Rattle.dt_runlaws.specs.Driver.{lent_of}
 use Rattle.dt_runlaws.proofs.Points.{going-on}
 use Rattle.dt_runlaws.proofs.Steps.{finished-so, part-ended}

@@ -1,5 +1,5 @@
 use Rattle.std.proofs.Common.{◌≡◌, true, false, [], sym, ◌∙◌}
-use Rattle.dt_run.specs.InPlay.{playing_of}
+use Rattle.dt_engine.specs.InPlay.{playing_of}
 use Rattle.dt_runlaws.specs.declared.driver.LentMachine.{LentMachine}
 use Rattle.dt_runlaws.specs.Driver.{lent_of, may_lend}
 use Rattle.dt_runlaws.proofs.Carries.{owes-at-home}

@@ -1,6 +1,6 @@
 use Rattle.std.proofs.Common.{◌≡◌, [], ◌∷◌, length, refl, sym, subst, arith}
 use Rattle.std.proofs.lemmas.Bool.Decides.{nat_tests}
-use Rattle.dt_run.specs.InPlay.{playing_of}
+use Rattle.dt_engine.specs.InPlay.{playing_of}
 use Rattle.dt_runlaws.specs.Shown.{AreLent}
 use Rattle.dt_runlaws.proofs.Carries.{nothing-lent}
 use Rattle.dt_runlaws.specs.Driver.{Point, point_of, IsAt, HasReported}

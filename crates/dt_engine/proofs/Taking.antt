@@ -1,0 +1,89 @@
+-- A run is taken on, step by step or round by round, until a verdict stands.
+use Rattle.std.proofs.Common.{◌≡◌, ℕ, ◌+◌, ◌<◌, List, [], ◌++◌, length, Option, Some, None, refl, sym, ap, subst, ◌∙◌, arith, append_assoc}
+use Rattle.std.specs.Prelude.{Bool, true, false, is_some, IsSome, IfOk, OnOk}
+use Rattle.dt_base.specs.declared.event.Verdict.{Verdict}
+use Rattle.dt_base.specs.declared.event.Event.{Event}
+use Rattle.dt_host.specs.Sink.{added, AddsPart}
+use Rattle.dt_host.specs.World.{World}
+use Rattle.dt_host.proofs.Growth.{added-added}
+use Rattle.dt_image.specs.Report.{events_text}
+use Rattle.dt_calls.specs.Sound.{IsSoundContainer}
+use Rattle.dt_sched.specs.Core.{owing_vpids}
+use Rattle.dt_engine.specs.declared.happening.Admitted.{Admitted}
+use Rattle.dt_engine.specs.declared.happening.Admitted.TheVariants as admitted
+use Rattle.dt_engine.specs.Run.{Run, after_events}
+use Rattle.dt_engine.specs.Ahead.{Away, state_with_works}
+use Rattle.dt_engine.specs.Playing.{Playing}
+use Rattle.dt_engine.specs.Admission.{Admission, admission, admission_by, awaited}
+use Rattle.dt_engine.specs.InPlay.{EngineView, playing_of, IsFull, IsInPlay, steps_left}
+use Rattle.dt_engine.specs.Onward.{left_of, IsAtRest}
+use Rattle.dt_engine.specs.inner.Going.{left_with, Goes}
+use Rattle.dt_engine.specs.inner.Round.{TakesOn}
+use Rattle.dt_engine.proofs.Going.{texts-append}
+use Rattle.dt_engine.proofs.Happened.{adds_after}
+use Rattle.dt_engine.proofs.Turns.{after-after}
+
+-- how far a run is from its end at most: nowhere once a verdict stands
+abbrev pub steps_by : Option Verdict → ℕ → ℕ
+steps_by None left = left + 1
+steps_by (Some v) left = 0
+
+abbrev pub steps_ahead : EngineView → ℕ
+steps_ahead e = steps_by e.verdict (steps_left e.state.core)
+
+fewer-by : (v : Option Verdict) (left before : ℕ) → (v ≡ None → left < before) → steps_by v left < before + 1
+fewer-by None left before less = let l = less refl in omega arith
+fewer-by (Some v) left before less = omega arith
+
+-- a run that is taken on is nearer to its end
+pub fewer-ahead : (e : EngineView) (w : World) (told : Option (List ℕ)) (next : EngineView) (now : World) (new : Option (List ℕ))
+    → e.verdict ≡ None → TakesOn e w told next now new → steps_ahead next < steps_ahead e
+fewer-ahead e w told next now new running h =
+    subst (λ v. steps_ahead next < steps_by v (steps_left e.state.core)) (sym running)
+    (fewer-by next.verdict (steps_left next.state.core) (steps_left e.state.core) h.nearer)
+
+-- what is taken on after a part was is taken on of the whole
+module _ (all : Run) (start told : Option (List ℕ)) (e : Playing) (ws : Away) (h : Goes all start e ws told) where
+  pub goes-then : (next : Playing) (now : Away) (new : Option (List ℕ)) → Goes (left_with e ws) told next now new → Goes all start next now new
+  goes-then next now new k = record {
+    shown = h.shown ++ k.shown;
+    whole = h.whole ∙ ap (after_events h.shown) k.whole ∙ after-after h.shown k.shown (left_with next now);
+    wrote = k.wrote ∙ ap (λ told. added told (events_text k.shown)) h.wrote
+        ∙ added-added start (events_text h.shown) (events_text k.shown)
+        ∙ ap (added start) (sym (texts-append h.shown k.shown));
+  }
+
+  pub part-then : (new : Option (List ℕ)) → AddsPart told new (events_text (let r = left_with e ws in r.events))
+      → AddsPart start new (events_text all.events)
+  part-then new part =
+      let rest = left_with e ws in
+      subst (λ events. AddsPart start new (events_text events)) (sym (ap (λ (r : Run). r.events) h.whole))
+      (subst (AddsPart start new) (sym (texts-append h.shown rest.events))
+      (adds_after start told new (events_text h.shown) (events_text rest.events) h.wrote part))
+
+-- as much is left with no works away
+left-none : (e : Playing) → left_with e [] ≡ left_of e
+unfolding state_with_works
+left-none e = refl
+
+pub goes-take : (all : Run) (start told : Option (List ℕ)) (e next : Playing) (new : Option (List ℕ)) → Goes all start e [] told
+    → Goes (left_of e) told next [] new → Goes all start next [] new
+goes-take all start told e next new h k =
+    goes-then all start told e [] h next [] new (subst (λ r. Goes r told next [] new) (sym (left-none e)) k)
+
+pub part-take : (all : Run) (start told : Option (List ℕ)) (e : Playing) (new : Option (List ℕ)) → Goes all start e [] told
+    → AddsPart told new (events_text (let r = left_of e in r.events)) → AddsPart start new (events_text all.events)
+part-take all start told e new h part =
+    part-then all start told e [] h new (subst (λ (r : Run). AddsPart told new (events_text r.events)) (sym (left-none e)) part)
+
+-- whether a verdict stands
+pub none-by : (v : Option Verdict) {b : Bool} → b ≡ is_some v → b ≡ false → v ≡ None
+none-by None is off = refl
+none-by (Some v) is off = let bad = sym is ∙ off in cc
+
+pub the-verdict : (v : Option Verdict) {b : Bool} → b ≡ is_some v → b ≡ true → (w : Verdict) × (v ≡ Some w)
+the-verdict None is on = let bad = sym is ∙ on in absurd cc
+the-verdict (Some v) is on = (v, refl)
+
+pub stands-by : (v : Option Verdict) {b : Bool} → b ≡ is_some v → b ≡ true → IsSome v
+stands-by v is on = sym is ∙ on

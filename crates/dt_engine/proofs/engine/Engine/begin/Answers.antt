@@ -1,0 +1,16 @@
+use Rattle.std.proofs.Common.{Err, ap, arith}
+use Rattle.dt_host.proofs.Asking.{passed_on}
+use Rattle.dt_engine.proofs.Causes.{of_sink-failed, of_sink-no_host}
+use Rattle.dt_engine.proofs.engine.Engine.begin.Goals as goal
+
+pub returns-in_err-sink_all-clause-host : goal.returns-in_err-sink_all-clause-host
+returns-in_err-sink_all-clause-host g c = record {
+  later = c.start.ensures.cause.later;
+  rose = λ failed. absurd (of_sink-no_host _ (passed_on _ _ _ c.from_residual-in_err-sink_all.ensures.1 failed));
+}
+
+pub returns-in_err-sink_all-clause-sink : goal.returns-in_err-sink_all-clause-sink
+returns-in_err-sink_all-clause-sink g c = record {
+  later = c.sink_all.ensures.cause.later;
+  rose = λ failed. c.in_err-sink_all.ensures.cause.rose (ap Err (of_sink-failed _ (passed_on _ _ _ c.from_residual-in_err-sink_all.ensures.1 failed)));
+}

@@ -1,0 +1,16 @@
+pub mod HoldsTree
+pub mod Work
+pub mod Turn
+pub mod Run
+pub mod Ahead
+pub mod Playing
+pub mod Admission
+pub mod Happenings
+pub mod Played
+pub mod Lent
+pub mod Left
+pub mod InCode
+pub mod InPlay
+pub mod Onward
+pub mod Completed
+pub mod inner

@@ -1,0 +1,6 @@
+-- Inner words: no public clause cites these.
+pub mod Errors
+pub mod InCode
+pub mod Good
+pub mod Going
+pub mod Round

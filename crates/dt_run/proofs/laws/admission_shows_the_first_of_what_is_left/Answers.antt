@@ -1,5 +1,0 @@
-use Rattle.dt_run.proofs.Left.{admission-leaves}
-use Rattle.dt_run.proofs.laws.admission_shows_the_first_of_what_is_left.Goals as goal
-
-pub returns : goal.returns
-returns c = admission-leaves

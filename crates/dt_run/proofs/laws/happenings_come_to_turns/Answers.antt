@@ -1,5 +1,0 @@
-use Rattle.dt_run.proofs.Plays.{played-turns}
-use Rattle.dt_run.proofs.laws.happenings_come_to_turns.Goals as goal
-
-pub returns : goal.returns
-returns c = played-turns

@@ -1,5 +1,0 @@
-use Rattle.dt_run.proofs.Left.{happenings-leave}
-use Rattle.dt_run.proofs.laws.happenings_show_the_first_of_what_is_left.Goals as goal
-
-pub returns : goal.returns
-returns c = happenings-leave

@@ -1,5 +1,0 @@
-use Rattle.dt_run.proofs.Turns.{run-by-turns}
-use Rattle.dt_run.proofs.laws.run_is_a_turn_and_the_run_from_there.Goals as goal
-
-pub returns : goal.returns
-returns c = run-by-turns

@@ -1,5 +1,0 @@
-use Rattle.dt_run.proofs.Aways.{turn-away}
-use Rattle.dt_run.proofs.laws.turn_does_not_see_machines_that_are_away.Goals as goal
-
-pub returns : goal.returns
-returns c = turn-away

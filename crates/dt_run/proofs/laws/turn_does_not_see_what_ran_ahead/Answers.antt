@@ -1,5 +1,0 @@
-use Rattle.dt_run.proofs.Aheads.{turn-ahead}
-use Rattle.dt_run.proofs.laws.turn_does_not_see_what_ran_ahead.Goals as goal
-
-pub returns : goal.returns
-returns c = turn-ahead
