@@ -3,8 +3,9 @@ ghost use Rattle.std.specs.Prelude.{◌≡◌, ◌≤◌, None, length, IfOk};
 ghost use Rattle.dt_host.specs.Cause.{HasRisen};
 
 use dt_host::{Store, StoreErr};
+use std::alloc::{AllocError, Global};
 use std::fs::File;
-use std::io::ErrorKind;
+use std::io::{ErrorKind, Write};
 use std::os::unix::fs::FileExt;
 use std::rt::Files;
 use std::{fs, io};
@@ -35,7 +36,7 @@ impl<R> FolderStore<R> {
     }
 }
 
-impl<R: Files<File = File>> Store for FolderStore<R> {
+impl<R: AllocGlobal + Files<File = File>> Store for FolderStore<R> {
     ghost told = { λ _. None };
 
     ghost count = { λ store. store.faults };
@@ -60,6 +61,14 @@ impl<R: Files<File = File>> Store for FolderStore<R> {
             _ => Err(self.fail()),
         }
     }
+    // The bytes are written to a new file beside the path, which then takes its place: no path holds a part of them.
+    fn put(&mut self, name: &str, bytes: &[u8]) -> Result<(), StoreErr> {
+        let beside = path_beside(self.rt.alloc(), name)?;
+        match put_by(&self.rt, beside.as_str(), name, bytes) {
+            Ok(()) => Ok(()),
+            Err(_) => Err(self.fail()),
+        }
+    }
 }
 
 fn read_piece<R: Files<File = File>>(
@@ -71,4 +80,28 @@ fn read_piece<R: Files<File = File>>(
     ensures { IfOk result (λ count. count ≤ length buf.old) }
 {
     fs::open(rt, name)?.read_at(buf, off)
+}
+
+// A path in the folder of a path whose last name no blob has: it begins with a `.`. A file has so long a name only
+// where the blob's name has at most 250 bytes.
+fn path_beside(alloc: Global, path: &str) -> Result<String, AllocError> {
+    match path.rsplit_once('/') {
+        Some((folder, name)) => format!(in alloc; "{folder}/.{name}.new"),
+        None => format!(in alloc; ".{path}.new"),
+    }
+}
+
+// Writes a new file and gives it the other path. Where that fails the new file goes.
+fn put_by<R: Files<File = File>>(rt: &R, new: &str, path: &str, bytes: &[u8]) -> io::Result<()> {
+    let put = write_new(rt, new, bytes).and_then(|()| fs::rename(rt, new, path));
+    if put.is_err() {
+        let _ = fs::remove_file(rt, new);
+    }
+    put
+}
+
+// Writes a file, in place of what a run that was killed has left there.
+fn write_new<R: Files<File = File>>(rt: &R, path: &str, bytes: &[u8]) -> io::Result<()> {
+    let _ = fs::remove_file(rt, path);
+    File::create_new(rt, path)?.write_all(bytes)
 }

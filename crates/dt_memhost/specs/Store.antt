@@ -1,10 +1,10 @@
 -- A store in memory, and how it answers.
-use Rattle.std.specs.Prelude.{◌≡◌, ℕ, List, ◌++◌, length, take, drop, Option, Ok, Err, Result, MatchBool, String, Vec, string_bytes, vec_items}
+use Rattle.std.specs.Prelude.{◌≡◌, ℕ, List, ◌++◌, length, take, drop, Option, Ok, Err, Result, MatchBool, MatchResult, String, Vec, string_bytes, vec_items}
 use Rattle.std.specs.FinMap.{empty}
 use Rattle.dt_tables.specs.Entries.{map_of}
-use Rattle.dt_host.specs.Store.{StoreFiles, bytes_of, size_of}
+use Rattle.dt_host.specs.Store.{StoreFiles, bytes_of, size_of, with_file}
 use Rattle.dt_host.specs.declared.error.StoreErr.{StoreErr}
-use Rattle.dt_host.specs.declared.error.StoreErr.TheVariants.{Failed}
+use Rattle.dt_host.specs.declared.error.StoreErr.TheVariants.{Failed, NoMemory}
 use Rattle.dt_memhost.specs.Picks.{Picks, length_by}
 use Rattle.dt_memhost.specs.Script.{Script, script_from, is_next_listed, after_call, after_fault, after_draw, coming_word}
 
@@ -47,3 +47,18 @@ pub record ReadsSome (old : StoreState) (name : List ℕ) (off : ℕ) (before af
 abbrev pub ReadsStoreBy : StoreState → List ℕ → ℕ → List ℕ → List ℕ → Result ℕ StoreErr → StoreState → Type 0
 ReadsStoreBy old name off before after result new =
     MatchBool (is_next_listed old.script) (FailsAtStore old result new × (after ≡ before)) (ReadsSome old name off before after result new)
+
+-- the name holds these bytes, without a word
+pub record PutsFile (old : StoreState) (name bytes : List ℕ) (new : StoreState) : Type 0 where
+  pub put : new ≡ record old { files = with_file old.files name bytes; script = after_call old.script }
+
+-- memory ran out: the files stay
+pub record PutsNone (old new : StoreState) (error : StoreErr) : Type 0 where
+  pub memory_only : error ≡ NoMemory
+  pub kept : new ≡ record old { script = after_call old.script }
+
+-- how a store in memory puts a file
+abbrev pub PutsStoreBy : {A : Type 0} → StoreState → List ℕ → List ℕ → Result A StoreErr → StoreState → Type 0
+PutsStoreBy old name bytes result new =
+    MatchBool (is_next_listed old.script) (FailsAtStore old result new)
+    (MatchResult result (λ _. PutsFile old name bytes new) (PutsNone old new))

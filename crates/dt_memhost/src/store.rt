@@ -1,11 +1,11 @@
 // A store in memory.
 ghost use Rattle.std.specs.Prelude.{◌≡◌, ◌+◌, ◌<◌, ◌++◌, length, take, drop, Ok, OnOk, OnErr, IfOk, IsErrOf};
 ghost use Rattle.std.specs.Prelude.{option_map, option_copied, vec_items};
-ghost use Rattle.std.specs.FinMap.{get, insert};
+ghost use Rattle.std.specs.FinMap.{get};
 ghost use Rattle.dt_host.specs.Cause.{HasCause};
 ghost use Rattle.dt_host.specs.Sink.{MovesSome};
-ghost use Rattle.dt_host.specs.Store.{size_of, bytes_of, ReachesTo};
-ghost use Rattle.dt_memhost.specs.Store.{files_of, empty_store, SizesBy, ReadsStoreBy};
+ghost use Rattle.dt_host.specs.Store.{size_of, bytes_of, ReachesTo, with_file, told_with, StoresPart};
+ghost use Rattle.dt_memhost.specs.Store.{files_of, empty_store, SizesBy, ReadsStoreBy, PutsStoreBy};
 
 use crate::picker::Picker;
 use crate::script::Script;
@@ -47,10 +47,11 @@ impl MemStore {
         })
     }
 
-    /// Puts a file there, in place of one of that name. This is no call that is counted.
-    pub fn put(&mut self, name: &str, bytes: &[u8]) -> Result<(), NoMemory>
+    /// Makes the file of that name hold these bytes. This is no call of the trait: it is not counted, and never fails
+    /// as listed.
+    pub fn insert(&mut self, name: &str, bytes: &[u8]) -> Result<(), NoMemory>
         ensures ok { OnOk result (self.new
-            ≡ record self.old { files = insert self.old.files name.now bytes.now }) }
+            ≡ record self.old { files = with_file self.old.files name.now bytes.now }) }
         ensures err { OnErr result (self.new ≡ self.old) }
     {
         let name = String::from_str(self.alloc, name)?;
@@ -101,6 +102,20 @@ impl Store for MemStore {
         };
         copy_into(bytes, off as usize, count, buf);
         Ok(count)
+    }
+
+    fn put(&mut self, name: &str, bytes: &[u8]) -> Result<(), StoreErr>
+        ensures exact { PutsStoreBy self.old name.now bytes.now result self.new }
+        ensures ok { OnOk result
+            (Some self.new.files ≡ told_with (Some self.old.files) name.now bytes.now) }
+        ensures err { OnErr result
+            (StoresPart (Some self.old.files) (Some self.new.files) name.now bytes.now) }
+        ensures cause { HasCause self.old.script.faults self.new.script.faults
+            (IsErrOf result StoreErr.Failed) }
+    {
+        self.script.begin(false)?;
+        self.insert(name, bytes)?;
+        Ok(())
     }
 }
 

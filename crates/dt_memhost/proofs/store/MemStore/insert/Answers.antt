@@ -5,7 +5,7 @@ use Rattle.std.specs.FinMap.{insert}
 use Rattle.dt_tables.proofs.Maps.{names_tie}
 use Rattle.dt_tables.proofs.MapOf.{map_of-insert_entry}
 use Rattle.dt_tables.specs.Entries.{map_of}
-use Rattle.dt_memhost.proofs.store.MemStore.put.Goals as goal
+use Rattle.dt_memhost.proofs.store.MemStore.insert.Goals as goal
 
 pub returns-clause-ok : goal.returns-clause-ok
 returns-clause-ok c =
