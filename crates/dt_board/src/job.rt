@@ -1,5 +1,5 @@
 // A job: a machine whose segment is to be run, beside the machine that it started as.
-ghost use Rattle.std.specs.Prelude.{◌≡◌, true, false, None, Some, IfOk};
+ghost use Rattle.std.specs.Prelude.{◌≡◌, ◌↔◌, true, false, None, Some, IfOk, IsTrue};
 ghost use Rattle.dt_rv64.specs.Valid.{IsMachine};
 ghost use Rattle.dt_workers.specs.Slots.{IsOutcome};
 ghost use Rattle.dt_board.specs.Job.{finished};
@@ -42,6 +42,15 @@ impl Job {
             machine,
             outcome: None,
         })
+    }
+
+    /// Whether the job started as this machine.
+    pub fn is_of(&self, machine: &Machine) -> bool
+        ensures { IsTrue result ↔ (self.now.start ≡ machine.now) }
+    {
+        self.start.regs == machine.regs
+            && self.start.pc == machine.pc
+            && self.start.space.same(&machine.space)
     }
 
     /// Runs the segment, with what was kept from others, on which no answer depends.
