@@ -3,6 +3,7 @@ pub mod Segments
 pub mod Refusals
 pub mod Numbers
 pub mod Touched
+pub mod ZeroPages
 pub mod Strings
 pub mod Starts
 pub mod StackBytes

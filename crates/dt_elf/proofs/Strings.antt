@@ -1,6 +1,6 @@
 -- Strings and words of a stack, one after another.
 use Rattle.std.proofs.Common.{◌≡◌, ℕ, ◌+◌, ◌-◌, ◌*◌, ◌<◌, ◌≤◌, List, [], ◌∷◌, ◌++◌, length, get_or, drop, take, replicate, refl, sym, ap, ◌∙◌, append-nil, append_assoc, length-append, arith}
-use Rattle.std.proofs.lemmas.List.{drop_all, take_all, length-replicate}
+use Rattle.std.proofs.lemmas.List.{drop_all, take_all, length-replicate, replicate-append-replicate}
 use Rattle.dt_base.proofs.Lists.{drop-at}
 use Rattle.dt_base.specs.Fields.{low_bytes}
 use Rattle.dt_elf.specs.Stack.{Invocation, terminated_words, word_addresses, word_bytes, words_size, strings, strings_start, stack_words_at, stack_words, stack_layout}
@@ -135,11 +135,17 @@ has-room program headers given few short sixteen =
 pub listed-whole : (w1 w2 w3 w4 w5 w6 args env rest : List ℕ) (count : ℕ) → w1 ≡ [] ++ count ∷ [] → w2 ≡ w1 ++ args → w3 ≡ w2 ++ 0 ∷ [] → w4 ≡ w3 ++ env → w5 ≡ w4 ++ 0 ∷ [] → w6 ≡ w5 ++ rest → w6 ≡ count ∷ (args ++ (0 ∷ (env ++ (0 ∷ rest))))
 listed-whole w1 w2 w3 w4 w5 w6 args env rest count e1 e2 e3 e4 e5 e6 = rw (e6, e5, e4, e3, e2, e1) (simp append_assoc)
 
-pub laid-whole : (zeros both resized whole words text : List ℕ) (pointer start len : ℕ) → STACK_START ≤ pointer → pointer + 8 * length words ≤ start → zeros ≡ replicate (pointer - STACK_START) 0 → both ≡ zeros ++ word_bytes words → length both ≡ len → resized ≡ take (start - STACK_START) both ++ replicate (start - STACK_START - len) 0 → whole ≡ resized ++ text → whole ≡ stack_layout pointer words start text
-laid-whole zeros both resized whole words text pointer start len above apart zeros_are both_are len_is resized_is whole_is =
-    let prefix_length = ap length zeros_are ∙ length-replicate (pointer - STACK_START) 0 in
+joined-zeros : (byte first pointer : ℕ) → STACK_START ≤ first → first ≤ pointer → replicate (first - STACK_START) byte ++ replicate (pointer - first) byte ≡ replicate (pointer - STACK_START) byte
+joined-zeros byte first pointer above below =
+    let sum : first - STACK_START + (pointer - first) ≡ pointer - STACK_START = omega (arith, above, below) in
+    replicate-append-replicate {A = ℕ} (first - STACK_START) (pointer - first) byte ∙ ap (λ (n : ℕ). replicate n byte) sum
+
+-- bytes from an address on, with the zeros below it
+pub laid-whole : (zeros both resized whole words text : List ℕ) (first pointer start len : ℕ) → STACK_START ≤ first → first ≤ pointer → pointer + 8 * length words ≤ start → zeros ≡ replicate (pointer - first) 0 → both ≡ zeros ++ word_bytes words → length both ≡ len → resized ≡ take (start - first) both ++ replicate (start - first - len) 0 → whole ≡ resized ++ text → replicate (first - STACK_START) 0 ++ whole ≡ stack_layout pointer words start text
+laid-whole zeros both resized whole words text first pointer start len above below apart zeros_are both_are len_is resized_is whole_is =
+    let prefix_length = ap length zeros_are ∙ length-replicate (pointer - first) 0 in
     let long = ap length both_are ∙ length-append zeros (word_bytes words) in
     let back = length-word_bytes words in
-    let all : take (start - STACK_START) both ≡ both = take_all (start - STACK_START) both (omega (arith, prefix_length, long, back)) in
-    let gap : start - STACK_START - len ≡ start - (pointer + 8 * length words) = omega (arith, prefix_length, long, back, len_is) in
-    rw (whole_is, resized_is, all, gap, both_are, zeros_are) refl
+    let all : take (start - first) both ≡ both = take_all (start - first) both (omega (arith, prefix_length, long, back)) in
+    let gap : start - first - len ≡ start - (pointer + 8 * length words) = omega (arith, prefix_length, long, back, len_is) in
+    rw (whole_is, resized_is, all, gap, both_are, zeros_are, ← joined-zeros 0 first pointer above below) (simp append_assoc)

@@ -1,5 +1,6 @@
 // The machine that starts an executable.
-ghost use Rattle.std.specs.Prelude.{◌≡◌, ◌≤◌, ◌<◌, ◌^◌, ◌+◌, ◌/◌, ◌++◌, ◌↔◌, false, length, IfOk, Ok, Err, Some, None};
+ghost use Rattle.std.specs.Prelude.{◌≡◌, ◌≤◌, ◌<◌, ◌^◌, ◌+◌, ◌*◌, ◌/◌, [], ◌++◌, ◌↔◌, false, length, replicate, IfOk};
+ghost use Rattle.std.specs.Prelude.{Ok, Err, Some, None};
 ghost use Rattle.dt_rv64.specs.Valid.{IsMachine};
 ghost use Rattle.dt_space.specs.Space.{IsSpace, granted_rights};
 ghost use Rattle.dt_space.specs.Pages.{pages_from, EndsBelow};
@@ -12,11 +13,11 @@ use crate::elf::Elf;
 use crate::header::phnum;
 use crate::layout::{STACK_PAGES, STACK_START, TRAMPOLINE, TRAMPOLINE_CODE};
 use crate::pages::{load, touch_more_than};
-use crate::stack::{are_too_many, make_stack};
+use crate::stack::{Stack, are_too_many, make_stack};
 use dt_base::abi::SP;
 use dt_base::{Command, NoMemory, PAGE_LIMIT, PAGE_SIZE, PATH_LIMIT};
 use dt_rv64::Machine;
-use dt_space::{EXECUTE, READ, Space, WRITE};
+use dt_space::{EXECUTE, MapErr, READ, Space, WRITE};
 use std::alloc::Global;
 use thiserror::Error;
 
@@ -91,7 +92,7 @@ fn make_machine(
 {
     let segments = load(alloc, &elf.segments, bytes)?;
     let stack = make_stack(alloc, elf, phnum(bytes), command, execfn, random)?;
-    let space = with_stack(alloc, segments, &stack.contents)?;
+    let space = with_stack(alloc, segments, &stack)?;
     let mut regs = [0; 32];
     regs[usize::from(SP)] = stack.pointer;
     Ok(Machine {
@@ -102,20 +103,25 @@ fn make_machine(
 }
 
 // The pages of segments with those of the stack and the trampoline.
-fn with_stack(alloc: Global, segments: Space, contents: &[u8]) -> Result<Space, NoMemory>
+fn with_stack(alloc: Global, segments: Space, stack: &Stack) -> Result<Space, NoMemory>
     requires below { EndsBelow segments (STACK_START / PAGE_SIZE) }
     requires few { length segments + STACK_PAGES + 1 ≤ PAGE_LIMIT }
+    requires some { 0 < stack.now.zero_pages }
+    requires within { stack.now.zero_pages ≤ STACK_PAGES }
     ensures pages { IfOk result (λ space. space
-        ≡ segments ++ pages_from (STACK_START / PAGE_SIZE) (granted_rights (READ + WRITE)) contents.now STACK_PAGES
+        ≡ segments ++ pages_from (STACK_START / PAGE_SIZE) (granted_rights (READ + WRITE))
+        (replicate (PAGE_SIZE * stack.now.zero_pages) 0 ++ stack.now.contents.items) STACK_PAGES
         ++ trampoline_pages) }
     ensures sound { IfOk result IsSpace }
 {
-    let space = segments.with_pages(
+    let first = STACK_START / PAGE_SIZE;
+    let space = with_zero_pages(segments, first, stack.zero_pages)?;
+    let space = space.with_pages(
         alloc,
-        STACK_START / PAGE_SIZE,
-        STACK_PAGES,
+        first + stack.zero_pages,
+        STACK_PAGES - stack.zero_pages,
         READ + WRITE,
-        contents,
+        &stack.contents,
     )?;
     space.with_pages(
         alloc,
@@ -124,4 +130,21 @@ fn with_stack(alloc: Global, segments: Space, contents: &[u8]) -> Result<Space, 
         READ + EXECUTE,
         &TRAMPOLINE_CODE,
     )
+}
+
+// The space with pages of zeros above all of its own. They share their bytes, so that many cost no more than one.
+#[tactic(auto, using(crate::proofs::ZeroPages::allowed_above))]
+fn with_zero_pages(mut space: Space, first: u64, count: u64) -> Result<Space, NoMemory>
+    requires some { 0 < count }
+    requires above { EndsBelow space first }
+    requires low { first + count ≤ 2 ^ 26 }
+    requires few { length space + count ≤ PAGE_LIMIT }
+    ensures { IfOk result (λ more. more ≡ space ++ pages_from first (granted_rights (READ + WRITE)) [] count) }
+{
+    match space.map(first, count, READ + WRITE) {
+        Ok(()) => Ok(space),
+        Err(MapErr::NoMemory) => Err(NoMemory),
+        // The range is neither empty nor too high, no page of it is there, and there is room.
+        Err(_) => unreachable!(),
+    }
 }

@@ -1,5 +1,6 @@
 // The stack of a program that starts.
-ghost use Rattle.std.specs.Prelude.{◌≡◌, ◌+◌, ◌*◌, ◌^◌, ◌≤◌, ◌<◌, ◌++◌, length, nat_lt, IfOk, OnOk, MatchOption};
+ghost use Rattle.std.specs.Prelude.{◌≡◌, ◌+◌, ◌-◌, ◌*◌, ◌^◌, ◌≤◌, ◌<◌, ◌++◌, length, replicate, nat_lt};
+ghost use Rattle.std.specs.Prelude.{IfOk, OnOk, MatchOption};
 ghost use Rattle.dt_elf.specs.Executable.{executable};
 ghost use Rattle.dt_elf.specs.Stack.{invocation, aligned_address, pointer_below, args_start, terminated_words};
 ghost use Rattle.dt_elf.specs.Stack.{word_addresses, strings};
@@ -11,15 +12,17 @@ use crate::elf::Elf;
 use crate::layout::{
     AT_CLKTCK, AT_EGID, AT_ENTRY, AT_EUID, AT_EXECFN, AT_GID, AT_NULL, AT_PAGESZ, AT_PHDR,
     AT_PHENT, AT_PHNUM, AT_RANDOM, AT_SECURE, AT_UID, CLOCK_TICKS, HEADER_SIZE, RANDOM_SIZE,
-    ROOT_ID, STACK_ALIGN, STACK_START, STACK_TOP,
+    ROOT_ID, STACK_ALIGN, STACK_PAGES, STACK_START, STACK_TOP,
 };
 use dt_base::{ARGUMENT_LIMIT, Blob, Command, NoMemory, PAGE_SIZE, PATH_LIMIT};
 use std::alloc::Global;
 
-/// A stack: its pointer, and its bytes from its first address on.
+/// A stack: its pointer, how many pages of zeros lie below the page that holds this, and its bytes above them. The
+/// zeros are not laid out, since they are most of the stack.
 #[derive(Drop)]
 pub(crate) struct Stack {
     pub pointer: u64,
+    pub zero_pages: u64,
     pub contents: Vec<u8>,
 }
 
@@ -57,15 +60,22 @@ pub(crate) fn make_stack(
     requires short { length execfn.now ≤ PATH_LIMIT }
     ensures pointer { IfOk result (λ stack. stack.pointer
         ≡ stack_pointer (executable elf.now) headers (invocation command.now execfn.now random.now)) }
-    ensures contents { IfOk result (λ stack. stack.contents.items
+    ensures contents { IfOk result (λ stack. replicate (PAGE_SIZE * stack.zero_pages) 0 ++ stack.contents.items
         ≡ stack_contents (executable elf.now) headers (invocation command.now execfn.now random.now)) }
+    ensures zeros { IfOk result (λ stack. (0 < stack.zero_pages) × (stack.zero_pages ≤ STACK_PAGES)) }
 {
     let text = strings(alloc, command, execfn, random)?;
     let start = aligned_address(STACK_TOP - text.len() as u64);
     let words = words(alloc, elf, headers, command, execfn, start)?;
     let pointer = pointer_below(start, words.len() as u64);
-    let contents = lay_out(alloc, pointer, &words, start, &text)?;
-    Ok(Stack { pointer, contents })
+    let zero_pages = (pointer - STACK_START) / PAGE_SIZE;
+    let first = STACK_START + PAGE_SIZE * zero_pages;
+    let contents = lay_out(alloc, first, pointer, &words, start, &text)?;
+    Ok(Stack {
+        pointer,
+        zero_pages,
+        contents,
+    })
 }
 
 // The stack pointer, with so many words below the strings.
@@ -197,21 +207,24 @@ fn auxiliary_vector(elf: &Elf, headers: u16, start: u64) -> [u64; 28]
     ]
 }
 
-// The stack's bytes from its first address on.
+// The stack's bytes from an address on, below which they are zeros.
 fn lay_out(
     alloc: Global,
+    first: u64,
     pointer: u64,
     words: &[u64],
     start: u64,
     text: &[u8],
 ) -> Result<Vec<u8>, NoMemory>
-    requires above { STACK_START ≤ pointer }
+    requires above { STACK_START ≤ first }
+    requires below { first ≤ pointer }
     requires apart { pointer + 8 * length words.now ≤ start }
-    ensures { IfOk result (λ bytes. bytes.items ≡ stack_layout pointer words.now start text.now) }
+    ensures { IfOk result (λ bytes.
+        replicate (first - STACK_START) 0 ++ bytes.items ≡ stack_layout pointer words.now start text.now) }
 {
-    let mut bytes = vec![in alloc; 0; (pointer - STACK_START) as usize]?;
+    let mut bytes = vec![in alloc; 0; (pointer - first) as usize]?;
     push_words(&mut bytes, words)?;
-    bytes.resize((start - STACK_START) as usize, 0)?;
+    bytes.resize((start - first) as usize, 0)?;
     bytes.extend_from_slice(text)?;
     Ok(bytes)
 }
