@@ -1,5 +1,5 @@
 // The table of the pipes.
-ghost use Rattle.std.specs.Prelude.{◌≡◌, ℕ, ◌+◌, ◌<◌, ◌≤◌, ◌^◌, ◌==◌, ◌&&◌, ◌||◌, not, [], length, Some, IsOk, IsSome};
+ghost use Rattle.std.specs.Prelude.{◌≡◌, ℕ, ◌+◌, ◌<◌, ◌≤◌, ◌^◌, ◌==◌, ◌&&◌, ◌||◌, not, false, [], length, Some, IsOk, IsSome};
 ghost use Rattle.std.specs.Prelude.{IfOk, OnOk, IsErrOf};
 ghost use Rattle.std.specs.FinMap.{empty, get, insert, remove};
 ghost use Rattle.dt_host.specs.Cause.{HasCause};
@@ -151,6 +151,40 @@ impl Pipes {
         let Pipe { real, .. } = self.get(q);
         host.forget(real)?;
         self.pipes.take(u64::from(q));
+        Ok(())
+    }
+
+    /// Lets all pipes go, at the host too, which has none then.
+    pub fn clear<H: Host>(mut self, host: &mut H) -> Result<(), HostErr>
+        requires { Stands self (H.view host.old).pipes }
+        ensures cleared { OnOk result ((H.view host.new).pipes ≡ empty) }
+        ensures rest { OnlyPipes (H.view host.old) (H.view host.new) }
+        ensures cause { HasCause (H.count host.old) (H.count host.new)
+            (IsErrOf result HostErr.Failed) }
+    {
+        let _before = host.faults();
+        for q in FIRST_PIPE..self.next {
+            self.remove_at(host, q)?;
+        }
+        Ok(())
+    }
+
+    // Lets the pipe of a number go, if there is one.
+    fn remove_at<H: Host>(&mut self, host: &mut H, q: u32) -> Result<(), HostErr>
+        requires { Stands self.old (H.view host.old).pipes }
+        ensures gone { OnOk result (has_pipe self.new q ≡ false) }
+        ensures others { OnOk result
+            ((r : ℕ) → has_pipe self.old r ≡ false → has_pipe self.new r ≡ false) }
+        ensures next { self.new.next ≡ self.old.next }
+        ensures stands { OnOk result (Stands self.new (H.view host.new).pipes) }
+        ensures rest { OnlyPipes (H.view host.old) (H.view host.new) }
+        ensures cause { HasCause (H.count host.old) (H.count host.new)
+            (IsErrOf result HostErr.Failed) }
+    {
+        let _before = host.faults();
+        if self.pipes.contains(u64::from(q)) {
+            return self.remove(host, q);
+        }
         Ok(())
     }
 

@@ -3,3 +3,4 @@ pub mod Listed
 pub mod Standing
 pub mod Ending
 pub mod Lowest
+pub mod Cleared

@@ -34,7 +34,8 @@ unreal (row ∷ rows) pid zero d none below = grind (arith, nat_tests)
 unreal (row ∷ rows) pid (suc k) d none below =
     unreal rows pid k d (grind (arith, nat_tests)) (omega arith)
 
-none-host_pid : (rows : List MemberRow) (pid : ℕ) → All (λ row. pid ≢ row.host_pid) rows → has_host_pid rows pid ≡ false
+-- nobody has a pid at the host that all have others than
+pub none-host_pid : (rows : List MemberRow) (pid : ℕ) → All (λ row. pid ≢ row.host_pid) rows → has_host_pid rows pid ≡ false
 none-host_pid [] pid all = refl
 none-host_pid (row ∷ rows) pid all =
     let here : pid ≢ row.host_pid = all 0 row (omega arith) in

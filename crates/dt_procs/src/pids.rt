@@ -8,7 +8,8 @@ ghost use Rattle.dt_procs.specs.Members.{first_members, with_child, is_full, mem
 ghost use Rattle.dt_procs.specs.Members.{members_after_reap, without_member};
 ghost use Rattle.dt_procs.specs.Members.{is_got};
 ghost use Rattle.dt_procs.specs.Members.{member_at, parent_pid, end_of, has_live};
-ghost use Rattle.dt_procs.specs.Table.{members_of, Stands, IsTable};
+ghost use Rattle.dt_procs.specs.Table.{members_of, table_of, Stands, IsTable};
+ghost use Rattle.dt_base.specs.declared.limits.TheConstants.{FIRST_PID as FIRST};
 
 use crate::error::ProcErr;
 use crate::member::{Member, PID_LIMIT, PROCESS_LIMIT, Reaped};
@@ -181,6 +182,17 @@ impl Pids {
         Ok(())
     }
 
+    /// Lets all processes go, at the host too, which has no live pid then.
+    pub fn clear<H: Host>(self, host: &mut H) -> Result<(), HostErr>
+        requires { Stands self (H.view host.old).pids }
+        ensures cleared { OnOk result ((H.view host.new).pids ≡ empty) }
+        ensures rest { OnlyPids (H.view host.old) (H.view host.new) }
+        ensures cause { HasCause (H.count host.old) (H.count host.new)
+            (IsErrOf result HostErr.Failed) }
+    {
+        drop_pids(host, &self.rows)
+    }
+
     /// The pid of the parent of a process, a zombie's too; 0 at the first process (getppid(2)).
     #[tactic(auto, using(crate::proofs::Listed::by_rows))]
     pub fn parent(&self, vpid: u32) -> Option<u32>
@@ -219,4 +231,18 @@ impl Pids {
     {
         self.next
     }
+}
+
+// Lets the pids at the host of some processes go. It has no others.
+fn drop_pids<H: Host>(host: &mut H, rows: &[MemberRow]) -> Result<(), HostErr>
+    requires { Stands (table_of rows.now FIRST) (H.view host.old).pids }
+    ensures cleared { OnOk result ((H.view host.new).pids ≡ empty) }
+    ensures rest { OnlyPids (H.view host.old) (H.view host.new) }
+    ensures cause { HasCause (H.count host.old) (H.count host.new) (IsErrOf result HostErr.Failed) }
+{
+    let _before = host.faults();
+    for row in rows {
+        host.drop_pid(row.host_pid)?;
+    }
+    Ok(())
 }

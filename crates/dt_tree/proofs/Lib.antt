@@ -26,3 +26,4 @@ pub mod Entries
 pub mod Images
 pub mod Installing
 pub mod Parts
+pub mod Emptied

@@ -8,3 +8,4 @@ pub mod Places
 pub mod Files
 pub mod Moves
 pub mod Codes
+pub mod Emptied

@@ -2,6 +2,7 @@
 #![tactic(auto)]
 
 mod above;
+mod clear;
 mod hold;
 mod inode;
 mod inodes;

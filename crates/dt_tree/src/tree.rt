@@ -120,6 +120,13 @@ impl Tree {
         self.inodes.len() as u64
     }
 
+    // The inode of the next new node, which is above all others.
+    pub(crate) fn next_inode(&self) -> u64
+        ensures { result ≡ self.now.next }
+    {
+        self.next
+    }
+
     // How many names there are in all.
     pub(crate) fn names(&self) -> u64
         ensures { result ≡ self.now.names }
