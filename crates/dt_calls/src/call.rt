@@ -15,6 +15,7 @@ mod files;
 mod identity;
 mod kill;
 mod memory;
+mod newborn;
 mod signals;
 mod wait;
 
@@ -32,6 +33,7 @@ use dt_host::{Host, HostErr};
 use dt_rv64::{Machine, Stop};
 use dt_signals::Delivery;
 pub use effect::Effect;
+pub use newborn::Newborn;
 use std::alloc::Global;
 
 /// Serves a stop, and delivers a signal to the process where there is one: that of a fault, or a pending one.

@@ -1,5 +1,5 @@
 // A container as a whole: its start, the launch of its program, and the turns of its processes.
-ghost use Rattle.std.specs.Prelude.{◌≡◌, [], None, Some, IsSome, IfOk, IsErrOf};
+ghost use Rattle.std.specs.Prelude.{◌≡◌, [], None, Some, IsSome, IfOk, OnOk, IsErrOf};
 ghost use Rattle.std.specs.FinMap.{get, insert, remove};
 ghost use Rattle.dt_host.specs.Cause.{HasCause};
 ghost use Rattle.dt_host.specs.World.{IsEmptyStart};
@@ -227,6 +227,16 @@ impl Container {
         ensures { result.now ≡ self.now.shared.fs.tree }
     {
         &self.shared.fs.tree
+    }
+
+    /// Lets all that the container has at its host go. The host is then as at the start: it has a root without entries
+    /// and no other node, no pipe, and no live pid.
+    pub fn clear<H: Host>(self, host: &mut H) -> Result<(), HostErr>
+        requires { IsSoundContainer self (H.view host.old) }
+        ensures empty { OnOk result (IsEmptyStart (H.view host.new)) }
+        ensures cause { HasCause (H.count host.old) (H.count host.new) (IsErrOf result HostErr.Failed) }
+    {
+        self.shared.clear(host)
     }
 
     /// How a process ended, if it is there and has.

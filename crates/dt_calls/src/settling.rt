@@ -8,9 +8,9 @@ ghost use Rattle.dt_calls.specs.Ends.{has_ended};
 ghost use Rattle.dt_calls.specs.InCode.{places_after_turn, with_child_place};
 ghost use Rattle.dt_calls.specs.Sound.{IsPaired};
 
+use crate::call::Newborn;
 use crate::container::{Container, Served};
 use dt_base::NoMemory;
-use dt_rv64::Machine;
 use dt_tables::Numbered;
 
 impl Container {
@@ -20,7 +20,7 @@ impl Container {
         vpid: u32,
         next: u32,
         served: Served,
-        child: Option<Machine>,
+        child: Option<Newborn>,
     ) -> Result<(), NoMemory>
         ensures { OnOk result (self.new ≡ record self.old {
           places = places_after_turn self.old.places next vpid served child;
@@ -46,11 +46,14 @@ impl Container {
     }
 
     // A child gets a place for its machine.
-    fn enter(&mut self, next: u32, child: Option<Machine>) -> Result<(), NoMemory>
+    fn enter(&mut self, next: u32, child: Option<Newborn>) -> Result<(), NoMemory>
         ensures { OnOk result (self.new ≡ record self.old { places = with_child_place self.old.places next child }) }
     {
         match child {
-            Some(machine) => self.places.put(u64::from(next), Some(machine))?,
+            Some(newborn) => {
+                self.places
+                    .put(u64::from(next), Some(newborn.into_machine()))?;
+            }
             None => {}
         }
         Ok(())

@@ -1,8 +1,9 @@
 // What the processes of a container share, and the task of each.
-ghost use Rattle.std.specs.Prelude.{◌≡◌, ◌+◌, ◌≤◌, List, IsSome, IfOk, IsErrOf};
+ghost use Rattle.std.specs.Prelude.{◌≡◌, ◌+◌, ◌≤◌, List, IsSome, IfOk, OnOk, IsErrOf};
 ghost use Rattle.std.specs.FinMap.{empty, get};
 ghost use Rattle.std.specs.FinSet as pid_set;
 ghost use Rattle.dt_host.specs.Cause.{HasCause};
+ghost use Rattle.dt_host.specs.World.{IsEmptyStart};
 ghost use Rattle.dt_base.specs.declared.abi.TheConstants.{SIGNAL_LIMIT};
 ghost use Rattle.dt_base.specs.declared.image.Entry.{Entry};
 ghost use Rattle.dt_tree.specs.ImageTree.{image_tree};
@@ -65,6 +66,19 @@ impl Shared {
             pids,
             tasks,
         })
+    }
+
+    /// Lets the tree, the pipes and the pids go at the host, which has no others.
+    pub fn clear<H: Host>(self, host: &mut H) -> Result<(), HostErr>
+        requires { IsSound self (H.view host.old) }
+        ensures empty { OnOk result (IsEmptyStart (H.view host.new)) }
+        ensures cause { HasCause (H.count host.old) (H.count host.new) (IsErrOf result HostErr.Failed) }
+    {
+        let Shared { fs, pids, .. } = self;
+        let Fs { tree, files, .. } = fs;
+        tree.clear(host)?;
+        files.pipes.clear(host)?;
+        pids.clear(host)
     }
 
     /// The working directory of a live process, by its inode.

@@ -10,7 +10,7 @@ ghost use Rattle.dt_calls.specs.Container.{task_in};
 ghost use Rattle.dt_calls.specs.InCode.{shared_of};
 ghost use Rattle.dt_calls.specs.Sound.{IsSound, HasEffect, left};
 
-use super::Effect;
+use super::{Effect, Newborn};
 use crate::container::Served;
 use crate::shared::Shared;
 use dt_base::abi::{
@@ -111,7 +111,7 @@ fn copy_machine(alloc: Global, machine: &mut Machine, vpid: u32) -> Result<Effec
         vpid,
     )?;
     Ok(Effect {
-        child: Some(child),
+        child: Some(Newborn::new(alloc, child)?),
         events: Vec::new(alloc),
         served: Served::Child(vpid),
     })

@@ -12,6 +12,7 @@ ghost use Rattle.dt_calls.specs.InCode.{shared_of, effect_as};
 ghost use Rattle.dt_calls.specs.Settle.{is_end_of_all};
 ghost use Rattle.dt_calls.specs.Sound.{IsSound, HasEffect, left};
 
+use super::Newborn;
 use crate::container::Served;
 use crate::shared::Shared;
 use dt_base::{Blob, End, Errno, Event, FIRST_PID, NoMemory};
@@ -23,7 +24,7 @@ use std::alloc::Global;
 #[derive(Drop)]
 pub struct Effect {
     /// The machine of a child.
-    pub child: Option<Machine>,
+    pub child: Option<Newborn>,
     pub events: Vec<Event>,
     pub served: Served,
 }
