@@ -21,12 +21,11 @@ use Rattle.dt_host.proofs.Spots.{IsDir-entry}
 use Rattle.dt_tables.proofs.Conjuncts.{first, second, either-last}
 use Rattle.dt_tree.specs.Above.{joined_names}
 use Rattle.dt_tree.specs.FileTree.{Attributes, FileTree, IsTree, IsGoodNode}
-use Rattle.dt_image.specs.Paths.{node_from_root, LeadsTo, paths_to, paths_of}
+use Rattle.dt_image.specs.Paths.{node_from_root, LeadsTo, paths_to, paths_of, path_pair}
 use Rattle.dt_image.proofs.Children.{unmap, live_paths}
 use Rattle.dt_image.proofs.Leading.{exact_paths}
 use Rattle.dt_tree.specs.declared.limits.TheConstants.{NODE_LIMIT}
-use Rattle.dt_export.specs.declared.paths.TreePath.{TreePath}
-use Rattle.dt_export.specs.inner.PathView.{path_pair}
+use Rattle.dt_image.specs.declared.paths.TreePath.{TreePath}
 use Rattle.dt_export.specs.declared.refusal.ExportRefusal.{ExportRefusal}
 use Rattle.dt_export.specs.declared.refusal.ExportRefusal.TheVariants.{LongPath, TooMany}
 use Rattle.dt_export.specs.ExportedImage.{what_of, mode_at, what_at, entry_at, exported_entries, has_long_path, has_too_many_paths, path_refusal, unless_refused, image_of_tree}

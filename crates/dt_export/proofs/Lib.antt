@@ -1,7 +1,9 @@
 pub mod BlobNames
+pub mod Counted
 pub mod Exported
 pub mod Gathered
 pub mod GoodPaths
+pub mod Listed
 pub mod Nodes
 pub mod Objects
 pub mod Prepared

@@ -19,13 +19,12 @@ use Rattle.dt_tables.proofs.Conjuncts.{either-last}
 use Rattle.dt_tables.proofs.Maps.{at_insert, get-insert_same, get-insert_other, names_tie}
 use Rattle.dt_tree.specs.FileTree.{FileTree}
 use Rattle.dt_image.specs.ImageOf.{name_below}
-use Rattle.dt_image.specs.Paths.{paths_of}
+use Rattle.dt_image.specs.Paths.{paths_of, path_pair}
 use Rattle.dt_export.specs.ExportedIndex.{blob_name}
-use Rattle.dt_export.specs.ExportedFiles.{is_file, exported_inodes, blob_at, exported_files, with_file, with_files}
+use Rattle.dt_export.specs.ExportedFiles.{is_file, exported_inodes, blob_at, exported_files, with_file_in, with_files}
 use Rattle.dt_export.specs.inner.Held.{HasExport}
 use Rattle.dt_export.specs.inner.Inodes.{with_inode}
-use Rattle.dt_export.specs.inner.PathView.{path_pair}
-use Rattle.dt_export.specs.declared.paths.TreePath.{TreePath}
+use Rattle.dt_image.specs.declared.paths.TreePath.{TreePath}
 use Rattle.dt_export.proofs.Gathered.{is_among, same_inodes}
 
 -- names in a folder are one only if the files' names are
@@ -133,7 +132,7 @@ module _ (t : FileTree) (folder : List ℕ) where
   abbrev Stood : StoreFiles → ℕ → Type 0
   Stood files n = get files (name_below folder (blob_name n)) ≡ Some (content t.shape n)
 
-  still : (files : StoreFiles) (m n : ℕ) → m < 2 ^ 64 → n < 2 ^ 64 → Stood files n → Stood (with_file folder files (blob_at t m)) n
+  still : (files : StoreFiles) (m n : ℕ) → m < 2 ^ 64 → n < 2 ^ 64 → Stood files n → Stood (with_file_in folder files (blob_at t m)) n
   still files m n small_m small_n h =
       at_insert nat_list_cmp_total names_tie (λ found. found ≡ Some (content t.shape n)) files (name_below folder (blob_name m)) (content t.shape m) (name_below folder (blob_name n))
       (λ same. ap (λ n. Some (content t.shape n)) (sym (blob_same n m small_n small_m (below_same folder (blob_name n) (blob_name m) same))))
@@ -143,27 +142,27 @@ module _ (t : FileTree) (folder : List ℕ) where
   stood n small [] all files (inl there) = absurd (cc)
   stood n small [] all files (inr h) = h
   stood n small (m ∷ ns) all files (inr h) =
-      stood n small ns (All-tail (λ (m : ℕ). m < 2 ^ 64) m ns all) (with_file folder files (blob_at t m)) (inr (still files m n (All-head (λ (m : ℕ). m < 2 ^ 64) m ns all) small h))
-  stood n small (m ∷ ns) all files (inl there) = stood n small ns (All-tail (λ (m : ℕ). m < 2 ^ 64) m ns all) (with_file folder files (blob_at t m)) (by_first (n == m) refl there)
+      stood n small ns (All-tail (λ (m : ℕ). m < 2 ^ 64) m ns all) (with_file_in folder files (blob_at t m)) (inr (still files m n (All-head (λ (m : ℕ). m < 2 ^ 64) m ns all) small h))
+  stood n small (m ∷ ns) all files (inl there) = stood n small ns (All-tail (λ (m : ℕ). m < 2 ^ 64) m ns all) (with_file_in folder files (blob_at t m)) (by_first (n == m) refl there)
     where
-      by_first : (b : Bool) → (n == m) ≡ b → (b || is_among n ns) ≡ true → (is_among n ns ≡ true) ⊎ Stood (with_file folder files (blob_at t m)) n
+      by_first : (b : Bool) → (n == m) ≡ b → (b || is_among n ns) ≡ true → (is_among n ns ≡ true) ⊎ Stood (with_file_in folder files (blob_at t m)) n
       by_first true is there =
           let same = eqb-true n m is in
-          inr (subst (λ n. Stood (with_file folder files (blob_at t m)) n) (sym same) (get-insert_same nat_list_cmp_total names_tie files (name_below folder (blob_name m)) (content t.shape m)))
+          inr (subst (λ n. Stood (with_file_in folder files (blob_at t m)) n) (sym same) (get-insert_same nat_list_cmp_total names_tie files (name_below folder (blob_name m)) (content t.shape m)))
       by_first false is there = inl there
 
   has_blob : (files : StoreFiles) (text : List ℕ) (n : ℕ) → Stood (with_files files folder (map (blob_at t) (exported_inodes t))) n → Stood (with_files files folder (exported_files t text)) n
   has_blob files text n h =
       let blobs = map (blob_at t) (exported_inodes t) in
       let apart = λ (same : name_below folder (blob_name n) ≡ name_below folder (codes "image.json")). index_apart n (below_same folder (blob_name n) (codes "image.json") same) in
-      ap (λ files. get files (name_below folder (blob_name n))) (fold-append (with_file folder) files blobs ((codes "image.json", text) ∷ []))
+      ap (λ files. get files (name_below folder (blob_name n))) (fold-append (with_file_in folder) files blobs ((codes "image.json", text) ∷ []))
       ∙ get-insert_other nat_list_cmp_total names_tie (with_files files folder blobs) (name_below folder (codes "image.json")) text (name_below folder (blob_name n)) apart
       ∙ h
 
   pub has_export : (files : StoreFiles) (text : List ℕ) → All (λ n. n < 2 ^ 64) (exported_inodes t) → HasExport (with_files files folder (exported_files t text)) folder text t
   unfolding content
   has_export files text small = record {
-    index = ap (λ files. get files (name_below folder (codes "image.json"))) (fold-append (with_file folder) files (map (blob_at t) (exported_inodes t)) ((codes "image.json", text) ∷ []))
+    index = ap (λ files. get files (name_below folder (codes "image.json"))) (fold-append (with_file_in folder) files (map (blob_at t) (exported_inodes t)) ((codes "image.json", text) ∷ []))
         ∙ get-insert_same nat_list_cmp_total names_tie (with_files files folder (map (blob_at t) (exported_inodes t))) (name_below folder (codes "image.json")) text;
     blobs = λ path n there. by_file path n there (file_at t.shape n) refl;
   }

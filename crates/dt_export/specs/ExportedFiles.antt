@@ -1,8 +1,8 @@
 -- The files that an export puts into a folder of a store.
 use Rattle.std.specs.Prelude.{ℕ, Bool, ◌&&◌, ◌==◌, List, [], ◌∷◌, ◌++◌, map, fold, codes, is_some, Result}
 use Rattle.std.specs.List.{filter, list_any}
-use Rattle.std.specs.FinMap.{get, insert, entries}
-use Rattle.dt_host.specs.Store.{StoreFiles}
+use Rattle.std.specs.FinMap.{get, entries}
+use Rattle.dt_host.specs.Store.{StoreFiles, with_file}
 use Rattle.dt_host.specs.World.{Forest, file_at, content}
 use Rattle.dt_tree.specs.FileTree.{FileTree}
 use Rattle.dt_image.specs.ImageOf.{name_below}
@@ -41,9 +41,9 @@ abbrev pub exported_files : FileTree → List ℕ → List (List ℕ × List ℕ
 exported_files t text = map (blob_at t) (exported_inodes t) ++ (codes "image.json", text) ∷ []
 
 -- what a store has after a file was put into a folder
-abbrev pub with_file : List ℕ → StoreFiles → List ℕ × List ℕ → StoreFiles
-with_file folder files put = insert files (name_below folder put.0) put.1
+abbrev pub with_file_in : List ℕ → StoreFiles → List ℕ × List ℕ → StoreFiles
+with_file_in folder files put = with_file files (name_below folder put.0) put.1
 
 -- and after these were put, one after the other
 abbrev pub with_files : StoreFiles → List ℕ → List (List ℕ × List ℕ) → StoreFiles
-with_files files folder puts = fold (with_file folder) files puts
+with_files files folder puts = fold (with_file_in folder) files puts

@@ -3,4 +3,5 @@ pub mod ExportedImage
 pub mod ExportedIndex
 pub mod ExportedFiles
 pub mod ReadBack
+pub mod Steps
 pub mod inner

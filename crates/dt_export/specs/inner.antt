@@ -2,4 +2,3 @@
 pub mod Errors
 pub mod Held
 pub mod Inodes
-pub mod PathView

@@ -4,16 +4,15 @@ ghost use Rattle.std.specs.List.{All};
 ghost use Rattle.dt_host.specs.Asks.{Asks, AsksOr};
 ghost use Rattle.dt_host.specs.World.{IsLive};
 ghost use Rattle.dt_tree.specs.Table.{Stands, shape_of, tree_of};
-ghost use Rattle.dt_image.specs.Paths.{paths_of};
+ghost use Rattle.dt_image.specs.Paths.{paths_of, path_pair};
 ghost use Rattle.dt_export.specs.declared.refusal.ExportRefusal.{ExportRefusal};
 ghost use Rattle.dt_export.specs.ExportedImage.{image_of_tree, exported_entries, entry_at, what_at, path_refusal};
-ghost use Rattle.dt_export.specs.inner.PathView.{path_pair};
 
 use crate::limits::path_refusal;
-use crate::paths::{TreePath, paths_of};
 use crate::refusal::ExportErr;
 use dt_base::{Blob, Entry, Image, What};
 use dt_host::{Host, HostErr};
+use dt_image::{TreePath, paths_of};
 use dt_tree::Tree;
 use std::alloc::Global;
 

@@ -3,11 +3,11 @@ ghost use Rattle.std.specs.Prelude.{◌≡◌, nat_lt, length, map};
 ghost use Rattle.std.specs.List.{list_any};
 ghost use Rattle.dt_base.specs.declared.limits.TheConstants.{PATH_LIMIT};
 ghost use Rattle.dt_export.specs.ExportedImage.{path_refusal};
-ghost use Rattle.dt_export.specs.inner.PathView.{path_pair};
+ghost use Rattle.dt_image.specs.Paths.{path_pair};
 
-use crate::paths::TreePath;
 use crate::refusal::ExportRefusal;
 use dt_base::{ENTRY_LIMIT, PATH_LIMIT};
+use dt_image::TreePath;
 
 /// Why no image has these paths; None where one may have them.
 pub fn path_refusal(paths: &[TreePath]) -> Option<ExportRefusal>

@@ -6,6 +6,7 @@ use Rattle.std.specs.FinMap.{empty, entries, insert}
 use Rattle.dt_host.specs.World.{Forest, Names, names_at, entry}
 use Rattle.dt_tree.specs.Above.{joined_names}
 use Rattle.dt_tree.specs.declared.limits.TheConstants.{NODE_LIMIT}
+use Rattle.dt_image.specs.declared.paths.TreePath.{TreePath}
 
 -- the node that names lead to from a node: each is an entry of the directory that those before it led to; none where one is
 -- missing. No link is followed
@@ -43,3 +44,7 @@ paths_to v (suc depth) = fold with_path (paths_to v depth) (level v (suc depth))
 -- exactly the paths that lead to a node (the clause `exact` of `tree_lines`)
 unfoldable pub paths_of : Forest → List (List ℕ × ℕ)
 paths_of v = entries (paths_to v NODE_LIMIT)
+
+-- a path with the inode that it leads to, as the code has it in hand
+abbrev pub path_pair : TreePath → List ℕ × ℕ
+path_pair at = (at.path, at.inode)

@@ -4,7 +4,6 @@ ghost use Rattle.std.specs.Prelude.{IsErrOf, IsTrue};
 ghost use Rattle.std.specs.List.{list_all};
 ghost use Rattle.std.specs.List.Sorted.{IsStrictlySortedBy};
 ghost use Rattle.std.specs.FinMap.{get};
-ghost use Rattle.serde_json.specs.Read.{read};
 ghost use Rattle.serde_json.specs.View.{view};
 ghost use Rattle.dt_base.specs.declared.refusal.Refusal.{Refusal};
 ghost use Rattle.dt_host.specs.Asks.{AsksOr};
@@ -15,11 +14,12 @@ ghost use Rattle.dt_image.specs.ImageOf.{name_below, value_of, image_by, image_o
 use crate::blobs::with_blobs;
 use crate::folder::{bytes_in, name_below, size_in};
 use crate::index::{EntryRef, index_of, is_good};
+use crate::json::parse;
 use crate::order::sorted;
 use crate::parents::have_parents;
 use dt_base::{INDEX_LIMIT, Image, ImageErr, Refusal};
 use dt_host::Store;
-use serde_json::{Category, Value};
+use serde_json::Value;
 use std::alloc::Global;
 
 /// Reads the image of a folder: `image.json`, and the blobs of the files that it lists.
@@ -30,7 +30,7 @@ pub fn read_image<S: Store>(alloc: Global, store: &mut S, folder: &str) -> Resul
     ensures asks { AsksOr S.told S.count ImageErr.Store store.old store.new result }
 {
     let bytes = read_index(alloc, store, folder)?;
-    let index = parse(alloc, &bytes)?;
+    let index = parse_index(alloc, &bytes)?;
     match index_of(alloc, &index)? {
         Some(entries) => read_entries(alloc, store, folder, &entries),
         None => Err(ImageErr::Refused(Refusal::BadIndex)),
@@ -66,29 +66,16 @@ fn index_bytes<S: Store>(alloc: Global, store: &mut S, name: &str) -> Result<Vec
 }
 
 // The JSON value of an index.
-fn parse(alloc: Global, bytes: &[u8]) -> Result<Value, ImageErr>
+fn parse_index(alloc: Global, bytes: &[u8]) -> Result<Value, ImageErr>
     requires { length bytes.now ≤ INDEX_LIMIT }
     ensures ok { IfOk result (λ value. value_of bytes.now ≡ Some (view value)) }
     ensures refused { (r : Refusal) → result ≡ Err (ImageErr.Refused r) →
         (r ≡ Refusal.BadIndex) × (value_of bytes.now ≡ None) }
     ensures answered { IsErrOf result ImageErr.Store → ⊥ }
 {
-    match str::from_utf8(bytes) {
-        Ok(text) => parse_text(alloc, text),
-        Err(_) => Err(ImageErr::Refused(Refusal::BadIndex)),
-    }
-}
-
-fn parse_text(alloc: Global, text: &str) -> Result<Value, ImageErr>
-    ensures ok { IfOk result (λ value. read text.now ≡ Some (view value)) }
-    ensures refused { (r : Refusal) → result ≡ Err (ImageErr.Refused r) →
-        (r ≡ Refusal.BadIndex) × (read text.now ≡ None) }
-    ensures answered { IsErrOf result ImageErr.Store → ⊥ }
-{
-    match Value::from_str(alloc, text) {
-        Ok(value) => Ok(value),
-        Err(error) if error.classify() == Category::Memory => Err(ImageErr::NoMemory),
-        Err(_) => Err(ImageErr::Refused(Refusal::BadIndex)),
+    match parse(alloc, bytes)? {
+        Some(value) => Ok(value),
+        None => Err(ImageErr::Refused(Refusal::BadIndex)),
     }
 }
 

@@ -177,7 +177,8 @@ fn is_target(target: &[u8]) -> bool
     1 <= target.len() && target.len() as u64 <= PATH_LIMIT && has_no_nul(target)
 }
 
-fn is_blob_name(name: &[u8]) -> bool
+/// Whether a blob may have this name: 1 to 255 letters and digits of ASCII, `.`, `_` and `-`, the first no `.`.
+pub fn is_blob_name(name: &[u8]) -> bool
     ensures { result ≡ is_blob_name name.now }
 {
     1 <= name.len()

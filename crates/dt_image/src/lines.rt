@@ -7,10 +7,9 @@ ghost use Rattle.sha2.specs.Sha256.{sha256};
 ghost use Rattle.dt_host.specs.Asks.{Asks};
 ghost use Rattle.dt_host.specs.World.{IsLive};
 ghost use Rattle.dt_tree.specs.Table.{Stands, shape_of, tree_of};
-ghost use Rattle.dt_image.specs.Paths.{LeadsTo, paths_of};
+ghost use Rattle.dt_image.specs.Paths.{LeadsTo, paths_of, path_pair};
 ghost use Rattle.dt_image.specs.Report.{escaped_set, is_escaped, file_line, dir_line, link_line, mode_text, path_line};
 ghost use Rattle.dt_image.specs.Report.{tree_header, tree_text};
-ghost use Rattle.dt_image.specs.inner.PathView.{path_pair};
 
 use crate::paths::{TreePath, paths_of};
 use dt_base::{Blob, NoMemory};

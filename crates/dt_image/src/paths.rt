@@ -6,8 +6,8 @@ ghost use Rattle.dt_host.specs.Asks.{Asks};
 ghost use Rattle.dt_tables.specs.Entries.{map_of};
 ghost use Rattle.dt_tree.specs.declared.limits.TheConstants.{NODE_LIMIT, ROOT};
 ghost use Rattle.dt_tree.specs.Table.{Stands, shape_of};
-ghost use Rattle.dt_image.specs.Paths.{paths_below, paths_to, paths_of, with_path};
-ghost use Rattle.dt_image.specs.inner.PathView.{path_pair, paths_in, listed_path, IsPlaced};
+ghost use Rattle.dt_image.specs.Paths.{paths_below, paths_to, paths_of, with_path, path_pair};
+ghost use Rattle.dt_image.specs.inner.PathView.{paths_in, listed_path, IsPlaced};
 
 use dt_base::{Blob, NoMemory};
 use dt_host::{Host, HostErr};

@@ -5,11 +5,6 @@ use Rattle.dt_tables.specs.Entries.{map_of}
 use Rattle.dt_host.specs.World.{Forest, Names}
 use Rattle.dt_tree.specs.declared.list.Listed.{Listed}
 use Rattle.dt_tree.specs.Shape.{is_removed}
-use Rattle.dt_image.specs.declared.paths.TreePath.{TreePath}
-
--- a path with the inode that it leads to
-abbrev pub path_pair : TreePath → List ℕ × ℕ
-path_pair at = (at.path, at.inode)
 
 -- the inodes by path
 abbrev pub paths_in : BTreeMap (List ℕ) ℕ → Names

@@ -2,7 +2,7 @@ use Rattle.std.proofs.Common.{◌≡◌, Some, Ok, map, sym, ap, ◌∙◌}
 use Rattle.dt_host.specs.World.{World}
 use Rattle.dt_tree.specs.Table.{tree_of}
 use Rattle.dt_export.specs.ExportedImage.{exported_entries}
-use Rattle.dt_export.specs.inner.PathView.{path_pair}
+use Rattle.dt_image.specs.Paths.{path_pair}
 use Rattle.dt_export.proofs.Exported.{some_image, no_image}
 use Rattle.dt_export.proofs.image.image_of_tree.Goals as goal
 

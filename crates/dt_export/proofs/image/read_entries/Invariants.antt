@@ -1,7 +1,7 @@
 use Rattle.std.proofs.Common.{◌≡◌, ◌≤◌, map, take}
 use Rattle.dt_tree.specs.Table.{tree_of}
 use Rattle.dt_export.specs.ExportedImage.{entry_at}
-use Rattle.dt_export.specs.inner.PathView.{path_pair}
+use Rattle.dt_image.specs.Paths.{path_pair}
 use Rattle.dt_export.proofs.image.read_entries.Given as goal
 
 -- the entries of the paths so far, and the host keeps what it kept

@@ -3,10 +3,10 @@ use Rattle.std.proofs.lemmas.List.Folds.{list_all-map, list_all_at}
 use Rattle.dt_host.specs.World.{World}
 use Rattle.dt_host.proofs.Asking.{passed_on}
 use Rattle.dt_tree.specs.Table.{tree_of}
-use Rattle.dt_export.specs.declared.paths.TreePath.{TreePath}
+use Rattle.dt_image.specs.declared.paths.TreePath.{TreePath}
 use Rattle.dt_export.specs.ExportedImage.{entry_at}
 use Rattle.dt_export.specs.ExportedIndex.{is_text_entry}
-use Rattle.dt_export.specs.inner.PathView.{path_pair}
+use Rattle.dt_image.specs.Paths.{path_pair}
 use Rattle.dt_export.proofs.index.index_objects.Goals as goal
 
 pub returns-in_err-object_at-clause-refused : goal.returns-in_err-object_at-clause-refused

@@ -4,7 +4,7 @@ use Rattle.serde_json.specs.View.{view}
 use Rattle.dt_tree.specs.Table.{tree_of}
 use Rattle.dt_export.specs.ExportedImage.{entry_at}
 use Rattle.dt_export.specs.ExportedIndex.{object_at, is_text_entry}
-use Rattle.dt_export.specs.inner.PathView.{path_pair}
+use Rattle.dt_image.specs.Paths.{path_pair}
 use Rattle.dt_export.proofs.index.index_objects.Given as goal
 
 -- the objects of the paths so far, all of which are texts, and the host keeps what it kept

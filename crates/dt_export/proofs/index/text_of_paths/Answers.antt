@@ -8,7 +8,7 @@ use Rattle.dt_tree.specs.Table.{tree_of}
 use Rattle.dt_export.specs.declared.refusal.ExportRefusal.TheVariants.{BigIndex}
 use Rattle.dt_export.specs.ExportedImage.{entry_at}
 use Rattle.dt_export.specs.ExportedIndex.{object_at, index_of_objects, is_text_entry}
-use Rattle.dt_export.specs.inner.PathView.{path_pair}
+use Rattle.dt_image.specs.Paths.{path_pair}
 use Rattle.dt_export.proofs.Exported.{live_shown}
 use Rattle.dt_export.proofs.Objects.{no_floats, all_flat, other_index, big_index, some_index}
 use Rattle.dt_image.specs.ImageOf.{value_of}

@@ -5,7 +5,7 @@ use Rattle.std.proofs.lemmas.List.Sums.{fold_more}
 use Rattle.std.specs.BTreeSet.{keys}
 use Rattle.dt_host.specs.World.{Forest, IsLive}
 use Rattle.dt_tree.specs.Table.{shape_of}
-use Rattle.dt_export.specs.declared.paths.TreePath.{TreePath}
+use Rattle.dt_image.specs.declared.paths.TreePath.{TreePath}
 use Rattle.dt_export.specs.inner.Inodes.{with_inode}
 use Rattle.dt_export.proofs.Put.{path_by_path}
 use Rattle.dt_export.proofs.prepare.inodes_of_files.Goals as goal

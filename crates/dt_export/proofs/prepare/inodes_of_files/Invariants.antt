@@ -3,7 +3,7 @@ use Rattle.std.specs.List.{All}
 use Rattle.std.specs.BTreeSet.{keys}
 use Rattle.dt_host.specs.World.{Forest, IsLive}
 use Rattle.dt_tree.specs.Table.{Stands, shape_of}
-use Rattle.dt_export.specs.declared.paths.TreePath.{TreePath}
+use Rattle.dt_image.specs.declared.paths.TreePath.{TreePath}
 use Rattle.dt_export.specs.inner.Inodes.{with_inode}
 use Rattle.dt_export.proofs.prepare.inodes_of_files.Given as goal
 

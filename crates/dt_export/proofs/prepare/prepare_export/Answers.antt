@@ -1,6 +1,6 @@
 use Rattle.std.proofs.Common.{◌≡◌, Some, map, sym, ap, ◌∙◌}
 use Rattle.dt_tree.specs.Table.{tree_of}
-use Rattle.dt_export.specs.inner.PathView.{path_pair}
+use Rattle.dt_image.specs.Paths.{path_pair}
 use Rattle.dt_export.proofs.Prepared.{refused_text}
 use Rattle.dt_export.proofs.prepare.prepare_export.Goals as goal
 

@@ -7,7 +7,7 @@ use Rattle.dt_export.specs.ExportedIndex.{exported_index}
 use Rattle.dt_export.specs.ExportedFiles.{exported_files, with_files}
 use Rattle.dt_export.specs.ReadBack.{IsReadAs}
 use Rattle.dt_export.specs.inner.Inodes.{inodes_of_files}
-use Rattle.dt_export.specs.inner.PathView.{path_pair}
+use Rattle.dt_image.specs.Paths.{path_pair}
 use Rattle.dt_export.proofs.Exported.{live_shown, some_image}
 use Rattle.dt_export.proofs.Gathered.{same_inodes}
 use Rattle.dt_export.proofs.Prepared.{some_text}

@@ -3,7 +3,7 @@ use Rattle.std.specs.List.{All}
 use Rattle.dt_host.specs.World.{World, IsLive}
 use Rattle.dt_tree.specs.Table.{shape_of, tree_of}
 use Rattle.dt_image.specs.declared.paths.TreePath.{TreePath}
-use Rattle.dt_image.specs.inner.PathView.{path_pair}
+use Rattle.dt_image.specs.Paths.{path_pair}
 use Rattle.dt_image.proofs.Children.{unmap, live_paths}
 use Rattle.dt_image.proofs.Leading.{exact_paths}
 use Rattle.dt_image.proofs.lines.tree_lines.Goals as goal

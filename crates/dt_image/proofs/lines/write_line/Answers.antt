@@ -2,7 +2,7 @@ use Rattle.std.proofs.Common.{◌++◌, ℕ, List, sym, ap, ◌∙◌}
 use Rattle.dt_host.specs.World.{World, content}
 use Rattle.dt_tree.specs.Table.{shape_of, tree_of}
 use Rattle.dt_image.specs.Report.{file_line}
-use Rattle.dt_image.specs.inner.PathView.{path_pair}
+use Rattle.dt_image.specs.Paths.{path_pair}
 use Rattle.dt_image.proofs.Shown.{line_of_file}
 use Rattle.dt_image.proofs.lines.write_line.Goals as goal
 

@@ -2,7 +2,7 @@ use Rattle.std.proofs.Common.{◌≡◌, ◌≤◌, ◌++◌, map, take}
 use Rattle.std.specs.List.{flat_map}
 use Rattle.dt_tree.specs.Table.{tree_of}
 use Rattle.dt_image.specs.Report.{path_line}
-use Rattle.dt_image.specs.inner.PathView.{path_pair}
+use Rattle.dt_image.specs.Paths.{path_pair}
 use Rattle.dt_image.proofs.lines.write_lines.Given as goal
 
 -- the lines of the paths so far, and the host keeps what it kept

@@ -1,6 +1,7 @@
 use Rattle.std.proofs.Common.{◌++◌, ◌-◌, ◌^◌, map, sym, ap, ◌∙◌, arith, append-nil}
 use Rattle.dt_tree.specs.Table.{shape_of, tree_of}
-use Rattle.dt_image.specs.inner.PathView.{path_pair, listed_path}
+use Rattle.dt_image.specs.Paths.{path_pair}
+use Rattle.dt_image.specs.inner.PathView.{listed_path}
 use Rattle.dt_image.proofs.Children.{listed_after, below_listed, none_below}
 use Rattle.dt_image.proofs.paths.add_below.Goals as goal
 

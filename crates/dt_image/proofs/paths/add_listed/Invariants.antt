@@ -1,5 +1,6 @@
 use Rattle.std.proofs.Common.{◌≡◌, ◌++◌, map, take}
-use Rattle.dt_image.specs.inner.PathView.{path_pair, listed_path}
+use Rattle.dt_image.specs.Paths.{path_pair}
+use Rattle.dt_image.specs.inner.PathView.{listed_path}
 use Rattle.dt_image.proofs.paths.add_listed.Given as goal
 
 -- the entries so far

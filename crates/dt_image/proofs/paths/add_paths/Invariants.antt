@@ -1,6 +1,6 @@
 use Rattle.std.proofs.Common.{◌≡◌, map, fold, take}
-use Rattle.dt_image.specs.Paths.{with_path}
-use Rattle.dt_image.specs.inner.PathView.{path_pair, paths_in}
+use Rattle.dt_image.specs.Paths.{with_path, path_pair}
+use Rattle.dt_image.specs.inner.PathView.{paths_in}
 use Rattle.dt_image.proofs.paths.add_paths.Given as goal
 
 -- the paths so far

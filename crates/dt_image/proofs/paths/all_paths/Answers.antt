@@ -5,8 +5,8 @@ use Rattle.dt_host.specs.World.{World}
 use Rattle.dt_tables.proofs.MapOf.{map_of-nil}
 use Rattle.dt_tree.specs.Table.{shape_of}
 use Rattle.dt_image.specs.declared.paths.TreePath.{TreePath}
-use Rattle.dt_image.specs.Paths.{paths_below, level, paths_to, with_path}
-use Rattle.dt_image.specs.inner.PathView.{path_pair, IsPlaced}
+use Rattle.dt_image.specs.Paths.{paths_below, level, paths_to, with_path, path_pair}
+use Rattle.dt_image.specs.inner.PathView.{IsPlaced}
 use Rattle.dt_image.proofs.Children.{unmap, placed_level, level_next, paths_next}
 use Rattle.dt_image.proofs.paths.all_paths.Goals as goal
 

@@ -1,7 +1,7 @@
 use Rattle.std.proofs.Common.{◌≡◌, ◌≤◌, map}
 use Rattle.dt_tree.specs.Table.{shape_of}
-use Rattle.dt_image.specs.Paths.{level, paths_to}
-use Rattle.dt_image.specs.inner.PathView.{path_pair, paths_in}
+use Rattle.dt_image.specs.Paths.{level, paths_to, path_pair}
+use Rattle.dt_image.specs.inner.PathView.{paths_in}
 use Rattle.dt_image.proofs.paths.all_paths.Given as goal
 
 -- the paths of so many names, and those of fewer; the host keeps what it kept

@@ -1,6 +1,6 @@
 use Rattle.std.proofs.Common.{◌≡◌, ℕ, List, [], ◌∷◌, map, refl, sym, ap, ◌∙◌, rules}
 use Rattle.dt_image.specs.declared.paths.TreePath.{TreePath}
-use Rattle.dt_image.specs.inner.PathView.{path_pair}
+use Rattle.dt_image.specs.Paths.{path_pair}
 use Rattle.dt_image.proofs.Ordered.{entries_in_order}
 use Rattle.dt_image.proofs.paths.in_order.Goals as goal
 

@@ -1,8 +1,7 @@
 use Rattle.std.proofs.Common.{◌≡◌, ◌≤◌, map, take}
 use Rattle.std.specs.List.{flat_map}
 use Rattle.dt_tree.specs.Table.{shape_of}
-use Rattle.dt_image.specs.Paths.{paths_below}
-use Rattle.dt_image.specs.inner.PathView.{path_pair}
+use Rattle.dt_image.specs.Paths.{paths_below, path_pair}
 use Rattle.dt_image.proofs.paths.next_level.Given as goal
 
 -- the entries of the directories so far, and the host keeps what it kept

@@ -1,9 +1,0 @@
-use Rattle.std.proofs.Common.{◌≡◌, map, fold, take}
-use Rattle.dt_image.specs.Paths.{with_path}
-use Rattle.dt_image.specs.inner.PathView.{paths_in}
-use Rattle.dt_export.specs.inner.PathView.{path_pair}
-use Rattle.dt_export.proofs.paths.add_paths.Given as goal
-
--- the paths so far
-abbrev pub invariant-loop-at : goal.invariant-loop-at
-invariant-loop-at l = paths_in l.paths ≡ fold with_path (paths_in l.fn.paths) (map path_pair (take l.at-index l.level))
