@@ -1,5 +1,5 @@
 -- What clap's matches say of the words before `--`.
-use Rattle.std.proofs.Common.{◌≡◌, ◌<◌, ◌^◌, ℕ, Bool, true, false, cond, List, [], ◌∷◌, codes, Option, Some, None, Result, Ok, Err, refl, sym, ap, ◌∙◌, arith, ⊎_elim}
+use Rattle.std.proofs.Common.{◌≡◌, ◌<◌, ◌^◌, ℕ, Bool, true, false, cond, List, [], ◌∷◌, Option, Some, None, Result, Ok, Err, refl, sym, ap, ◌∙◌, arith, ⊎_elim}
 use Rattle.std.specs.Prelude.{option_map, option_and_then, unwrap_or}
 use Rattle.std.specs.Borrow.{Bor}
 use Rattle.std.proofs.lemmas.Bool.{ne_eqb}
@@ -10,7 +10,7 @@ use Rattle.clap.specs.declared.parser.matches.Found.{Found}
 use Rattle.clap.specs.declared.builder.value_parser.ValueParser.TheVariants as parser
 use Rattle.clap.proofs.ValueTestLemmas.{accepts-Accepts, Accepts-accepts}
 use Rattle.clap.proofs.WalkLemmas.{first_value-rows, one_text-rows}
-use Rattle.dt_options.specs.Arguments.{number_of, number_in, image_in, matched_rows}
+use Rattle.dt_options.specs.Arguments.{number_of, number_in, operand_in, matched_rows}
 use Rattle.dt_options.specs.UsageErr.{usage_err_of_kind}
 use Rattle.dt_options.specs.declared.options.UsageErr.TheVariants.{Refused, NoMemory}
 use Rattle.clap.specs.declared.error.Error.{Error}
@@ -47,10 +47,10 @@ unwrap_now : (o : Option (Bor (List ℕ))) (d : Bor (List ℕ)) → (unwrap_or o
 unwrap_now None d = refl
 unwrap_now (Some s) d = refl
 
--- what `get_str` gives is IMAGE
-pub one_image : (f : Found) (o : Option (Bor (List ℕ))) (d : Bor (List ℕ)) → d.now ≡ [] → option_map (λ s. s.now) o ≡ first_value f (codes "image") → (unwrap_or o d).now ≡ image_in (rows_of f)
-unfolding image_in
-one_image f o d empty got = unwrap_now o d ∙ (λ i. unwrap_or (got i) (empty i)) ∙ ap (λ w. unwrap_or w []) (first_value-rows f (codes "image"))
+-- what `get_str` gives is the operand
+pub one_operand : (f : Found) (name : List ℕ) (o : Option (Bor (List ℕ))) (d : Bor (List ℕ)) → d.now ≡ [] → option_map (λ s. s.now) o ≡ first_value f name → (unwrap_or o d).now ≡ operand_in name (rows_of f)
+unfolding operand_in
+one_operand f name o d empty got = unwrap_now o d ∙ (λ i. unwrap_or (got i) (empty i)) ∙ ap (λ w. unwrap_or w []) (first_value-rows f name)
 
 not_empty : (k : ErrorKind) (kinds : Kinds) → IsAmong k kinds → is_empty kinds ≡ false
 not_empty k [] among = absurd among

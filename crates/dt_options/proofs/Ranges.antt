@@ -15,7 +15,7 @@ use Rattle.clap.specs.declared.builder.value_parser.ValueParser.TheVariants as p
 use Rattle.clap.proofs.ValueTestLemmas.{accepts-Accepts}
 use Rattle.dt_base.specs.declared.limits.TheConstants.{BUDGET_LIMIT}
 use Rattle.dt_options.specs.declared.options.TheConstants.{WORKERS_LIMIT}
-use Rattle.dt_options.specs.Arguments.{default_budget, default_workers, matched_rows, number_in, number_of, run_app, demo_app}
+use Rattle.dt_options.specs.Arguments.{default_budget, default_workers, matched_rows, number_in, number_of, run_app, export_app, demo_app}
 use Rattle.dt_options.proofs.Passed.{AreGood, IsSound, subcommand_good}
 
 -- a value of this option is a number from 1 to a limit, and is read as it is written
@@ -32,9 +32,9 @@ AreSound app name limit = AllByRecursion (λ s. AllByRecursion (IsSound (Value n
 never : {A : Type 0} → false ≡ true → A
 never e = absurd (true≢false (sym e))
 
--- IMAGE, `--seed`, `--budget`, `--workers`, `--host` and `--help` of `run`, and the one argument of `help`
-sound_budget : AreSound run_app (codes "budget") BUDGET_LIMIT
-sound_budget = (
+-- IMAGE, the options and `--help` of `run`, and the one argument of `help`
+run_budget_sound : AreSound run_app (codes "budget") BUDGET_LIMIT
+run_budget_sound = (
   (
     (λ same. never same, λ v passes same. never same),
     (
@@ -54,8 +54,8 @@ sound_budget = (
   (((λ same. never same, λ v passes same. never same), tt), tt),
 )
 
-sound_workers : AreSound run_app (codes "workers") WORKERS_LIMIT
-sound_workers = (
+run_workers_sound : AreSound run_app (codes "workers") WORKERS_LIMIT
+run_workers_sound = (
   (
     (λ same. never same, λ v passes same. never same),
     (
@@ -75,9 +75,58 @@ sound_workers = (
   (((λ same. never same, λ v passes same. never same), tt), tt),
 )
 
+-- IMAGE, TO, the options and `--help` of `export`, and the one argument of `help`
+export_budget_sound : AreSound export_app (codes "budget") BUDGET_LIMIT
+export_budget_sound = (
+  (
+    (λ same. never same, λ v passes same. never same),
+    (
+      (λ same. never same, λ v passes same. never same),
+      (
+        (λ same. never same, λ v passes same. never same),
+        (
+          (λ same. refl, λ v passes same. passes),
+          (
+            (λ same. never same, λ v passes same. never same),
+            (
+              (λ same. never same, λ v passes same. never same),
+              ((λ same. never same, λ v passes same. never same), tt),
+            ),
+          ),
+        ),
+      ),
+    ),
+  ),
+  (((λ same. never same, λ v passes same. never same), tt), tt),
+)
+
+export_workers_sound : AreSound export_app (codes "workers") WORKERS_LIMIT
+export_workers_sound = (
+  (
+    (λ same. never same, λ v passes same. never same),
+    (
+      (λ same. never same, λ v passes same. never same),
+      (
+        (λ same. never same, λ v passes same. never same),
+        (
+          (λ same. never same, λ v passes same. never same),
+          (
+            (λ same. refl, λ v passes same. passes),
+            (
+              (λ same. never same, λ v passes same. never same),
+              ((λ same. never same, λ v passes same. never same), tt),
+            ),
+          ),
+        ),
+      ),
+    ),
+  ),
+  (((λ same. never same, λ v passes same. never same), tt), tt),
+)
+
 -- the number, `--workers`, `--host` and `--help` of `demo`, and the one argument of `help`
-sound_demo : AreSound demo_app (codes "workers") WORKERS_LIMIT
-sound_demo = (
+demo_workers_sound : AreSound demo_app (codes "workers") WORKERS_LIMIT
+demo_workers_sound = (
   (
     (λ same. never same, λ v passes same. never same),
     (
@@ -144,13 +193,21 @@ module _ (name : Text) (limit default : ℕ) where
       subst (λ m. (1 ≤ m) × (m ≤ limit)) (sym number) found
 
 -- the budget of a run
-pub budget_within : (words : List (List ℕ)) (rows : List Row) (n : ℕ) → matched_rows run_app words ≡ Some rows → n ≡ unwrap_or (number_in (codes "budget") rows) default_budget → (1 ≤ n) × (n ≤ BUDGET_LIMIT)
-budget_within = within (codes "budget") BUDGET_LIMIT default_budget run_app sound_budget (omega arith, omega arith)
+pub run_budget_within : (words : List (List ℕ)) (rows : List Row) (n : ℕ) → matched_rows run_app words ≡ Some rows → n ≡ unwrap_or (number_in (codes "budget") rows) default_budget → (1 ≤ n) × (n ≤ BUDGET_LIMIT)
+run_budget_within = within (codes "budget") BUDGET_LIMIT default_budget run_app run_budget_sound (omega arith, omega arith)
 
 -- the workers of a run
 pub run_workers_within : (words : List (List ℕ)) (rows : List Row) (n : ℕ) → matched_rows run_app words ≡ Some rows → n ≡ unwrap_or (number_in (codes "workers") rows) default_workers → (1 ≤ n) × (n ≤ WORKERS_LIMIT)
-run_workers_within = within (codes "workers") WORKERS_LIMIT default_workers run_app sound_workers (omega arith, omega arith)
+run_workers_within = within (codes "workers") WORKERS_LIMIT default_workers run_app run_workers_sound (omega arith, omega arith)
+
+-- the budget of an export
+pub export_budget_within : (words : List (List ℕ)) (rows : List Row) (n : ℕ) → matched_rows export_app words ≡ Some rows → n ≡ unwrap_or (number_in (codes "budget") rows) default_budget → (1 ≤ n) × (n ≤ BUDGET_LIMIT)
+export_budget_within = within (codes "budget") BUDGET_LIMIT default_budget export_app export_budget_sound (omega arith, omega arith)
+
+-- the workers of an export
+pub export_workers_within : (words : List (List ℕ)) (rows : List Row) (n : ℕ) → matched_rows export_app words ≡ Some rows → n ≡ unwrap_or (number_in (codes "workers") rows) default_workers → (1 ≤ n) × (n ≤ WORKERS_LIMIT)
+export_workers_within = within (codes "workers") WORKERS_LIMIT default_workers export_app export_workers_sound (omega arith, omega arith)
 
 -- the workers of a demonstration
 pub demo_workers_within : (words : List (List ℕ)) (rows : List Row) (n : ℕ) → matched_rows demo_app words ≡ Some rows → n ≡ unwrap_or (number_in (codes "workers") rows) default_workers → (1 ≤ n) × (n ≤ WORKERS_LIMIT)
-demo_workers_within = within (codes "workers") WORKERS_LIMIT default_workers demo_app sound_demo (omega arith, omega arith)
+demo_workers_within = within (codes "workers") WORKERS_LIMIT default_workers demo_app demo_workers_sound (omega arith, omega arith)

@@ -9,8 +9,9 @@ use Rattle.clap.proofs.WalkLemmas.{both}
 use Rattle.clap.specs.Words.{Row}
 use Rattle.dt_base.specs.Command.{Words, IsCommand}
 use Rattle.dt_base.specs.Path.{has_no_nul}
-use Rattle.dt_options.specs.Arguments.{run_app, demo_app, matched_rows, image_in, number_in, default_budget, default_seed, default_workers}
-use Rattle.dt_options.specs.Options.{Request, DemoRequest, request, demo_request, form_of, form_at, run_form, demo_form, request_in, demo_in, command_in, command_at, is_assignment}
+use Rattle.dt_options.specs.Arguments.{run_app, export_app, demo_app, matched_rows, operand_in, number_in, default_workers}
+use Rattle.dt_options.specs.Options.{Request, ExportRequest, DemoRequest, request, export_request, demo_request, form_of, form_at, form_with_command, form_without_command, run_form, export_form, demo_form, begins_with, request_in, export_in, demo_in, command_in, command_at}
+use Rattle.dt_base.specs.Assignment.{is_assignment}
 
 prefix_len-map : {A B : Type 0} (p : B → Bool) (f : A → B) (xs : List A) → prefix_len p (map f xs) ≡ prefix_len (λ x. p (f x)) xs
 prefix_len-map p f [] = refl
@@ -68,13 +69,20 @@ module _ {A : Type 0} (f : A → List ℕ) (words : List A) where
 pub request_in-none : (before after : List (List ℕ)) → matched_rows run_app before ≡ None → request_in before after ≡ None
 request_in-none before after none = ap (λ found. option_and_then (λ rows. option_map (request rows) (command_in after)) found) none
 
-pub request_in-some : (before after : List (List ℕ)) (rows : List Row) (r : Request) → matched_rows run_app before ≡ Some rows → command_in after ≡ Some r.command → r.image ≡ image_in rows
-    → r.seed ≡ unwrap_or (number_in (codes "seed") rows) default_seed → r.budget ≡ unwrap_or (number_in (codes "budget") rows) default_budget → r.workers ≡ unwrap_or (number_in (codes "workers") rows) default_workers
-    → r.host ≡ number_in (codes "host") rows → request_in before after ≡ Some r
-request_in-some before after rows r found command image seed budget workers host =
+pub request_in-some : (before after : List (List ℕ)) (rows : List Row) (command : Words) (r : Request) → matched_rows run_app before ≡ Some rows → command_in after ≡ Some command → r ≡ request rows command → request_in before after ≡ Some r
+request_in-some before after rows command r found named is =
     ap (option_and_then (λ rows. option_map (request rows) (command_in after))) found
-    ∙ ap (option_map (request rows)) command
-    ∙ (λ i. Some (record { image = sym image i; command = r.command; seed = sym seed i; budget = sym budget i; workers = sym workers i; host = sym host i }))
+    ∙ ap (option_map (request rows)) named
+    ∙ ap Some (sym is)
+
+pub export_in-none : (before after : List (List ℕ)) → matched_rows export_app before ≡ None → export_in before after ≡ None
+export_in-none before after none = ap (λ found. option_and_then (λ rows. option_map (export_request rows) (command_in after)) found) none
+
+pub export_in-some : (before after : List (List ℕ)) (rows : List Row) (command : Words) (r : ExportRequest) → matched_rows export_app before ≡ Some rows → command_in after ≡ Some command → r.run ≡ request rows command → r.to ≡ operand_in (codes "to") rows → export_in before after ≡ Some r
+export_in-some before after rows command r found named is to =
+    ap (option_and_then (λ rows. option_map (export_request rows) (command_in after))) found
+    ∙ ap (option_map (export_request rows)) named
+    ∙ (λ i. Some (record { run = sym is i; to = sym to i }))
 
 -- ---- the words of a demonstration
 
@@ -98,13 +106,51 @@ demo_in-some words rows r found number workers host =
 
 -- ---- all words
 
-pub form_of-run : {A : Type 0} (f : A → List ℕ) (words before after : List A) (index : ℕ) → position (λ word. bytes_eq (f word) (codes "--")) words ≡ Some index
-    → before ≡ take index words → after ≡ drop (index + 1) words → form_of (map f words) ≡ option_map run_form (request_in (map f before) (map f after))
-unfolding form_of
-form_of-run f words before after index is is_before is_after =
-    ap (form_at (map f words)) (position-map (λ word. bytes_eq word (codes "--")) f words ∙ is)
-    ∙ (λ i. option_map run_form (request_in ((take-map f index words ∙ ap (map f) (sym is_before)) i) ((drop-map f (index + 1) words ∙ ap (map f) (sym is_after)) i)))
+module _ (before after : List (List ℕ)) where
+  pub with_command-run : (r : Option Request) → begins_with (codes "run") before ≡ true → request_in before after ≡ r → form_with_command before after ≡ option_map run_form r
+  unfolding form_with_command
+  with_command-run r first is =
+      ap (λ b. cond b (option_map run_form (request_in before after)) (cond (begins_with (codes "export") before) (option_map export_form (export_in before after)) None)) first
+      ∙ ap (option_map run_form) is
 
-pub form_of-demo : {A : Type 0} (f : A → List ℕ) (words : List A) → position (λ word. bytes_eq (f word) (codes "--")) words ≡ None → form_of (map f words) ≡ option_map demo_form (demo_in (map f words))
+  pub with_command-export : (r : Option ExportRequest) → begins_with (codes "run") before ≡ false → begins_with (codes "export") before ≡ true → export_in before after ≡ r → form_with_command before after ≡ option_map export_form r
+  unfolding form_with_command
+  with_command-export r other first is =
+      ap (λ b. cond b (option_map run_form (request_in before after)) (cond (begins_with (codes "export") before) (option_map export_form (export_in before after)) None)) other
+      ∙ ap (λ b. cond b (option_map export_form (export_in before after)) None) first
+      ∙ ap (option_map export_form) is
+
+  pub with_command-none : begins_with (codes "run") before ≡ false → begins_with (codes "export") before ≡ false → form_with_command before after ≡ None
+  unfolding form_with_command
+  with_command-none other last =
+      ap (λ b. cond b (option_map run_form (request_in before after)) (cond (begins_with (codes "export") before) (option_map export_form (export_in before after)) None)) other
+      ∙ ap (λ b. cond b (option_map export_form (export_in before after)) None) last
+
+module _ (words : List (List ℕ)) where
+  pub without_command-demo : (r : Option DemoRequest) → begins_with (codes "demo") words ≡ true → demo_in words ≡ r → form_without_command words ≡ option_map demo_form r
+  unfolding form_without_command
+  without_command-demo r first is = ap (λ b. cond b (option_map demo_form (demo_in words)) None) first ∙ ap (option_map demo_form) is
+
+  pub without_command-none : begins_with (codes "demo") words ≡ false → form_without_command words ≡ None
+  unfolding form_without_command
+  without_command-none other = ap (λ b. cond b (option_map demo_form (demo_in words)) None) other
+
+-- where words have a `--`, by those on both sides
+pub form_of-with_command : {A : Type 0} (f : A → List ℕ) (words before after : List A) (index : ℕ) → position (λ word. bytes_eq (f word) (codes "--")) words ≡ Some index
+    → before ≡ take index words → after ≡ drop (index + 1) words → form_of (map f words) ≡ form_with_command (map f before) (map f after)
 unfolding form_of
-form_of-demo f words is = ap (form_at (map f words)) (position-map (λ word. bytes_eq word (codes "--")) f words ∙ is)
+form_of-with_command f words before after index is is_before is_after =
+    ap (form_at (map f words)) (position-map (λ word. bytes_eq word (codes "--")) f words ∙ is)
+    ∙ (λ i. form_with_command ((take-map f index words ∙ ap (map f) (sym is_before)) i) ((drop-map f (index + 1) words ∙ ap (map f) (sym is_after)) i))
+
+-- where they have none
+pub form_of-without_command : {A : Type 0} (f : A → List ℕ) (words : List A) → position (λ word. bytes_eq (f word) (codes "--")) words ≡ None → form_of (map f words) ≡ form_without_command (map f words)
+unfolding form_of
+form_of-without_command f words is = ap (form_at (map f words)) (position-map (λ word. bytes_eq word (codes "--")) f words ∙ is)
+
+-- the first word
+pub begins_with-first : {A : Type 0} (f : A → List ℕ) (name : List ℕ) (words : List A) (word : A) (rest : List A) → words ≡ word ∷ rest → bytes_eq (f word) name ≡ begins_with name (map f words)
+begins_with-first f name words word rest is = sym (ap (λ ws. begins_with name (map f ws)) is)
+
+pub begins_with-nothing : {A : Type 0} (f : A → List ℕ) (name : List ℕ) (words : List A) → words ≡ [] → false ≡ begins_with name (map f words)
+begins_with-nothing f name words is = sym (ap (λ ws. begins_with name (map f ws)) is)

@@ -1,4 +1,5 @@
--- The words that clap reads: the arguments of `run`, which stand before the first `--`, and those of `demo`.
+-- The words that clap reads: the arguments of `run` and of `export`, which stand before the first `--`, and those of
+-- `demo`.
 use Rattle.std.specs.Prelude.{ℕ, true, false, List, [], ◌∷◌, Option, Some, None, codes, if◌then◌else◌, unwrap_or, option_map, option_and_then}
 use Rattle.std.specs.Str.Parse.{digits_value, without_leading_plus}
 use Rattle.clap.specs.Words.{App, Row, Rule, Shape, fault_of, first_of, new_rule, one_of, subcommand_of}
@@ -21,9 +22,9 @@ default_budget = 100000000
 abbrev pub default_workers : ℕ
 default_workers = 4
 
--- IMAGE, which must be there
-abbrev pub image_rule : Rule
-image_rule = record (new_rule (codes "image")) { required = true }
+-- an operand, a text that must be there: IMAGE or TO
+abbrev pub operand_rule : List ℕ → Rule
+operand_rule name = record (new_rule name) { required = true }
 
 -- the number of a demonstration, which must be there, from 0 to 2^64 - 1
 abbrev pub demo_rule : Rule
@@ -41,10 +42,18 @@ budget_rule = record (number_rule (codes "budget")) { parser = Some (parser.Unsi
 abbrev pub workers_rule : Rule
 workers_rule = record (number_rule (codes "workers")) { parser = Some (parser.Unsigned 1 WORKERS_LIMIT) }
 
--- `run IMAGE [--seed N] [--budget N] [--workers N] [--host N]`
+-- `[--seed N] [--budget N] [--workers N] [--host N]`
+abbrev pub run_rules : List Rule
+run_rules = number_rule (codes "seed") ∷ budget_rule ∷ workers_rule ∷ number_rule (codes "host") ∷ []
+
+-- `run IMAGE`, and the options of a run
 abbrev pub run_shape : Shape
-run_shape = record (new_shape (codes "run")) {
-  rules = image_rule ∷ number_rule (codes "seed") ∷ budget_rule ∷ workers_rule ∷ number_rule (codes "host") ∷ [];
+run_shape = record (new_shape (codes "run")) { rules = operand_rule (codes "image") ∷ run_rules }
+
+-- `export IMAGE TO`, and the options of a run
+abbrev pub export_shape : Shape
+export_shape = record (new_shape (codes "export")) {
+  rules = operand_rule (codes "image") ∷ operand_rule (codes "to") ∷ run_rules;
 }
 
 -- `demo N [--workers N] [--host N]`
@@ -61,21 +70,29 @@ program_shape = record (new_shape (codes "dettrace")) {
   subcommand_required = true;
 }
 
--- the program where words have a `--`: its subcommand is `run`
-abbrev pub run_app : App
-run_app = record { top = program_shape; subs = run_shape ∷ [] }
+-- the program with one subcommand, the one that the first word names
+abbrev pub app_with : Shape → App
+app_with shape = record { top = program_shape; subs = shape ∷ [] }
 
--- the program where words have no `--`: its subcommand is `demo`
+-- the program where that is `run`
+abbrev pub run_app : App
+run_app = app_with run_shape
+
+-- the program where it is `export`
+abbrev pub export_app : App
+export_app = app_with export_shape
+
+-- the program where it is `demo`
 abbrev pub demo_app : App
-demo_app = record { top = program_shape; subs = demo_shape ∷ [] }
+demo_app = app_with demo_shape
 
 -- the values that clap matches to the arguments of the subcommand, where it takes the words
 unfoldable pub matched_rows : App → List (List ℕ) → Option (List Row)
 matched_rows app words = if is_empty (fault_of app words) then option_map (λ sub. sub.1) (subcommand_of app words) else None
 
--- what stands for IMAGE in the words
-unfoldable pub image_in : List Row → List ℕ
-image_in rows = unwrap_or (first_of (codes "image") rows) []
+-- what stands for an operand in the words
+unfoldable pub operand_in : List ℕ → List Row → List ℕ
+operand_in name rows = unwrap_or (first_of name rows) []
 
 -- the number that a text writes, if it is one from 0 to 2^64 - 1
 abbrev pub number_of : List ℕ → Option ℕ

@@ -3,4 +3,6 @@
 
 mod options;
 
-pub use options::{DemoOptions, Options, RunOptions, UsageErr, WORKERS_LIMIT, read_options};
+pub use options::{
+    DemoOptions, ExportOptions, Options, RunOptions, UsageErr, WORKERS_LIMIT, read_options,
+};

@@ -1,20 +1,26 @@
 // The command line.
 ghost use Rattle.std.specs.Prelude.{◌≡◌, ◌≤◌, ◌+◌, drop, length, map, string_bytes, codes, not, Some, None, IfSome};
-ghost use Rattle.std.specs.Prelude.{IfOk, Err, ◌<◌, ◌==◌};
+ghost use Rattle.std.specs.Prelude.{IfOk, Err, ◌<◌};
 ghost use Rattle.std.specs.List.{list_all, position};
 ghost use Rattle.std.specs.Str.{bytes_eq};
-ghost use Rattle.dt_base.specs.declared.limits.TheConstants.{BUDGET_LIMIT};
 ghost use Rattle.dt_base.specs.Path.{has_no_nul};
-ghost use Rattle.dt_options.specs.Options.{form_of, as_form, HasBudget, workers_of, request_in, as_request, demo_in};
-ghost use Rattle.dt_options.specs.Options.{as_demo_request, command_in, is_assignment, is_variable};
-ghost use Rattle.dt_options.specs.Options.{is_variable_start, is_variable_byte};
+ghost use Rattle.clap.specs.Words.{found_of, rows_of};
+ghost use Rattle.dt_options.specs.Options.{form_of, form_with_command, form_without_command, as_form, HasBudget};
+ghost use Rattle.dt_options.specs.Options.{IsBudget, workers_of, request, request_in, export_in, demo_in};
+ghost use Rattle.dt_options.specs.Options.{as_request, as_export_request, as_demo_request};
+ghost use Rattle.dt_options.specs.Options.{begins_with, command_in};
+ghost use Rattle.dt_base.specs.Assignment.{is_assignment};
 ghost use Rattle.dt_options.specs.declared.options.UsageErr.TheVariants.{NoMemory as OutOfMemory};
 
 mod arguments;
 
-use arguments::{budget, image, number, read_demo_arguments, read_run_arguments, seed, workers};
+use arguments::{
+    budget, number, operand, read_demo_arguments, read_export_arguments, read_run_arguments, seed,
+    workers,
+};
+use clap::ArgMatches;
 use clap::error::ErrorKind;
-use dt_base::{Blob, Command, NoMemory, Text, has_no_nul};
+use dt_base::{Blob, Command, NoMemory, Text, has_no_nul, is_assignment};
 use std::alloc::{AllocError, AllocFailed, Global};
 use thiserror::Error;
 
@@ -26,6 +32,8 @@ pub const WORKERS_LIMIT: u64 = 64;
 pub enum Options {
     /// A run of a command on an image.
     Run(RunOptions),
+    /// A run whose last file tree is written as an image.
+    Export(ExportOptions),
     /// The demonstration of a number.
     Demo(DemoOptions),
 }
@@ -45,6 +53,15 @@ pub struct RunOptions {
     pub workers: usize,
     /// What the host's choices start from, where the words say so.
     pub host: Option<u64>,
+}
+
+/// What the words ask of an export.
+#[derive(Debug, Drop)]
+pub struct ExportOptions {
+    /// The run whose last file tree is written.
+    pub run: RunOptions,
+    /// The name of the folder that it is written to.
+    pub to: Text,
 }
 
 /// What the words ask of a demonstration.
@@ -98,8 +115,8 @@ impl From<clap::Error> for UsageErr {
 }
 
 /// Reads the words of argv after the program's name, which are to be
-/// `run IMAGE [--seed N] [--budget N] [--workers N] [--host N] -- [NAME=VALUE ..] PROGRAM [ARG ..]` or
-/// `demo N [--workers N] [--host N]`.
+/// `run IMAGE [--seed N] [--budget N] [--workers N] [--host N] -- [NAME=VALUE ..] PROGRAM [ARG ..]`,
+/// `export IMAGE TO` with the same options and words behind them, or `demo N [--workers N] [--host N]`.
 pub fn read_options(alloc: Global, argv: &[String]) -> Result<Options, UsageErr>
     ensures ok { IfOk result (λ o. form_of (map string_bytes argv.now) ≡ Some (as_form o)) }
     ensures refused { result ≡ Err UsageErr.Refused → form_of (map string_bytes argv.now) ≡ None }
@@ -107,11 +124,8 @@ pub fn read_options(alloc: Global, argv: &[String]) -> Result<Options, UsageErr>
     ensures workers { IfOk result (λ o. (1 ≤ workers_of o) × (workers_of o ≤ WORKERS_LIMIT)) }
 {
     match dashes(argv) {
-        Some(index) => {
-            let run = read_run(alloc, &argv[..index], after(argv, index))?;
-            Ok(Options::Run(run))
-        }
-        None => Ok(Options::Demo(read_demo(alloc, argv)?)),
+        Some(index) => read_with_command(alloc, &argv[..index], after(argv, index)),
+        None => read_without_command(alloc, argv),
     }
 }
 
@@ -132,13 +146,59 @@ fn after(argv: &[String], index: usize) -> &[String]
     rest
 }
 
+// Reads the words before and after `--`.
+fn read_with_command(
+    alloc: Global,
+    before: &[String],
+    after: &[String],
+) -> Result<Options, UsageErr>
+    ensures ok { IfOk result (λ o.
+        form_with_command (map string_bytes before.now) (map string_bytes after.now) ≡ Some (as_form o)) }
+    ensures refused { result ≡ Err UsageErr.Refused →
+        form_with_command (map string_bytes before.now) (map string_bytes after.now) ≡ None }
+    ensures budget { IfOk result HasBudget }
+    ensures workers { IfOk result (λ o. (1 ≤ workers_of o) × (workers_of o ≤ WORKERS_LIMIT)) }
+{
+    if begins_with("run", before) {
+        Ok(Options::Run(read_run(alloc, before, after)?))
+    } else if begins_with("export", before) {
+        Ok(Options::Export(read_export(alloc, before, after)?))
+    } else {
+        Err(UsageErr::Refused)
+    }
+}
+
+// Reads words without a `--`.
+fn read_without_command(alloc: Global, words: &[String]) -> Result<Options, UsageErr>
+    ensures ok { IfOk result (λ o. form_without_command (map string_bytes words.now) ≡ Some (as_form o)) }
+    ensures refused { result ≡ Err UsageErr.Refused → form_without_command (map string_bytes words.now) ≡ None }
+    ensures budget { IfOk result HasBudget }
+    ensures workers { IfOk result (λ o. (1 ≤ workers_of o) × (workers_of o ≤ WORKERS_LIMIT)) }
+{
+    if begins_with("demo", words) {
+        Ok(Options::Demo(read_demo(alloc, words)?))
+    } else {
+        Err(UsageErr::Refused)
+    }
+}
+
+// Whether the first word is this one.
+fn begins_with(name: &str, words: &[String]) -> bool
+    ensures { result ≡ begins_with name.now (map string_bytes words.now) }
+{
+    match words.split_first() {
+        Some((word, _)) => word.as_str() == name,
+        None => false,
+    }
+}
+
 // Reads the words of a run before and after `--`.
 fn read_run(alloc: Global, before: &[String], after: &[String]) -> Result<RunOptions, UsageErr>
     ensures ok { IfOk result (λ o.
         request_in (map string_bytes before.now) (map string_bytes after.now) ≡ Some (as_request o)) }
     ensures refused { result ≡ Err UsageErr.Refused →
         request_in (map string_bytes before.now) (map string_bytes after.now) ≡ None }
-    ensures budget { IfOk result (λ o. (1 ≤ o.budget) × (o.budget ≤ BUDGET_LIMIT)) }
+    ensures budget { IfOk result (λ o. IsBudget o.budget) }
     ensures workers { IfOk result (λ o. (1 ≤ o.workers) × (o.workers ≤ WORKERS_LIMIT)) }
 {
     let matches = read_run_arguments(alloc, before)?;
@@ -146,14 +206,56 @@ fn read_run(alloc: Global, before: &[String], after: &[String]) -> Result<RunOpt
         return Err(UsageErr::Refused);
     };
     let command = read_command(alloc, after)?;
-    Ok(RunOptions {
-        image: Text::new(String::from_str(alloc, image(run))?),
-        command,
-        seed: seed(run),
-        budget: budget(run),
-        workers: workers(run),
-        host: number(run, "host"),
+    Ok(run_options(alloc, run, command)?)
+}
+
+// Reads the words of an export before and after `--`.
+fn read_export(
+    alloc: Global,
+    before: &[String],
+    after: &[String],
+) -> Result<ExportOptions, UsageErr>
+    ensures ok { IfOk result (λ o.
+        export_in (map string_bytes before.now) (map string_bytes after.now) ≡ Some (as_export_request o)) }
+    ensures refused { result ≡ Err UsageErr.Refused →
+        export_in (map string_bytes before.now) (map string_bytes after.now) ≡ None }
+    ensures budget { IfOk result (λ o. IsBudget o.run.budget) }
+    ensures workers { IfOk result (λ o. (1 ≤ o.run.workers) × (o.run.workers ≤ WORKERS_LIMIT)) }
+{
+    let matches = read_export_arguments(alloc, before)?;
+    let Some((_, export)) = matches.subcommand() else {
+        return Err(UsageErr::Refused);
+    };
+    let command = read_command(alloc, after)?;
+    Ok(ExportOptions {
+        run: run_options(alloc, export, command)?,
+        to: text_of(alloc, operand(export, "to"))?,
     })
+}
+
+// The options of a run, as clap found them, and its command.
+fn run_options(
+    alloc: Global,
+    found: &ArgMatches<'_>,
+    command: Command,
+) -> Result<RunOptions, NoMemory>
+    ensures { IfOk result (λ o. as_request o ≡ request (rows_of (found_of found.now)) command) }
+{
+    Ok(RunOptions {
+        image: text_of(alloc, operand(found, "image"))?,
+        command,
+        seed: seed(found),
+        budget: budget(found),
+        workers: workers(found),
+        host: number(found, "host"),
+    })
+}
+
+// A text in memory of its own.
+fn text_of(alloc: Global, text: &str) -> Result<Text, NoMemory>
+    ensures { IfOk result (λ t. t ≡ text.now) }
+{
+    Ok(Text::new(String::from_str(alloc, text)?))
 }
 
 // Reads the words of a demonstration.
@@ -216,47 +318,4 @@ fn blobs(alloc: Global, words: &[String]) -> Result<Vec<Blob>, NoMemory>
         blobs.push(Blob::new(Vec::from_slice(alloc, word.as_bytes())?))?;
     }
     Ok(blobs)
-}
-
-fn is_assignment(word: &[u8]) -> bool
-    ensures { result ≡ is_assignment word.now }
-{
-    match first_equals(word) {
-        Some(index) => is_variable(&word[..index]),
-        None => false,
-    }
-}
-
-fn first_equals(word: &[u8]) -> Option<usize>
-    ensures value { result ≡ position (λ b. b == 61) word.now }
-    ensures within { IfSome result (λ index. index < length word.now) }
-{
-    word.iter().position(|b| *b == b'=')
-}
-
-fn is_variable(name: &[u8]) -> bool
-    ensures { result ≡ is_variable name.now }
-{
-    match name.split_first() {
-        Some((first, rest)) => is_variable_start(*first) && has_variable_bytes(rest),
-        None => false,
-    }
-}
-
-fn is_variable_start(byte: u8) -> bool
-    ensures { result ≡ is_variable_start byte }
-{
-    byte.is_ascii_alphabetic() || byte == b'_'
-}
-
-fn has_variable_bytes(rest: &[u8]) -> bool
-    ensures { result ≡ list_all is_variable_byte rest.now }
-{
-    rest.iter().all(|b| is_variable_byte(*b))
-}
-
-fn is_variable_byte(byte: u8) -> bool
-    ensures { result ≡ is_variable_byte byte }
-{
-    byte.is_ascii_alphanumeric() || byte == b'_'
 }

@@ -1,11 +1,12 @@
-// The words that clap reads: the arguments of `run` and of `demo`.
+// The words that clap reads: the arguments of `run`, `export` and `demo`.
 ghost use Rattle.std.specs.Prelude.{◌≡◌, Option, false, map, string_bytes, codes, IfOk, option_and_then, unwrap_or};
 ghost use Rattle.clap.specs.Words.{FailsBy, app_of, fault_of, found_of, one_of, rows_of, rule_of, shape_of};
 ghost use Rattle.clap.specs.Words.{subcommand_of, subcommand_rows_of};
 ghost use Rattle.clap.specs.declared.builder.command.Command.TheViews.{out-Command as fields_of};
-ghost use Rattle.dt_options.specs.Arguments.{image_rule, demo_rule, number_rule, budget_rule, workers_rule, run_shape};
-ghost use Rattle.dt_options.specs.Arguments.{demo_shape, run_app, demo_app, image_in, number_in};
-ghost use Rattle.dt_options.specs.Arguments.{default_seed, default_budget, default_workers};
+ghost use Rattle.dt_options.specs.Arguments.{operand_rule, demo_rule, number_rule, budget_rule, workers_rule};
+ghost use Rattle.dt_options.specs.Arguments.{run_shape, export_shape, demo_shape};
+ghost use Rattle.dt_options.specs.Arguments.{run_app, export_app, demo_app, app_with};
+ghost use Rattle.dt_options.specs.Arguments.{operand_in, number_in, default_seed, default_budget, default_workers};
 
 use super::WORKERS_LIMIT;
 use clap::{Arg, ArgMatches, Command, Error};
@@ -25,7 +26,19 @@ pub fn read_run_arguments<'a>(alloc: Global, words: &'a [String]) -> Result<ArgM
     ensures exact { IfOk result (λ m.
         subcommand_rows_of m ≡ subcommand_of run_app (map string_bytes words.entry.now)) }
 {
-    run_program(alloc)?.try_get_matches_from(words)
+    program(alloc, run_command(alloc)?)?.try_get_matches_from(words)
+}
+
+/// What clap makes of the words of an export before `--`.
+pub fn read_export_arguments<'a>(
+    alloc: Global,
+    words: &'a [String],
+) -> Result<ArgMatches<'a>, Error>
+    ensures refused { FailsBy (fault_of export_app (map string_bytes words.entry.now)) result }
+    ensures exact { IfOk result (λ m.
+        subcommand_rows_of m ≡ subcommand_of export_app (map string_bytes words.entry.now)) }
+{
+    program(alloc, export_command(alloc)?)?.try_get_matches_from(words)
 }
 
 /// What clap makes of the words of a demonstration.
@@ -34,25 +47,18 @@ pub fn read_demo_arguments<'a>(alloc: Global, words: &'a [String]) -> Result<Arg
     ensures exact { IfOk result (λ m.
         subcommand_rows_of m ≡ subcommand_of demo_app (map string_bytes words.entry.now)) }
 {
-    demo_program(alloc)?.try_get_matches_from(words)
+    program(alloc, demo_command(alloc)?)?.try_get_matches_from(words)
 }
 
-fn run_program<'a>(alloc: Global) -> Result<Command<'a>, AllocError>
-    ensures { IfOk result (λ c. app_of c ≡ run_app) }
+// The program with one subcommand.
+fn program<'a>(alloc: Global, command: Command<'a>) -> Result<Command<'a>, AllocError>
+    requires { (fields_of command).has_globals ≡ false }
+    ensures { IfOk result (λ c. app_of c ≡ app_with (shape_of command.entry)) }
 {
     Command::new(alloc, "dettrace")
         .no_binary_name(true)
         .subcommand_required(true)
-        .subcommand(run_command(alloc)?)
-}
-
-fn demo_program<'a>(alloc: Global) -> Result<Command<'a>, AllocError>
-    ensures { IfOk result (λ c. app_of c ≡ demo_app) }
-{
-    Command::new(alloc, "dettrace")
-        .no_binary_name(true)
-        .subcommand_required(true)
-        .subcommand(demo_command(alloc)?)
+        .subcommand(command)
 }
 
 fn run_command<'a>(alloc: Global) -> Result<Command<'a>, AllocError>
@@ -60,7 +66,20 @@ fn run_command<'a>(alloc: Global) -> Result<Command<'a>, AllocError>
     ensures local { IfOk result (λ c. (fields_of c).has_globals ≡ false) }
 {
     Command::new(alloc, "run")
-        .arg(image_arg(alloc))?
+        .arg(operand_arg(alloc, "image"))?
+        .arg(number_arg(alloc, "seed"))?
+        .arg(budget_arg(alloc))?
+        .arg(workers_arg(alloc))?
+        .arg(number_arg(alloc, "host"))
+}
+
+fn export_command<'a>(alloc: Global) -> Result<Command<'a>, AllocError>
+    ensures shape { IfOk result (λ c. shape_of c ≡ export_shape) }
+    ensures local { IfOk result (λ c. (fields_of c).has_globals ≡ false) }
+{
+    Command::new(alloc, "export")
+        .arg(operand_arg(alloc, "image"))?
+        .arg(operand_arg(alloc, "to"))?
         .arg(number_arg(alloc, "seed"))?
         .arg(budget_arg(alloc))?
         .arg(workers_arg(alloc))?
@@ -77,11 +96,11 @@ fn demo_command<'a>(alloc: Global) -> Result<Command<'a>, AllocError>
         .arg(number_arg(alloc, "host"))
 }
 
-fn image_arg<'a>(alloc: Global) -> Arg<'a>
-    ensures rule { rule_of result ≡ image_rule }
+fn operand_arg<'a>(alloc: Global, name: &'a str) -> Arg<'a>
+    ensures rule { rule_of result ≡ operand_rule name.entry.now }
     ensures local { result.global ≡ false }
 {
-    Arg::new(alloc, "image").required(true)
+    Arg::new(alloc, name).required(true)
 }
 
 fn demo_arg<'a>(alloc: Global) -> Arg<'a>
@@ -120,11 +139,11 @@ fn workers_arg<'a>(alloc: Global) -> Arg<'a>
         .value_parser(clap::value_parser!(u64).range(1..=WORKERS_LIMIT as i64))
 }
 
-/// IMAGE, as `run` was given it.
-pub fn image<'a>(run: &ArgMatches<'a>) -> &'a str
-    ensures { result.now ≡ image_in (rows_of (found_of run.now)) }
+/// An operand, as it was given.
+pub fn operand<'a>(found: &ArgMatches<'a>, name: &str) -> &'a str
+    ensures { result.now ≡ operand_in name.now (rows_of (found_of found.now)) }
 {
-    run.get_str("image").unwrap_or("")
+    found.get_str(name).unwrap_or("")
 }
 
 /// The number of a demonstration, or of an option, if it was given.

@@ -1,25 +1,27 @@
-use Rattle.std.proofs.Common.{◌∙◌, ap, sym, refl, rules}
-use Rattle.std.specs.Prelude.{string_bytes, option_map}
-use Rattle.dt_options.specs.Options.{run_form, demo_form}
-use Rattle.dt_options.proofs.Requests.{form_of-run, form_of-demo}
+use Rattle.std.proofs.Common.{◌≡◌, Some, refl, sym, subst, ◌∙◌}
+use Rattle.std.specs.Prelude.{string_bytes, IfOk}
+use Rattle.dt_options.specs.Options.{as_form}
+use Rattle.dt_options.proofs.Requests.{form_of-with_command, form_of-without_command}
 use Rattle.dt_options.proofs.options.read_options.Goals as goal
 
-pub returns-in_err-run-in-Some-clause-refused : goal.returns-in_err-run-in-Some-clause-refused
-returns-in_err-run-in-Some-clause-refused c = λ is.
-    form_of-run string_bytes c.args.argv.now _ _ c.in-Some.index (sym c.dashes.ensures.value ∙ c.in-Some.is) refl c.after.ensures
-    ∙ ap (option_map run_form) (c.in_err-run-in-Some.ensures.refused (search rules))
+pub returns-in-Some-clause-ok : goal.returns-in-Some-clause-ok
+returns-in-Some-clause-ok c =
+    subst (λ form. IfOk c.read_with_command.result (λ o. form ≡ Some (as_form o)))
+    (sym (form_of-with_command string_bytes c.args.argv.now _ _ c.in-Some.index (sym c.dashes.ensures.value ∙ c.in-Some.is) refl c.after.ensures))
+    c.read_with_command.ensures.ok
 
-pub returns-in_ok-run-in-Some-clause-ok : goal.returns-in_ok-run-in-Some-clause-ok
-returns-in_ok-run-in-Some-clause-ok c =
-    form_of-run string_bytes c.args.argv.now _ _ c.in-Some.index (sym c.dashes.ensures.value ∙ c.in-Some.is) refl c.after.ensures
-    ∙ ap (option_map run_form) c.in_ok-run-in-Some.ensures.ok
+pub returns-in-Some-clause-refused : goal.returns-in-Some-clause-refused
+returns-in-Some-clause-refused c = λ is.
+    form_of-with_command string_bytes c.args.argv.now _ _ c.in-Some.index (sym c.dashes.ensures.value ∙ c.in-Some.is) refl c.after.ensures
+    ∙ c.read_with_command.ensures.refused is
 
-pub returns-in_err-read_demo-in-None-clause-refused : goal.returns-in_err-read_demo-in-None-clause-refused
-returns-in_err-read_demo-in-None-clause-refused c = λ is.
-    form_of-demo string_bytes c.args.argv.now (sym c.dashes.ensures.value ∙ c.in-None.is)
-    ∙ ap (option_map demo_form) (c.in_err-read_demo-in-None.ensures.refused (search rules))
+pub returns-in-None-clause-ok : goal.returns-in-None-clause-ok
+returns-in-None-clause-ok c =
+    subst (λ form. IfOk c.read_without_command.result (λ o. form ≡ Some (as_form o)))
+    (sym (form_of-without_command string_bytes c.args.argv.now (sym c.dashes.ensures.value ∙ c.in-None.is)))
+    c.read_without_command.ensures.ok
 
-pub returns-in_ok-read_demo-in-None-clause-ok : goal.returns-in_ok-read_demo-in-None-clause-ok
-returns-in_ok-read_demo-in-None-clause-ok c =
-    form_of-demo string_bytes c.args.argv.now (sym c.dashes.ensures.value ∙ c.in-None.is)
-    ∙ ap (option_map demo_form) c.in_ok-read_demo-in-None.ensures.ok
+pub returns-in-None-clause-refused : goal.returns-in-None-clause-refused
+returns-in-None-clause-refused c = λ is.
+    form_of-without_command string_bytes c.args.argv.now (sym c.dashes.ensures.value ∙ c.in-None.is)
+    ∙ c.read_without_command.ensures.refused is

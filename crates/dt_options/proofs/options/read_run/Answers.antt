@@ -2,7 +2,7 @@ use Rattle.std.proofs.Common.{◌∙◌, ap, rules}
 use Rattle.std.specs.Prelude.{option_map}
 use Rattle.clap.specs.Words.{found_of, rows_of}
 use Rattle.dt_options.specs.Arguments.{run_app}
-use Rattle.dt_options.proofs.Ranges.{budget_within, run_workers_within}
+use Rattle.dt_options.proofs.Ranges.{run_budget_within, run_workers_within}
 use Rattle.dt_options.proofs.Matches.{matched-refused, matched-taken}
 use Rattle.dt_options.proofs.Requests.{request_in-none, request_in-some}
 use Rattle.dt_options.proofs.options.read_run.Goals as goal
@@ -14,15 +14,10 @@ pub returns-in_default-clause-refused : goal.returns-in_default-clause-refused
 returns-in_default-clause-refused c = λ is. request_in-none _ _ (matched-taken run_app _ c.in_ok-matches.matches _ c.in_ok-matches.ensures.refused c.in_ok-matches.ensures.exact c.subcommand.ensures.rows ∙ ap (option_map (λ p. rows_of (found_of p.1.now))) c.in_default.is)
 
 pub returns-clause-ok : goal.returns-clause-ok
-returns-clause-ok c = request_in-some _ _ (rows_of (found_of c.in-Some.run'.now)) _ (matched-taken run_app _ c.in_ok-matches.matches _ c.in_ok-matches.ensures.refused c.in_ok-matches.ensures.exact c.subcommand.ensures.rows ∙ ap (option_map (λ p. rows_of (found_of p.1.now))) c.in-Some.is)
-    c.in_ok-command.ensures.ok (search rules) (search rules) (search rules) (search rules) (search rules)
+returns-clause-ok c = request_in-some _ _ (rows_of (found_of c.in-Some.run'.now)) _ _ (matched-taken run_app _ c.in_ok-matches.matches _ c.in_ok-matches.ensures.refused c.in_ok-matches.ensures.exact c.subcommand.ensures.rows ∙ ap (option_map (λ p. rows_of (found_of p.1.now))) c.in-Some.is) c.in_ok-command.ensures.ok c.in_ok-run_options.ensures
 
 pub returns-clause-budget : goal.returns-clause-budget
-returns-clause-budget c = budget_within _ (rows_of (found_of c.in-Some.run'.now)) _
-    (matched-taken run_app _ c.in_ok-matches.matches _ c.in_ok-matches.ensures.refused c.in_ok-matches.ensures.exact c.subcommand.ensures.rows ∙ ap (option_map (λ p. rows_of (found_of p.1.now))) c.in-Some.is)
-    (search rules)
+returns-clause-budget c = run_budget_within _ (rows_of (found_of c.in-Some.run'.now)) _ (matched-taken run_app _ c.in_ok-matches.matches _ c.in_ok-matches.ensures.refused c.in_ok-matches.ensures.exact c.subcommand.ensures.rows ∙ ap (option_map (λ p. rows_of (found_of p.1.now))) c.in-Some.is) (ap (λ r. r.budget) c.in_ok-run_options.ensures)
 
 pub returns-clause-workers : goal.returns-clause-workers
-returns-clause-workers c = run_workers_within _ (rows_of (found_of c.in-Some.run'.now)) _
-    (matched-taken run_app _ c.in_ok-matches.matches _ c.in_ok-matches.ensures.refused c.in_ok-matches.ensures.exact c.subcommand.ensures.rows ∙ ap (option_map (λ p. rows_of (found_of p.1.now))) c.in-Some.is)
-    (search rules)
+returns-clause-workers c = run_workers_within _ (rows_of (found_of c.in-Some.run'.now)) _ (matched-taken run_app _ c.in_ok-matches.matches _ c.in_ok-matches.ensures.refused c.in_ok-matches.ensures.exact c.subcommand.ensures.rows ∙ ap (option_map (λ p. rows_of (found_of p.1.now))) c.in-Some.is) (ap (λ r. r.workers) c.in_ok-run_options.ensures)

@@ -10,7 +10,7 @@ returns-clause-shape c = if_ok c.arg-5.result
     (added c.in_ok-arg-4.ensures c.workers_arg.ensures.local c.workers_arg.ensures.rule
     (added c.in_ok-arg-3.ensures c.budget_arg.ensures.local c.budget_arg.ensures.rule
     (added c.in_ok-arg-2.ensures c.number_arg.ensures.local c.number_arg.ensures.rule
-    (added c.in_ok-arg.ensures c.image_arg.ensures.local c.image_arg.ensures.rule c.new.ensures.app))))))
+    (added c.in_ok-arg.ensures c.operand_arg.ensures.local c.operand_arg.ensures.rule c.new.ensures.app))))))
     c.arg-5.ensures
 
 pub returns-clause-local : goal.returns-clause-local
@@ -19,5 +19,5 @@ returns-clause-local c = if_ok c.arg-5.result
     (stays_local c.in_ok-arg-4.ensures c.workers_arg.ensures.local
     (stays_local c.in_ok-arg-3.ensures c.budget_arg.ensures.local
     (stays_local c.in_ok-arg-2.ensures c.number_arg.ensures.local
-    (stays_local c.in_ok-arg.ensures c.image_arg.ensures.local c.new.ensures.local)))))
+    (stays_local c.in_ok-arg.ensures c.operand_arg.ensures.local c.new.ensures.local)))))
     c.arg-5.ensures
