@@ -76,7 +76,7 @@ module _ (r : Run) (start first told : Option (List ℕ)) (e : EngineView) (w : 
       → AddsPart start new (report_of r)
   part-finished new part = part-last r start first begun told new done.wrote (last-so (λ v c. AddsPart told new (last_text v c)) part)
 
-  finished : (now : World) (new : Option (List ℕ)) (status : ℕ) → now ≡ w → IsSoundContainer e.state.container w
+  pub finished : (now : World) (new : Option (List ℕ)) (status : ℕ) → now ≡ w → IsSoundContainer e.state.container w
       → status ≡ status_by (end_of (members_of e.state.container.shared.pids) FIRST_PID)
       → IfSome e.verdict (λ v. new ≡ added told (last_text v (shared_of e.state.container.shared w)))
       → Completes r status start new now

@@ -22,6 +22,7 @@ use crate::error::RunErr;
 use crate::happening::Admitted;
 use crate::state::State;
 use dt_base::{Event, Verdict};
+use dt_calls::Container;
 use dt_host::{Host, Sink, SinkErr, sink_all};
 use dt_image::events_text;
 use dt_rv64::{Machine, Seg};
@@ -76,6 +77,14 @@ impl Engine {
         ensures { result ≡ is_some self.now.verdict }
     {
         self.verdict.is_some()
+    }
+
+    /// Gives the container of a run that is over. A machine that is lent then is not in it.
+    pub fn close(self) -> Container
+        requires { IsSome self.verdict }
+        ensures { result ≡ self.state.container }
+    {
+        self.state.container
     }
 
     /// Lends the machine of a process that owes a segment and has it at home.

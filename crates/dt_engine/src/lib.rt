@@ -11,6 +11,7 @@ mod laws;
 mod onward;
 mod play;
 mod round;
+mod run;
 mod start;
 mod state;
 pub mod status;
@@ -28,4 +29,4 @@ pub use laws::{
     runs_do_not_see_what_ran_ahead, turn_does_not_see_machines_that_are_away,
     turn_does_not_see_what_ran_ahead,
 };
-pub use round::Runner;
+pub use run::{Ended, run_to_end};

@@ -19,8 +19,13 @@ use dt_rv64::Hints;
 use std::thread::Threads;
 
 impl Engine {
-    /// Takes the run on until a verdict stands. What each turn shows is written before the next one.
-    pub fn go_on<R: AllocGlobal + Threads + Sync, H: Host + Send, O: Sink + Send, G: Gate + Sync>(
+    // Takes the run on until a verdict stands. What each turn shows is written before the next one.
+    pub(crate) fn go_on<
+        R: AllocGlobal + Threads + Sync,
+        H: Host + Send,
+        O: Sink + Send,
+        G: Gate + Sync,
+    >(
         &mut self,
         host: &mut H,
         out: &mut O,
