@@ -1,17 +1,25 @@
 -- What follows from a failure and the status that was answered for it.
-use Rattle.std.proofs.Common.{◌≡◌, ◌≢◌, ℕ, List, Option, Some, None, Ok, Err, refl, sym, subst, ◌∙◌, ⊎_elim, inl, inr}
-use Rattle.std.specs.Prelude.{IsTrue, IsOk, IfSome, ◌⊎◌}
+use Rattle.std.proofs.Common.{◌≡◌, ◌≢◌, ℕ, List, Option, Some, None, Result, Ok, Err, refl, sym, subst, ◌∙◌, ⊎_elim, inl, inr}
+use Rattle.std.specs.Prelude.{IsTrue, IfOk, IfSome, ◌⊎◌}
 use Rattle.dt_base.specs.declared.refusal.Refusal.{Refusal}
+use Rattle.dt_export.specs.declared.refusal.ExportRefusal.{ExportRefusal}
+use Rattle.dt_host.specs.Sink.{added}
+use Rattle.dt_host.proofs.Growth.{adds_all}
 use Rattle.dt_host.specs.Store.{StoreFiles}
+use Rattle.dt_export.specs.declared.refusal.ExportRefusal.TheVariants.{Exists}
+use Rattle.dt_host.specs.World.{World}
 use Rattle.dt_run.specs.declared.failure.Failure.{Failure}
-use Rattle.dt_run.specs.declared.failure.Failure.TheVariants.{Usage, Image, Store, Host, Output, NoMemory}
+use Rattle.dt_run.specs.declared.failure.Failure.TheVariants.{Usage, Image, Export, Store, Host, Output, NoMemory}
 use Rattle.dt_run.specs.Failure.{failure_status}
-use Rattle.dt_engine.specs.Completed.{Written}
-use Rattle.dt_run.specs.Wanted.{wanted, written_on, ReadsStore}
-use Rattle.dt_run.specs.SomeRun.{SomeRun, AddsTextPart}
-use Rattle.dt_run.specs.Statuses.{RefusesImage, is_run_status, precedes_run, fails_run}
+use Rattle.dt_run.specs.Outcome.{Outcome, status_of_outcome}
+use Rattle.dt_run.specs.Wanted.{wanted, outcome_on, ReadsStore}
+use Rattle.dt_run.specs.SomeRun.{SomeRun, AddsTextPart, AddsExportText}
+use Rattle.dt_run.specs.Exports.{HasPut, IsRefusedLate, RefusesExport}
+use Rattle.dt_run.specs.Statuses.{RefusesImage, RefusesFolder, precedes_run, precedes_export, fails_run}
+use Rattle.dt_engine.specs.Completed.{Finishes}
 use Rattle.dt_run.specs.inner.Fails.{HasFailureCause}
 use Rattle.dt_run.proofs.Wanting.{not_refused}
+use Rattle.dt_run.proofs.Ran.{put-status, late-status}
 
 -- what was answered for a failure: its status, or want of memory's
 abbrev pub Answers : Failure → ℕ → Type 0
@@ -30,27 +38,60 @@ each_some None on = tt
 each_some (Some x) on = on x
 
 -- a run is no refusal
-run_unless : {P : Written → Type 0} (told : Option StoreFiles) (words : List (List ℕ)) (f : Failure) → SomeRun told words P → wanted told words ≡ Some (Err f) → ⊥
+run_unless : {P : Outcome → Type 0} (told : Option StoreFiles) (words : List (List ℕ)) (f : Failure) → SomeRun told words P → wanted told words ≡ Some (Err f) → ⊥
 run_unless told words f run is =
-    let bad : Err f ≡ Ok (written_on run.form run.image) = subst (λ found. IfSome found (λ w. w ≡ Ok (written_on run.form run.image))) is run.is_wanted in cc
+    let bad : Err f ≡ Ok (outcome_on run.form run.image) = subst (λ found. IfSome found (λ w. w ≡ Ok (outcome_on run.form run.image))) is run.is_wanted in cc
+
+-- all that is written is a prefix of it
+whole-part : (told : Option StoreFiles) (words : List (List ℕ)) (old new : Option (List ℕ)) → {P : Outcome → Type 0} → ((outcome : Outcome) → P outcome → new ≡ added old outcome.written.text) → SomeRun told words P → AddsTextPart told words old new
+whole-part told words old new whole s = record {
+  form = s.form;
+  parsed = s.parsed;
+  image = s.image;
+  good = s.good;
+  is_wanted = s.is_wanted;
+  holds = adds_all old new _ (whole _ s.holds);
+}
 
 -- whatever failed, a run was begun or nothing was written
 pub part_or_nothing : (told : Option StoreFiles) (words : List (List ℕ)) (old new : Option (List ℕ)) (f : Failure) → HasFailureCause f told words old new → AddsTextPart told words old new ⊎ (new ≡ old)
 part_or_nothing told words old new Usage fails = inr fails.1
 part_or_nothing told words old new (Image refusal) fails = inr fails.1
-part_or_nothing told words old new Store fails = inr fails.1
+part_or_nothing told words old new (Export refusal) fails =
+    ⊎_elim (λ once. inr once.nothing) (λ late. inl (whole-part told words old new (λ outcome late. late.report) late)) fails
+part_or_nothing told words old new Store fails =
+    ⊎_elim (λ none. inr none) (λ whole. inl (whole-part told words old new (λ outcome whole. whole.1) whole)) fails.1
 part_or_nothing told words old new Host fails = inl fails
 part_or_nothing told words old new Output fails = inl fails
 part_or_nothing told words old new NoMemory fails = fails
 
+-- the refusal of an image that was answered
+pub record Refuses (told : Option StoreFiles) (words : List (List ℕ)) (f : Failure) : Type 0 where
+  pub refusal : Refusal
+  pub is : f ≡ Image refusal
+  pub first : IfSome (wanted told words) (λ found. found ≡ Err (Image refusal))
+
+-- the refusal of an export that was answered
+pub record RefusesTo (told : Option StoreFiles) (words : List (List ℕ)) (old new : Option (List ℕ)) (f : Failure) : Type 0 where
+  pub refusal : ExportRefusal
+  pub is : f ≡ Export refusal
+  pub refused : RefusesExport refusal told words old new
+
+-- at which status nothing was put
+pub untouched : (status : ℕ) (f : Failure) (S : Type 0) → Answers f status → (IsTrue (precedes_export (failure_status f)) → S) → IsTrue (precedes_export status) → S
+untouched status f S by stays early =
+    let own = own_status f status by (λ seven. let bad : IsTrue (precedes_export 7) = subst (λ s. IsTrue (precedes_export s)) seven early in cc) in
+    stays (subst (λ s. IsTrue (precedes_export s)) own early)
+
 module _ (status : ℕ) (told : Option StoreFiles) (words : List (List ℕ)) (old new : Option (List ℕ)) where
   own_part : (f : Failure) → IsTrue (fails_run (failure_status f)) → HasFailureCause f told words old new → AddsTextPart told words old new
-  own_part Usage late fails = absurd (cc)
-  own_part (Image refusal) late fails = absurd (cc)
-  own_part Store late fails = absurd (cc)
-  own_part Host late fails = fails
-  own_part Output late fails = fails
-  own_part NoMemory late fails = absurd (cc)
+  own_part Usage is fails = absurd (cc)
+  own_part (Image refusal) is fails = absurd (cc)
+  own_part (Export refusal) is fails = absurd (cc)
+  own_part Store is fails = absurd (cc)
+  own_part Host is fails = fails
+  own_part Output is fails = fails
+  own_part NoMemory is fails = absurd (cc)
 
   pub part : (f : Failure) → Answers f status → HasFailureCause f told words old new → IsTrue (fails_run status) → AddsTextPart told words old new
   part f by fails late =
@@ -58,12 +99,13 @@ module _ (status : ℕ) (told : Option StoreFiles) (words : List (List ℕ)) (ol
       own_part f (subst (λ s. IsTrue (fails_run s)) own late) fails
 
   own_nothing : (f : Failure) → IsTrue (precedes_run (failure_status f)) → HasFailureCause f told words old new → new ≡ old
-  own_nothing Usage early fails = fails.1
-  own_nothing (Image refusal) early fails = fails.1
-  own_nothing Store early fails = fails.1
-  own_nothing Host early fails = absurd (cc)
-  own_nothing Output early fails = absurd (cc)
-  own_nothing NoMemory early fails = absurd (cc)
+  own_nothing Usage is fails = fails.1
+  own_nothing (Image refusal) is fails = fails.1
+  own_nothing (Export refusal) is fails = absurd (cc)
+  own_nothing Store is fails = absurd (cc)
+  own_nothing Host is fails = absurd (cc)
+  own_nothing Output is fails = absurd (cc)
+  own_nothing NoMemory is fails = absurd (cc)
 
   pub nothing : (f : Failure) → Answers f status → HasFailureCause f told words old new → IsTrue (precedes_run status) → new ≡ old
   nothing f by fails early =
@@ -71,85 +113,164 @@ module _ (status : ℕ) (told : Option StoreFiles) (words : List (List ℕ)) (ol
       own_nothing f (subst (λ s. IsTrue (precedes_run s)) own early) fails
 
   own_usage : (f : Failure) → failure_status f ≡ 2 → HasFailureCause f told words old new → wanted told words ≡ Some (Err Usage)
-  own_usage Usage two fails = fails.0
-  own_usage (Image refusal) two fails = absurd (cc)
-  own_usage Store two fails = absurd (cc)
-  own_usage Host two fails = absurd (cc)
-  own_usage Output two fails = absurd (cc)
-  own_usage NoMemory two fails = absurd (cc)
+  own_usage Usage is fails = fails.0
+  own_usage (Image refusal) is fails = absurd (cc)
+  own_usage (Export refusal) is fails = absurd (cc)
+  own_usage Store is fails = absurd (cc)
+  own_usage Host is fails = absurd (cc)
+  own_usage Output is fails = absurd (cc)
+  own_usage NoMemory is fails = absurd (cc)
 
   pub usage : (f : Failure) → Answers f status → HasFailureCause f told words old new → status ≡ 2 → wanted told words ≡ Some (Err Usage)
   usage f by fails two =
       own_usage f (sym (own_status f status by (λ seven. let bad : 2 ≡ 7 = sym two ∙ seven in cc)) ∙ two) fails
 
   own_reads : (f : Failure) → failure_status f ≡ 4 → HasFailureCause f told words old new → ReadsStore words
-  own_reads Store four fails = fails.0
-  own_reads Usage four fails = absurd (cc)
-  own_reads (Image refusal) four fails = absurd (cc)
-  own_reads Host four fails = absurd (cc)
-  own_reads Output four fails = absurd (cc)
-  own_reads NoMemory four fails = absurd (cc)
+  own_reads Usage is fails = absurd (cc)
+  own_reads (Image refusal) is fails = absurd (cc)
+  own_reads (Export refusal) is fails = absurd (cc)
+  own_reads Store is fails = fails.0
+  own_reads Host is fails = absurd (cc)
+  own_reads Output is fails = absurd (cc)
+  own_reads NoMemory is fails = absurd (cc)
 
   pub reads : (f : Failure) → Answers f status → HasFailureCause f told words old new → status ≡ 4 → ReadsStore words
   reads f by fails four =
       own_reads f (sym (own_status f status by (λ seven. let bad : 4 ≡ 7 = sym four ∙ seven in cc)) ∙ four) fails
 
-  -- the refusal of an image that was answered
-  pub record Refuses (f : Failure) : Type 0 where
-    pub refusal : Refusal
-    pub is : f ≡ Image refusal
-    pub first : IfSome (wanted told words) (λ found. found ≡ Err (Image refusal))
+  own_stored : (f : Failure) → failure_status f ≡ 4 → HasFailureCause f told words old new → (new ≡ old) ⊎ AddsExportText told words old new
+  own_stored Usage is fails = absurd (cc)
+  own_stored (Image refusal) is fails = absurd (cc)
+  own_stored (Export refusal) is fails = absurd (cc)
+  own_stored Store is fails = fails.1
+  own_stored Host is fails = absurd (cc)
+  own_stored Output is fails = absurd (cc)
+  own_stored NoMemory is fails = absurd (cc)
 
-  own_image : (f : Failure) → failure_status f ≡ 3 → HasFailureCause f told words old new → Refuses f
-  own_image (Image refusal) three fails = record { refusal = refusal; is = refl; first = fails.0 }
-  own_image Usage three fails = absurd (cc)
-  own_image Store three fails = absurd (cc)
-  own_image Host three fails = absurd (cc)
-  own_image Output three fails = absurd (cc)
-  own_image NoMemory three fails = absurd (cc)
+  pub stored : (f : Failure) → Answers f status → HasFailureCause f told words old new → status ≡ 4 → (new ≡ old) ⊎ AddsExportText told words old new
+  stored f by fails four =
+      own_stored f (sym (own_status f status by (λ seven. let bad : 4 ≡ 7 = sym four ∙ seven in cc)) ∙ four) fails
 
-  pub image : (f : Failure) → Answers f status → HasFailureCause f told words old new → status ≡ 3 → Refuses f
+  own_image : (f : Failure) → failure_status f ≡ 3 → HasFailureCause f told words old new → Refuses told words f
+  own_image Usage is fails = absurd (cc)
+  own_image (Image refusal) is fails = record { refusal = refusal; is = refl; first = fails.0 }
+  own_image (Export refusal) is fails = absurd (cc)
+  own_image Store is fails = absurd (cc)
+  own_image Host is fails = absurd (cc)
+  own_image Output is fails = absurd (cc)
+  own_image NoMemory is fails = absurd (cc)
+
+  pub image : (f : Failure) → Answers f status → HasFailureCause f told words old new → status ≡ 3 → Refuses told words f
   image f by fails three =
       own_image f (sym (own_status f status by (λ seven. let bad : 3 ≡ 7 = sym three ∙ seven in cc)) ∙ three) fails
+
+  own_export : (f : Failure) → failure_status f ≡ 8 → HasFailureCause f told words old new → RefusesTo told words old new f
+  own_export Usage is fails = absurd (cc)
+  own_export (Image refusal) is fails = absurd (cc)
+  own_export (Export refusal) is fails = record { refusal = refusal; is = refl; refused = fails }
+  own_export Store is fails = absurd (cc)
+  own_export Host is fails = absurd (cc)
+  own_export Output is fails = absurd (cc)
+  own_export NoMemory is fails = absurd (cc)
+
+  pub export : (f : Failure) → Answers f status → HasFailureCause f told words old new → status ≡ 8 → RefusesTo told words old new f
+  export f by fails eight =
+      own_export f (sym (own_status f status by (λ seven. let bad : 8 ≡ 7 = sym eight ∙ seven in cc)) ∙ eight) fails
+
+  -- another failure is not what is wanted
+  other_than : (Q : Result Outcome Failure → Type 0) (f : Failure) → (Q (Err f) → ⊥) → (R : Type 0) → IfSome (wanted told words) (λ found. found ≡ Err f) → IfSome (wanted told words) (λ found. Q found → R)
+  other_than Q f unlike R first = if_some (wanted told words) first (λ found is q. absurd (unlike (subst Q is q)))
+
+  -- nor is a run
+  no_run : (Q : Result Outcome Failure → Type 0) → ((outcome : Outcome) → Q (Ok outcome) → ⊥) → {P : Outcome → Type 0} (R : Type 0) → SomeRun told words P → IfSome (wanted told words) (λ found. Q found → R)
+  no_run Q unlike R some = if_some (wanted told words) some.is_wanted (λ found is q. absurd (unlike _ (subst Q is q)))
+
+  known-usage : wanted told words ≡ Some (Err Usage) → IfSome (wanted told words) (λ found. found ≡ Err Usage)
+  known-usage is = subst (λ w. IfSome w (λ found. found ≡ Err Usage)) (sym is) refl
 
   -- where the words are refused
   pub refused_words : (f : Failure) → Answers f status → HasFailureCause f told words old new → wanted told words ≡ Some (Err Usage) → (status ≡ 2) ⊎ (status ≡ 7)
   refused_words Usage by fails is = by
   refused_words (Image refusal) by fails is =
       absurd (let bad : Err Usage ≡ Err (Image refusal) = subst (λ found. IfSome found (λ w. w ≡ Err (Image refusal))) is fails.0 in cc)
+  refused_words (Export refusal) by fails is =
+      ⊎_elim
+      (λ once. absurd (let bad : Err Usage ≡ Err (Export Exists) = subst (λ found. IfSome found (λ w. w ≡ Err (Export Exists))) is once.first in cc))
+      (λ late. absurd (run_unless told words Usage late is)) fails
   refused_words Store by fails is = absurd (not_refused told words fails.0 is)
   refused_words Host by fails is = absurd (run_unless told words Usage fails is)
   refused_words Output by fails is = absurd (run_unless told words Usage fails is)
   refused_words NoMemory by fails is = inr (⊎_elim (λ e. e) (λ e. e) by)
 
+  no_image_run : (outcome : Outcome) → RefusesImage (Ok outcome) → ⊥
+  no_image_run outcome r = let bad = r.refused in cc
+
   -- where the image is refused, and the store didn't fail
   pub refused_image : (f : Failure) (StoreRose : Type 0) → Answers f status → HasFailureCause f told words old new → (f ≡ Store → StoreRose) → ¬ StoreRose → IfSome (wanted told words) (λ found. RefusesImage found → (status ≡ 3) ⊎ (status ≡ 7))
-  refused_image Usage S by fails store none =
-      subst (λ w. IfSome w (λ found. RefusesImage found → (status ≡ 3) ⊎ (status ≡ 7))) (sym fails.0) (λ r. absurd (let bad = r.refused in cc))
+  refused_image Usage S by fails store none = other_than RefusesImage Usage (λ r. let bad = r.refused in cc) _ (known-usage fails.0)
   refused_image (Image refusal) S by fails store none = each_some (wanted told words) (λ found r. by)
+  refused_image (Export refusal) S by fails store none =
+      ⊎_elim (λ once. other_than RefusesImage (Export Exists) (λ r. let bad = r.refused in cc) _ once.first) (λ late. no_run RefusesImage no_image_run _ late) fails
   refused_image Store S by fails store none = absurd (none (store refl))
-  refused_image Host S by fails store none = if_some (wanted told words) fails.is_wanted (λ found is r. absurd (let bad = sym is ∙ r.refused in cc))
-  refused_image Output S by fails store none = if_some (wanted told words) fails.is_wanted (λ found is r. absurd (let bad = sym is ∙ r.refused in cc))
+  refused_image Host S by fails store none = no_run RefusesImage no_image_run _ fails
+  refused_image Output S by fails store none = no_run RefusesImage no_image_run _ fails
   refused_image NoMemory S by fails store none = each_some (wanted told words) (λ found r. inr (⊎_elim (λ e. e) (λ e. e) by))
 
+  no_folder_run : (outcome : Outcome) → RefusesFolder (Ok outcome) → ⊥
+  no_folder_run outcome r = cc
+
+  -- where the folder of an export has an index, and the store didn't fail
+  pub refused_folder : (f : Failure) (StoreRose : Type 0) → Answers f status → HasFailureCause f told words old new → (f ≡ Store → StoreRose) → ¬ StoreRose → IfSome (wanted told words) (λ found. RefusesFolder found → (status ≡ 8) ⊎ (status ≡ 7))
+  refused_folder Usage S by fails store none = other_than RefusesFolder Usage (λ r. cc) _ (known-usage fails.0)
+  refused_folder (Image refusal) S by fails store none = other_than RefusesFolder (Image refusal) (λ r. cc) _ fails.0
+  refused_folder (Export refusal) S by fails store none = each_some (wanted told words) (λ found r. by)
+  refused_folder Store S by fails store none = absurd (none (store refl))
+  refused_folder Host S by fails store none = no_run RefusesFolder no_folder_run _ fails
+  refused_folder Output S by fails store none = no_run RefusesFolder no_folder_run _ fails
+  refused_folder NoMemory S by fails store none = each_some (wanted told words) (λ found r. inr (⊎_elim (λ e. e) (λ e. e) by))
+
+  -- the status of what is wanted was answered, or want of memory's
+  abbrev Ends : Result Outcome Failure → Type 0
+  Ends found = IfOk found (λ outcome. (status ≡ status_of_outcome outcome) ⊎ (status ≡ 7))
+
+  ends-refused : (f : Failure) → IfSome (wanted told words) (λ found. found ≡ Err f) → IfSome (wanted told words) Ends
+  ends-refused f first = if_some (wanted told words) first (λ found is. subst Ends (sym is) tt)
+
+  ends-late : (refusal : ExportRefusal) → (status ≡ 8) ⊎ (status ≡ 7) → SomeRun told words (IsRefusedLate refusal old new) → IfSome (wanted told words) Ends
+  ends-late refusal by late =
+      if_some (wanted told words) late.is_wanted
+      (λ found is. subst Ends (sym is) (⊎_elim (λ eight. inl (eight ∙ sym (late-status _ refusal old new late.holds))) (λ seven. inr seven) by))
+
+  each-ends : (found : Result Outcome Failure) → status ≡ 7 → Ends found
+  each-ends (Ok outcome) seven = inr seven
+  each-ends (Err f) seven = tt
+
   -- where words and image are accepted, and no call failed
-  pub complete : (f : Failure) (StoreRose HostRose OutRose : Type 0) → Answers f status → HasFailureCause f told words old new → (f ≡ Store → StoreRose) → (f ≡ Host → HostRose) → (f ≡ Output → OutRose) → ¬ StoreRose → ¬ HostRose → ¬ OutRose → IfSome (wanted told words) (λ found. IsOk found → IsTrue (is_run_status status) ⊎ (status ≡ 7))
-  complete Usage S H O by fails store host output no_store no_host no_output =
-      subst (λ w. IfSome w (λ found. IsOk found → IsTrue (is_run_status status) ⊎ (status ≡ 7))) (sym fails.0) (λ ok. absurd (cc))
-  complete (Image refusal) S H O by fails store host output no_store no_host no_output =
-      if_some (wanted told words) fails.0 (λ found is ok. absurd (let bad : IsOk {T = Written} (Err (Image refusal)) = subst (λ w. IsOk w) is ok in cc))
+  pub complete : (f : Failure) (StoreRose HostRose OutRose : Type 0) → Answers f status → HasFailureCause f told words old new → (f ≡ Store → StoreRose) → (f ≡ Host → HostRose) → (f ≡ Output → OutRose) → ¬ StoreRose → ¬ HostRose → ¬ OutRose → IfSome (wanted told words) Ends
+  complete Usage S H O by fails store host output no_store no_host no_output = ends-refused Usage (known-usage fails.0)
+  complete (Image refusal) S H O by fails store host output no_store no_host no_output = ends-refused (Image refusal) fails.0
+  complete (Export refusal) S H O by fails store host output no_store no_host no_output =
+      ⊎_elim (λ once. ends-refused (Export Exists) once.first) (λ late. ends-late refusal by late) fails
   complete Store S H O by fails store host output no_store no_host no_output = absurd (no_store (store refl))
   complete Host S H O by fails store host output no_store no_host no_output = absurd (no_host (host refl))
   complete Output S H O by fails store host output no_store no_host no_output = absurd (no_output (output refl))
-  complete NoMemory S H O by fails store host output no_store no_host no_output = each_some (wanted told words) (λ found ok. inr (⊎_elim (λ e. e) (λ e. e) by))
+  complete NoMemory S H O by fails store host output no_store no_host no_output =
+      each_some (wanted told words) (λ found. each-ends found (⊎_elim (λ e. e) (λ e. e) by))
 
 -- where a run was completed nothing was refused
-pub not_refused_words : {P : Written → Type 0} (told : Option StoreFiles) (words : List (List ℕ)) → SomeRun told words P → wanted told words ≡ Some (Err Usage) → ⊥
+pub not_refused_words : {P : Outcome → Type 0} (told : Option StoreFiles) (words : List (List ℕ)) → SomeRun told words P → wanted told words ≡ Some (Err Usage) → ⊥
 not_refused_words told words run is = run_unless told words Usage run is
 
-pub not_refused_image : {P : Written → Type 0} (Q : Type 0) (told : Option StoreFiles) (words : List (List ℕ)) → SomeRun told words P → IfSome (wanted told words) (λ found. RefusesImage found → Q)
+pub not_refused_image : {P : Outcome → Type 0} (Q : Type 0) (told : Option StoreFiles) (words : List (List ℕ)) → SomeRun told words P → IfSome (wanted told words) (λ found. RefusesImage found → Q)
 not_refused_image Q told words run =
     if_some (wanted told words) run.is_wanted (λ found is r. absurd (let bad = sym is ∙ r.refused in cc))
 
-pub completed : (status : ℕ) (told : Option StoreFiles) (words : List (List ℕ)) → IsTrue (is_run_status status) → IfSome (wanted told words) (λ found. IsOk found → IsTrue (is_run_status status) ⊎ (status ≡ 7))
-completed status told words is = each_some (wanted told words) (λ found ok. inl is)
+pub not_refused_folder : {P : Outcome → Type 0} (Q : Type 0) (told : Option StoreFiles) (words : List (List ℕ)) → SomeRun told words P → IfSome (wanted told words) (λ found. RefusesFolder found → Q)
+not_refused_folder Q told words run =
+    if_some (wanted told words) run.is_wanted (λ found is r. absurd (let bad = sym is ∙ r in cc))
+
+-- and its status is that of what is wanted
+pub completed : (status : ℕ) (told now : Option StoreFiles) (words : List (List ℕ)) (old new : Option (List ℕ)) (w : World) → SomeRun told words (λ outcome. Finishes outcome.written status old new w × HasPut outcome told now) → IfSome (wanted told words) (λ found. IfOk found (λ outcome. (status ≡ status_of_outcome outcome) ⊎ (status ≡ 7)))
+completed status told now words old new w run =
+    if_some (wanted told words) run.is_wanted
+    (λ found is. subst (λ found. IfOk found (λ outcome. (status ≡ status_of_outcome outcome) ⊎ (status ≡ 7))) (sym is) (inl (run.holds.0.status ∙ sym (put-status _ told now run.holds.1))))

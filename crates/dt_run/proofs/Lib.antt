@@ -1,3 +1,5 @@
+pub mod Changes
+pub mod Putting
 pub mod Wanting
 pub mod Failing
 pub mod Lines

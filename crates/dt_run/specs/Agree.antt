@@ -3,23 +3,26 @@ use Rattle.std.specs.Prelude.{◌≡◌, ◌==◌, ◌||◌, ℕ, Bool, List, Op
 use Rattle.dt_host.specs.Cause.{HasCause}
 use Rattle.dt_host.specs.Sink.{added, AddsPart}
 use Rattle.dt_options.specs.Arguments.{default_workers}
-use Rattle.dt_options.specs.Options.{Form, run_form, demo_form, form_of}
+use Rattle.dt_options.specs.Options.{Form, run_form, export_form, demo_form, form_of}
 use Rattle.dt_run.specs.Statuses.{is_status, is_run_status, AddsLine}
-use Rattle.dt_run.specs.declared.status.TheConstants.{WORDS_REFUSED, IMAGE_REFUSED, STORE_FAULT, HOST_FAULT, OUTPUT_FAULT}
+use Rattle.dt_run.specs.declared.status.TheConstants.{WORDS_REFUSED, IMAGE_REFUSED, STORE_FAULT, HOST_FAULT, OUTPUT_FAULT, EXPORT_REFUSED}
 
 -- what is asked for without the number of workers and the number by which the host is disturbed
 abbrev pub without_choices : Form → Form
 without_choices (run_form request) = run_form (record request { workers = default_workers; host = None })
+without_choices (export_form request) =
+    export_form (record request { run = record request.run { workers = default_workers; host = None } })
 without_choices (demo_form request) = demo_form (record request { workers = default_workers; host = None })
 
--- both ask for a run of the same image, command, seed and budget, or for a demonstration of the same number, or both are
--- refused
+-- both ask for a run of the same image, command, seed and budget, or for its export to the same folder, or for a
+-- demonstration of the same number, or both are refused
 abbrev pub AskTheSame : List (List ℕ) → List (List ℕ) → Type 0
 AskTheSame words other = option_map without_choices (form_of words) ≡ option_map without_choices (form_of other)
 
--- the status of a completed run, or of words or an image that are refused; every other one is a fault's, or want of memory's
+-- the status of a completed run, or of words, an image or an export that are refused; every other one is a fault's, or want
+-- of memory's
 abbrev pub is_decided : ℕ → Bool
-is_decided status = is_run_status status || (status == WORDS_REFUSED) || (status == IMAGE_REFUSED)
+is_decided status = is_run_status status || (status == WORDS_REFUSED) || (status == IMAGE_REFUSED) || (status == EXPORT_REFUSED)
 
 -- to both, as far as they tell it, prefixes of the same bytes were added, and all of these where the status is decided
 pub record AddAlike (status other : ℕ) (old new other_old other_new : Option (List ℕ)) : Type 0 where

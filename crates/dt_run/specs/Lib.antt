@@ -1,7 +1,9 @@
 pub mod Failure
 pub mod Written
+pub mod Outcome
 pub mod Wanted
 pub mod SomeRun
+pub mod Exports
 pub mod Statuses
 pub mod Agree
 pub mod inner

@@ -1,3 +1,4 @@
 -- Inner words: no public clause cites these.
 pub mod Failures
 pub mod Fails
+pub mod Exporting

@@ -4,19 +4,25 @@ ghost use Rattle.dt_run.specs.Failure.{failure_status, failure_line};
 ghost use Rattle.dt_run.specs.declared.failure.Failure.TheVariants.{NoMemory as OutOfMemory};
 
 use crate::status::{
-    HOST_FAULT, IMAGE_REFUSED, OUT_OF_MEMORY, OUTPUT_FAULT, STORE_FAULT, WORDS_REFUSED,
+    EXPORT_REFUSED, HOST_FAULT, IMAGE_REFUSED, OUT_OF_MEMORY, OUTPUT_FAULT, STORE_FAULT,
+    WORDS_REFUSED,
 };
 use dt_base::{ImageErr, NoMemory, Refusal};
 use dt_engine::RunErr;
+use dt_export::{ExportErr, ExportRefusal};
+use dt_host::{HostErr, StoreErr};
 use dt_options::UsageErr;
+use std::alloc::AllocError;
 
-/// Why there is no whole report, in the order in which it is found.
+/// Why there is no whole report, or no export after it.
 #[derive(Clone, Copy, Debug, PartialEq, Eq)]
 pub enum Failure {
     /// The words of the command line are refused.
     Usage,
     /// The image is refused.
     Image(Refusal),
+    /// The export is refused.
+    Export(ExportRefusal),
     /// The store failed.
     Store,
     /// The host failed.
@@ -35,6 +41,7 @@ impl Failure {
         match self {
             Failure::Usage => WORDS_REFUSED,
             Failure::Image(_) => IMAGE_REFUSED,
+            Failure::Export(_) => EXPORT_REFUSED,
             Failure::Store => STORE_FAULT,
             Failure::Host => HOST_FAULT,
             Failure::Output => OUTPUT_FAULT,
@@ -51,6 +58,7 @@ impl Failure {
                 "dettrace: usage: dettrace run IMAGE [--seed N] [--budget N] [--workers N] \
                 [--host N] -- [NAME=VALUE ..] PROGRAM [ARG ..]\n",
             Failure::Image(refusal) => image_line(refusal),
+            Failure::Export(refusal) => export_line(refusal),
             Failure::Store => "dettrace: store fault\n",
             Failure::Host => "dettrace: host fault\n",
             Failure::Output => "dettrace: output fault\n",
@@ -71,6 +79,19 @@ fn image_line(refusal: Refusal) -> &'static str
         Refusal::NoBlob => "dettrace: image refused: 6 NoBlob\n",
         Refusal::TooBig => "dettrace: image refused: 7 TooBig\n",
         Refusal::TooMany => "dettrace: image refused: 8 TooMany\n",
+        Refusal::BadSteps => "dettrace: image refused: 11 BadSteps\n",
+    }
+}
+
+fn export_line(refusal: ExportRefusal) -> &'static str
+    ensures { result.now ≡ failure_line (Failure.Export refusal) }
+{
+    match refusal {
+        ExportRefusal::Exists => "dettrace: export refused: 1 Exists\n",
+        ExportRefusal::LongPath => "dettrace: export refused: 2 LongPath\n",
+        ExportRefusal::TooMany => "dettrace: export refused: 3 TooMany\n",
+        ExportRefusal::NotText => "dettrace: export refused: 4 NotText\n",
+        ExportRefusal::BigIndex => "dettrace: export refused: 5 BigIndex\n",
     }
 }
 
@@ -112,6 +133,54 @@ impl From<RunErr> for Failure {
             RunErr::Sink => Failure::Output,
             RunErr::NoMemory => Failure::NoMemory,
         }
+    }
+}
+
+impl From<ExportErr> for Failure {
+    ghost use Rattle.dt_run.specs.inner.Failures.{failure_of_export};
+
+    ghost from_gives = { λ e f. f ≡ failure_of_export e };
+
+    fn from(e: ExportErr) -> Self {
+        match e {
+            ExportErr::Refused(refusal) => Failure::Export(refusal),
+            ExportErr::Host => Failure::Host,
+            ExportErr::NoMemory => Failure::NoMemory,
+        }
+    }
+}
+
+impl From<StoreErr> for Failure {
+    ghost use Rattle.dt_run.specs.inner.Failures.{failure_of_store};
+
+    ghost from_gives = { λ e f. f ≡ failure_of_store e };
+
+    fn from(e: StoreErr) -> Self {
+        match e {
+            StoreErr::Failed => Failure::Store,
+            StoreErr::NoMemory => Failure::NoMemory,
+        }
+    }
+}
+
+impl From<HostErr> for Failure {
+    ghost use Rattle.dt_run.specs.inner.Failures.{failure_of_host};
+
+    ghost from_gives = { λ e f. f ≡ failure_of_host e };
+
+    fn from(e: HostErr) -> Self {
+        match e {
+            HostErr::Failed => Failure::Host,
+            HostErr::NoMemory => Failure::NoMemory,
+        }
+    }
+}
+
+impl From<AllocError> for Failure {
+    ghost from_gives = { λ _ f. f ≡ OutOfMemory };
+
+    fn from(_: AllocError) -> Self {
+        Failure::NoMemory
     }
 }
 

@@ -5,6 +5,7 @@
 #![tactic(auto)]
 
 mod demo;
+mod export;
 mod failure;
 mod run;
 pub mod status;

@@ -7,9 +7,8 @@ ghost use Rattle.dt_engine.specs.Run.{run_of, report_of};
 ghost use Rattle.dt_engine.specs.Completed.{Completes};
 
 use dt_base::{Command, Image};
-use dt_engine::{Engine, RunErr, Runner};
+use dt_engine::{RunErr, run_to_end};
 use dt_host::{Gate, Host, Sink};
-use dt_rv64::Hints;
 use std::thread::Threads;
 
 /// Runs a command on an image at a host that holds nothing, and writes the run's report to `out`, what each turn
@@ -43,9 +42,6 @@ pub fn run_container<
     ensures host { HasCause (H.count host.old) (H.count host.new) (IsErrOf result RunErr.Host) }
     ensures sink { HasCause (O.count out.old) (O.count out.new) (IsErrOf result RunErr.Sink) }
 {
-    let mut runner = Runner::new(rt, workers, gate);
-    let mut hints = Hints::new();
-    let mut engine = Engine::begin(rt.alloc(), host, out, image, command, seed, budget)?;
-    engine.go_on(host, out, &mut runner, &mut hints)?;
-    engine.finish(host, out)
+    let ended = run_to_end(rt, image, command, seed, budget, workers, host, out, gate)?;
+    Ok(ended.status)
 }

@@ -19,3 +19,6 @@ pub const OUTPUT_FAULT: u8 = 6;
 
 /// Memory ran out.
 pub const OUT_OF_MEMORY: u8 = 7;
+
+/// The export is refused, and nothing was put.
+pub const EXPORT_REFUSED: u8 = 8;

@@ -1,34 +1,42 @@
 // The call that the program makes.
-ghost use Rattle.std.specs.Prelude.{◌≡◌, ◌≢◌, ◌≤◌, ◌⊎◌, Some, Err, map, string_bytes, IsTrue, IsOk, IfSome, IfOk};
+ghost use Rattle.std.specs.Prelude.{◌≡◌, ◌≢◌, ◌≤◌, ◌⊎◌, Some, Err, map, string_bytes, IsTrue, IfSome, IfOk};
 ghost use Rattle.std.specs.Prelude.{IfErr, IsErrOf};
 ghost use Rattle.dt_host.specs.Asks.{Asks};
 ghost use Rattle.dt_host.specs.Cause.{HasCause};
 ghost use Rattle.dt_host.specs.Sink.{AddsPart};
 ghost use Rattle.dt_host.specs.World.{IsEmptyStart};
+ghost use Rattle.dt_options.specs.Options.{form_of};
+ghost use Rattle.dt_calls.specs.InCode.{shared_of};
+ghost use Rattle.dt_calls.specs.Sound.{IsSoundContainer};
 ghost use Rattle.dt_run.specs.declared.status.TheConstants.{WORDS_REFUSED, IMAGE_REFUSED, STORE_FAULT, HOST_FAULT};
-ghost use Rattle.dt_run.specs.declared.status.TheConstants.{OUTPUT_FAULT, OUT_OF_MEMORY};
+ghost use Rattle.dt_run.specs.declared.status.TheConstants.{OUTPUT_FAULT, OUT_OF_MEMORY, EXPORT_REFUSED};
 ghost use Rattle.dt_engine.specs.Run.{run_of, report_of};
-ghost use Rattle.dt_run.specs.Failure.{failure_status, failure_line};
-ghost use Rattle.dt_run.specs.Wanted.{wanted, ReadsStore};
-ghost use Rattle.dt_run.specs.SomeRun.{SomeRun, AddsTextPart};
-ghost use Rattle.dt_run.specs.Statuses.{is_status, is_run_status, precedes_run, fails_run, Stayed};
 ghost use Rattle.dt_engine.specs.Completed.{Completes, Finishes};
-ghost use Rattle.dt_run.specs.Statuses.{RefusesImage, status_line, AddsLine, AddsSomeLine, AddsRefusal};
+ghost use Rattle.dt_run.specs.Failure.{failure_status, failure_line};
+ghost use Rattle.dt_run.specs.Outcome.{status_of_outcome};
+ghost use Rattle.dt_run.specs.Wanted.{wanted, ReadsStore};
+ghost use Rattle.dt_run.specs.SomeRun.{SomeRun, AddsTextPart, AddsExportText};
+ghost use Rattle.dt_run.specs.Exports.{HasPut, MayPut};
+ghost use Rattle.dt_run.specs.Statuses.{is_status, is_run_status, precedes_run, precedes_export, fails_run, Stayed};
+ghost use Rattle.dt_run.specs.Statuses.{RefusesImage, RefusesFolder, status_line, AddsLine};
+ghost use Rattle.dt_run.specs.Statuses.{AddsSomeLine, AddsRefusal, AddsExportRefusal};
 ghost use Rattle.dt_run.specs.inner.Fails.{HasFailureCause};
 
 use crate::demo::demonstrate;
+use crate::export::run_export;
 use crate::failure::Failure;
-use crate::run::run_container;
 use dt_base::Image;
-use dt_engine::RunErr;
+use dt_engine::{Ended, RunErr, run_to_end};
+use dt_export::{ExportRefusal, has_index};
 use dt_host::{Gate, Host, HostErr, Sink, SinkErr, Store, sink_all};
 use dt_image::read_image;
 use dt_options::{Options, RunOptions, read_options};
 use std::thread::Threads;
 
 /// Runs what the words ask for, on the image that the store holds, at a host that holds nothing.
-/// Writes the report to `out`, and why there is no whole report to `err`; the answer is the status.
-/// A demonstration has an image of its own, and a summary of its report is written in the report's place.
+/// Writes the report to `out`, and why there is no whole report or no export to `err`; the answer is the status.
+/// A demonstration has an image of its own, and a summary of its report is written in the report's place. After the report
+/// of an export the image of the last file tree is put into the store.
 pub fn dettrace<
     R: AllocGlobal + Threads + Sync,
     S: Store,
@@ -40,23 +48,26 @@ pub fn dettrace<
     requires { IsEmptyStart (H.view host.old) }
 
     // At 0, 1 and 10 a run that the words ask for was completed: on the store's image where its files are known, and on
-    // some image where they are not. Its report was added, or of a demonstration the summary, the status is its own, and
-    // the host holds its last tree.
+    // some image where they are not. Its report was added, or of a demonstration the summary, the status is its own, the
+    // host holds its last tree, and its export was put, where one is asked for.
     ensures statuses { IsTrue (is_status result) }
     ensures some_image { IsTrue (is_run_status result) → SomeRun (S.told store.old) (map string_bytes words.now)
-        (λ written. Finishes written result (O.told out.old) (O.told out.new) (H.view host.new)) }
+        (λ outcome. Finishes outcome.written result (O.told out.old) (O.told out.new) (H.view host.new)
+        × HasPut outcome (S.told store.old) (S.told store.new)) }
 
-    // At 5 and 6 a prefix of such a run's report or summary was added, at 7 such a prefix or nothing, at 2, 3 and 4
-    // nothing.
+    // At 5 and 6 a prefix of such a run's report or summary was added, at 7 such a prefix or nothing, at 2 and 3 nothing,
+    // and at 4 nothing, or after the report of an export that report. What was added at 8 stands with its line below.
     ensures part { IsTrue (fails_run result)
         → AddsTextPart (S.told store.old) (map string_bytes words.now) (O.told out.old) (O.told out.new) }
     ensures memory { result ≡ OUT_OF_MEMORY
         → AddsTextPart (S.told store.old) (map string_bytes words.now) (O.told out.old) (O.told out.new)
         ⊎ (O.told out.new ≡ O.told out.old) }
+    ensures stored { result ≡ STORE_FAULT → (O.told out.new ≡ O.told out.old)
+        ⊎ AddsExportText (S.told store.old) (map string_bytes words.now) (O.told out.old) (O.told out.new) }
     ensures nothing { IsTrue (precedes_run result) → O.told out.new ≡ O.told out.old }
 
-    // Refused words and each fault have their cause; that of a refused image stands with its line below. A demonstration
-    // reads no store.
+    // Refused words and each fault have their cause; those of a refused image and of a refused export stand with their
+    // lines below. A demonstration reads no store.
     ensures usage { result ≡ WORDS_REFUSED
         → wanted (S.told store.old) (map string_bytes words.now) ≡ Some (Err Failure.Usage) }
     ensures store { HasCause (S.count store.old) (S.count store.new) (result ≡ STORE_FAULT) }
@@ -64,26 +75,34 @@ pub fn dettrace<
     ensures host { HasCause (H.count host.old) (H.count host.new) (result ≡ HOST_FAULT) }
     ensures output { HasCause (O.count out.old) (O.count out.new) (result ≡ OUTPUT_FAULT) }
 
-    // Where no call failed, the answer is the run's, or the refusal's, unless memory was wanting.
+    // Where no call failed, the answer is the run's, or that of a refusal, unless memory was wanting.
     ensures complete { Stayed (S.count store.old) (S.count store.new) → Stayed (H.count host.old) (H.count host.new)
         → Stayed (O.count out.old) (O.count out.new) → IfSome (wanted (S.told store.old) (map string_bytes words.now))
-        (λ found. IsOk found → IsTrue (is_run_status result) ⊎ (result ≡ OUT_OF_MEMORY)) }
+        (λ found. IfOk found (λ outcome. (result ≡ status_of_outcome outcome) ⊎ (result ≡ OUT_OF_MEMORY))) }
     ensures refused_words { wanted (S.told store.old) (map string_bytes words.now) ≡ Some (Err Failure.Usage)
         → (result ≡ WORDS_REFUSED) ⊎ (result ≡ OUT_OF_MEMORY) }
     ensures refused_image { Stayed (S.count store.old) (S.count store.new)
         → IfSome (wanted (S.told store.old) (map string_bytes words.now))
         (λ found. RefusesImage found → (result ≡ IMAGE_REFUSED) ⊎ (result ≡ OUT_OF_MEMORY)) }
+    ensures refused_folder { Stayed (S.count store.old) (S.count store.new)
+        → IfSome (wanted (S.told store.old) (map string_bytes words.now))
+        (λ found. RefusesFolder found → (result ≡ EXPORT_REFUSED) ⊎ (result ≡ OUT_OF_MEMORY)) }
 
-    // The error stream gets the status's line, at 3 with the refusal's number; where that stream fails, a prefix of it.
-    ensures line { result ≢ IMAGE_REFUSED → result ≢ OUT_OF_MEMORY
+    // The error stream gets the status's line, at 3 and 8 with the refusal's number; where that stream fails, a prefix of
+    // it.
+    ensures line { result ≢ IMAGE_REFUSED → result ≢ EXPORT_REFUSED → result ≢ OUT_OF_MEMORY
         → AddsLine (status_line result) (E.told err.old) (E.told err.new) (E.count err.old) (E.count err.new) }
     ensures image_line { result ≡ IMAGE_REFUSED
         → AddsRefusal (wanted (S.told store.old) (map string_bytes words.now))
         (E.told err.old) (E.told err.new) (E.count err.old) (E.count err.new) }
+    ensures export_line { result ≡ EXPORT_REFUSED
+        → AddsExportRefusal (S.told store.old) (map string_bytes words.now) (O.told out.old) (O.told out.new)
+        (E.told err.old) (E.told err.new) (E.count err.old) (E.count err.new) }
     ensures memory_line { result ≡ OUT_OF_MEMORY → AddsSomeLine (E.told err.old) (E.told err.new) }
 
-    // The store is only read.
-    ensures store_stays { S.told store.new ≡ S.told store.old }
+    // The store is only read, but that an export may put an index and blobs into its folder, unless it is refused.
+    ensures keeps { MayPut (form_of (map string_bytes words.now)) (S.told store.old) (S.told store.new) }
+    ensures untouched { IsTrue (precedes_export result) → S.told store.new ≡ S.told store.old }
 {
     match run_words(rt, words, store, host, out, gate) {
         Ok(status) => status,
@@ -105,7 +124,7 @@ pub fn write_failure<E: Sink>(failure: Failure, err: &mut E) -> u8
     }
 }
 
-// The run or the demonstration that the words ask for, or the first failure.
+// The run, the export or the demonstration that the words ask for, or the first failure.
 fn run_words<
     R: AllocGlobal + Threads + Sync,
     S: Store,
@@ -122,46 +141,60 @@ fn run_words<
 ) -> Result<u8, Failure>
     requires { IsEmptyStart (H.view host.old) }
     ensures completed { IfOk result (λ status. SomeRun (S.told store.old) (map string_bytes words.now)
-        (λ written. Finishes written status (O.told out.old) (O.told out.new) (H.view host.new))) }
+        (λ outcome. Finishes outcome.written status (O.told out.old) (O.told out.new) (H.view host.new)
+        × HasPut outcome (S.told store.old) (S.told store.new))) }
     ensures failed { IfErr result
         (λ f. HasFailureCause f (S.told store.old) (map string_bytes words.now) (O.told out.old) (O.told out.new)) }
+    ensures keeps { MayPut (form_of (map string_bytes words.now)) (S.told store.old) (S.told store.new) }
+    ensures untouched { IfErr result
+        (λ f. IsTrue (precedes_export (failure_status f)) → S.told store.new ≡ S.told store.old) }
     ensures store { HasCause (S.count store.old) (S.count store.new) (IsErrOf result Failure.Store) }
     ensures host { HasCause (H.count host.old) (H.count host.new) (IsErrOf result Failure.Host) }
     ensures output { HasCause (O.count out.old) (O.count out.new) (IsErrOf result Failure.Output) }
-    ensures store_stays { S.told store.new ≡ S.told store.old }
 {
     let alloc = rt.alloc();
     match read_options(alloc, words)? {
         Options::Run(options) => {
             let image = read_image(alloc, store, options.image.as_str())?;
-            Ok(run_image(rt, &options, &image, host, out, gate)?)
+            Ok(run_image(rt, &options, &image, host, out, gate)?.status)
+        }
+        Options::Export(options) => {
+            let image = read_image(alloc, store, options.run.image.as_str())?;
+            if has_index(alloc, store, options.to.as_str())? {
+                return Err(Failure::Export(ExportRefusal::Exists));
+            }
+            run_export(rt, &options, &image, store, host, out, gate)
         }
         Options::Demo(options) => Ok(demonstrate(rt, &options, host, out, gate)?),
     }
 }
 
-// The run that the options ask for on an image.
-fn run_image<R: AllocGlobal + Threads + Sync, H: Host + Send, O: Sink + Send, G: Gate + Sync>(
+/// The run that the options ask for on an image.
+pub fn run_image<R: AllocGlobal + Threads + Sync, H: Host + Send, O: Sink + Send, G: Gate + Sync>(
     rt: &R,
     options: &RunOptions,
     image: &Image,
     host: &mut H,
     out: &mut O,
     gate: &G,
-) -> Result<u8, RunErr>
+) -> Result<Ended, RunErr>
     requires empty { IsEmptyStart (H.view host.old) }
     requires budget { (1 ≤ options.now.budget) × (options.now.budget ≤ 1000000000) }
     requires workers { (1 ≤ options.now.workers) × (options.now.workers ≤ 64) }
-    ensures completed { IfOk result (λ status. Completes
-        (run_of image.now options.now.command options.now.seed options.now.budget) status
+    ensures completed { IfOk result (λ ended. Completes
+        (run_of image.now options.now.command options.now.seed options.now.budget) ended.status
         (O.told out.old) (O.told out.new) (H.view host.new)) }
+    ensures left { IfOk result (λ ended.
+        let run = run_of image.now options.now.command options.now.seed options.now.budget in
+        run.last ≡ shared_of ended.container.shared (H.view host.new)) }
+    ensures sound { IfOk result (λ ended. IsSoundContainer ended.container (H.view host.new)) }
     ensures part { AddsPart (O.told out.old) (O.told out.new)
         (report_of (run_of image.now options.now.command options.now.seed options.now.budget)) }
     ensures host { HasCause (H.count host.old) (H.count host.new) (IsErrOf result RunErr.Host) }
     ensures output { HasCause (O.count out.old) (O.count out.new) (IsErrOf result RunErr.Sink) }
 {
     disturb(options.host, host)?;
-    run_container(
+    run_to_end(
         rt,
         image,
         &options.command,
