@@ -127,7 +127,7 @@ impl<'a> Call<'a> {
         let picker = picker(alloc, self.choices)?;
         let mut store = MemStore::new(alloc, picker, failing_calls(alloc, self.store_fails)?)?;
         for (name, bytes) in self.files {
-            store.put(name, bytes)?;
+            store.insert(name, bytes)?;
         }
         Ok(store)
     }

@@ -7,7 +7,7 @@ ghost use Rattle.dt_options.specs.Options.{Form, form_of};
 ghost use Rattle.dt_run.specs.declared.status.TheConstants.{WORDS_REFUSED, OUT_OF_MEMORY};
 ghost use Rattle.dt_engine.specs.Run.{status_of_run};
 ghost use Rattle.dt_run.specs.Statuses.{is_run_status};
-ghost use Rattle.dt_run.specs.Wanted.{written_on};
+ghost use Rattle.dt_run.specs.Wanted.{outcome_on};
 
 use crate::expect::same;
 use crate::program::{HELLO_INDEX, RUN_HELLO, hello, strings};
@@ -31,7 +31,7 @@ fn run<
     requires { IsEmptyStart (H.view met.old.host) }
     ensures completed { IsTrue (is_run_status result) → (form : Form) × (image : List Entry)
         × (form_of (map string_bytes words.now) ≡ Some form) × IsImage image
-        × (result ≡ status_of_run (written_on form image).run) }
+        × (result ≡ status_of_run (outcome_on form image).written.run) }
     ensures refused { form_of (map string_bytes words.now) ≡ None
         → ((result ≡ WORDS_REFUSED) ⊎ (result ≡ OUT_OF_MEMORY)) × (O.told met.new.out ≡ O.told met.old.out) }
 {

@@ -67,8 +67,8 @@ fn failing_store(alloc: Global, fails: u64) -> Result<MemStore, Fail> {
 
 fn store_of(alloc: Global, fails: u64, program: &[u8]) -> Result<MemStore, NoMemory> {
     let mut store = MemStore::new(alloc, picker(alloc)?, two(alloc, fails)?)?;
-    store.put("img/image.json", HELLO_INDEX)?;
-    store.put("img/hello", program)?;
+    store.insert("img/image.json", HELLO_INDEX)?;
+    store.insert("img/hello", program)?;
     Ok(store)
 }
 

@@ -59,8 +59,8 @@ pub fn store(alloc: Global, stream: u64, index: &[u8], program: &[u8]) -> Result
         ≡ insert (insert empty (codes "img/image.json") index.now) (codes "img/hello") program.now) }
 {
     let mut store = MemStore::new(alloc, Picker::new(Vec::new(alloc), stream), Vec::new(alloc))?;
-    store.put("img/image.json", index)?;
-    store.put("img/hello", program)?;
+    store.insert("img/image.json", index)?;
+    store.insert("img/hello", program)?;
     Ok(store)
 }
 

@@ -72,13 +72,18 @@ const ABC: &str = "folder_store_test/abc";
 
 const NOTHING: &str = "folder_store_test/nothing";
 
+const PUT: &str = "folder_store_test/put";
+
+// Where the bytes of `PUT` are written at first.
+const BESIDE: &str = "folder_store_test/.put.new";
+
 fn make_folder<F: AllocGlobal + Files<File = File>>(files: &F) -> io::Result<()> {
     let _ = fs::remove_dir_all(files, FOLDER);
     fs::create_dir(files, FOLDER)?;
     fs::write(files, ABC, b"abc".as_slice())
 }
 
-fn expect_reads<F: Files<File = File>>(rt: &impl Abort, store: &mut FolderStore<F>) {
+fn expect_reads<F: AllocGlobal + Files<File = File>>(rt: &impl Abort, store: &mut FolderStore<F>) {
     let mut piece = [0; 4];
     same(rt, store.size(ABC), Ok(Some(3)));
     same(rt, store.read_at(ABC, 1, &mut piece), Ok(2));
@@ -87,7 +92,7 @@ fn expect_reads<F: Files<File = File>>(rt: &impl Abort, store: &mut FolderStore<
     same(rt, store.faults(), 0);
 }
 
-fn expect_faults<F: Files<File = File>>(rt: &impl Abort, store: &mut FolderStore<F>) {
+fn expect_faults<F: AllocGlobal + Files<File = File>>(rt: &impl Abort, store: &mut FolderStore<F>) {
     expect_no_size(rt, store, "a folder", FOLDER);
     same(rt, store.faults(), 1);
     let through = "folder_store_test/abc/nothing";
@@ -99,7 +104,7 @@ fn expect_faults<F: Files<File = File>>(rt: &impl Abort, store: &mut FolderStore
     same(rt, store.faults(), 4);
 }
 
-fn expect_no_size<F: Files<File = File>>(
+fn expect_no_size<F: AllocGlobal + Files<File = File>>(
     rt: &impl Abort,
     store: &mut FolderStore<F>,
     what: &str,
@@ -108,7 +113,7 @@ fn expect_no_size<F: Files<File = File>>(
     same_at(rt, what, store.size(path), Err(StoreErr::Failed));
 }
 
-fn expect_no_piece<F: Files<File = File>>(
+fn expect_no_piece<F: AllocGlobal + Files<File = File>>(
     rt: &impl Abort,
     store: &mut FolderStore<F>,
     what: &str,
@@ -126,6 +131,49 @@ fn a_store_reads_what_is_there_and_counts_what_is_not(rt: HostRuntime) -> Result
     let mut store = FolderStore::new(&rt);
     expect_reads(&rt, &mut store);
     expect_faults(&rt, &mut store);
+    fs::remove_dir_all(&rt, FOLDER)?;
+    Ok(())
+}
+
+// Puts two files under one name, the second over what a run that was killed left beside it.
+fn expect_puts<F: AllocGlobal + Files<File = File>>(
+    rt: &impl Abort,
+    files: &F,
+    store: &mut FolderStore<F>,
+) -> io::Result<()> {
+    same(rt, store.put(PUT, b"a longer text"), Ok(()));
+    fs::write(files, BESIDE, b"left".as_slice())?;
+    same(rt, store.put(PUT, b"abc"), Ok(()));
+    let mut piece = [0; 4];
+    same(rt, store.size(PUT), Ok(Some(3)));
+    same(rt, store.read_at(PUT, 0, &mut piece), Ok(3));
+    same(rt, piece, *b"abc\0");
+    same(rt, store.size(BESIDE), Ok(None));
+    same(rt, store.faults(), 0);
+    Ok(())
+}
+
+// A folder is no place for a file, and no file is put into a folder that is missing.
+fn expect_put_faults<F: AllocGlobal + Files<File = File>>(
+    rt: &impl Abort,
+    store: &mut FolderStore<F>,
+) {
+    same(rt, store.put(FOLDER, b"abc"), Err(StoreErr::Failed));
+    same(rt, store.faults(), 1);
+    same(rt, store.size(".folder_store_test.new"), Ok(None));
+    let missing = "folder_store_test/nothing/put";
+    same(rt, store.put(missing, b"abc"), Err(StoreErr::Failed));
+    same(rt, store.faults(), 2);
+}
+
+#[test]
+fn a_store_puts_a_file_in_place_of_another_and_leaves_nothing_beside_it(
+    rt: HostRuntime,
+) -> Result<(), Fail> {
+    make_folder(&rt)?;
+    let mut store = FolderStore::new(&rt);
+    expect_puts(&rt, &&rt, &mut store)?;
+    expect_put_faults(&rt, &mut store);
     fs::remove_dir_all(&rt, FOLDER)?;
     Ok(())
 }

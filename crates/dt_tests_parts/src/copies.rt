@@ -28,8 +28,8 @@ pub fn image(alloc: Global, index: &[u8], blob: &str, bytes: &[u8]) -> Result<Im
 
 fn store(alloc: Global, index: &[u8], blob: &str, bytes: &[u8]) -> Result<MemStore, NoMemory> {
     let mut store = MemStore::new(alloc, Picker::new(Vec::new(alloc), 1), Vec::new(alloc))?;
-    store.put("img/image.json", index)?;
-    store.put(blob, bytes)?;
+    store.insert("img/image.json", index)?;
+    store.insert(blob, bytes)?;
     Ok(store)
 }
 
@@ -37,7 +37,7 @@ fn store(alloc: Global, index: &[u8], blob: &str, bytes: &[u8]) -> Result<MemSto
 pub fn run_options(alloc: Global, given: &[&str]) -> Result<RunOptions, UsageErr> {
     match read_options(alloc, &words(alloc, given)?)? {
         Options::Run(options) => Ok(options),
-        Options::Demo(_) => Err(UsageErr::Refused),
+        _ => Err(UsageErr::Refused),
     }
 }
 

@@ -31,7 +31,7 @@ fn store_tells_what_was_put(rt: HostRuntime) -> Result<(), Fail> {
 
 // Puts bytes under a name, and others after them.
 fn put_twice(store: &mut MemStore) -> Result<(), Fail> {
-    store.put("a", b"old")?;
+    store.insert("a", b"old")?;
     store.put("a", b"a blob")?;
     Ok(())
 }

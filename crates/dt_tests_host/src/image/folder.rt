@@ -80,7 +80,7 @@ fn fill(
     blobs: &[BlobSize<'_>],
 ) -> Result<(), NoMemory> {
     if let Some(bytes) = index {
-        store.put("img/image.json", bytes)?;
+        store.insert("img/image.json", bytes)?;
     }
     for (name, size) in blobs {
         put_blob(alloc, store, name, *size)?;
@@ -91,7 +91,7 @@ fn fill(
 fn put_blob(alloc: Global, store: &mut MemStore, name: &str, size: usize) -> Result<(), NoMemory> {
     let path = format!(in alloc; "img/{name}")?;
     let bytes = vec![in alloc; b'x'; size]?;
-    store.put(path.as_str(), &bytes)?;
+    store.insert(path.as_str(), &bytes)?;
     Ok(())
 }
 
@@ -112,9 +112,9 @@ fn put_all(
     blobs: &[BlobBytes<'_>],
 ) -> Result<(), NoMemory> {
     let text = index(alloc, line)?;
-    store.put("img/image.json", text.as_bytes())?;
+    store.insert("img/image.json", text.as_bytes())?;
     for (path, bytes) in blobs {
-        store.put(*path, *bytes)?;
+        store.insert(*path, *bytes)?;
     }
     Ok(())
 }

@@ -1,6 +1,6 @@
 // The words of the command line.
 use crate::expect::{same, same_at};
-use dt_options::{DemoOptions, Options, RunOptions, UsageErr, read_options};
+use dt_options::{DemoOptions, ExportOptions, Options, RunOptions, UsageErr, read_options};
 use std::alloc::{AllocError, Global};
 use std::process::Abort;
 
@@ -49,6 +49,19 @@ const LINES: &[(&str, bool)] = &[
     ("demo 1 --workers 65", false),
     ("demo 1 --", false),
     ("demo 1 -- /p", false),
+    ("export img to --host 5 -- A=1 /p --", true),
+    ("export --budget 1 img to -- /p", true),
+    ("export - img -- /p", true),
+    ("export img to", false),
+    ("export img -- /p", false),
+    ("export img to more -- /p", false),
+    ("export img to -- A=1", false),
+    ("export img to --budget 0 -- /p", false),
+    ("export img to --workers 65 -- /p", false),
+    ("--seed 1 export img to -- /p", false),
+    ("-- export img to", false),
+    ("steps img file", false),
+    ("Run img -- /p", false),
 ];
 
 // Why the words of a line are refused; None where they are taken.
@@ -79,15 +92,23 @@ fn lines_are_taken_or_refused(rt: HostRuntime) -> Result<(), UsageErr> {
 fn run_options(alloc: Global, line: &str) -> Result<Option<RunOptions>, UsageErr> {
     match read_options(alloc, &words(alloc, line)?)? {
         Options::Run(options) => Ok(Some(options)),
-        Options::Demo(_) => Ok(None),
+        _ => Ok(None),
+    }
+}
+
+// What the words of a line ask of an export, if they do.
+fn export_options(alloc: Global, line: &str) -> Result<Option<ExportOptions>, UsageErr> {
+    match read_options(alloc, &words(alloc, line)?)? {
+        Options::Export(options) => Ok(Some(options)),
+        _ => Ok(None),
     }
 }
 
 // What the words of a line ask of a demonstration, if they do.
 fn demo_options(alloc: Global, line: &str) -> Result<Option<DemoOptions>, UsageErr> {
     match read_options(alloc, &words(alloc, line)?)? {
-        Options::Run(_) => Ok(None),
         Options::Demo(options) => Ok(Some(options)),
+        _ => Ok(None),
     }
 }
 
@@ -132,5 +153,19 @@ fn words_of_a_demonstration_are_read(rt: HostRuntime) -> Result<(), UsageErr> {
         demo_options(rt.alloc(), "demo 7 --host 9")?,
         Some(want),
     );
+    Ok(())
+}
+
+#[test]
+fn words_of_an_export_are_read(rt: HostRuntime) -> Result<(), UsageErr> {
+    let line = "export img --budget 9 to --workers 3 -- A=1 /p -x";
+    let Some(options) = export_options(rt.alloc(), line)? else {
+        return Err(UsageErr::Refused);
+    };
+    same(&rt, numbers(&options.run), (0, 9, 3, None));
+    same(&rt, options.run.image.as_str(), "img");
+    same(&rt, options.to.as_str(), "to");
+    same(&rt, options.run.command.args().len(), 2);
+    same(&rt, options.run.command.env().len(), 1);
     Ok(())
 }

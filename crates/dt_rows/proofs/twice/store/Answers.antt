@@ -8,6 +8,6 @@ made x y is = cc
 
 pub returns : goal.returns
 returns c =
-    ap (λ (s : StoreState). s.files) c.in_ok-put-2.ensures.ok
-    ∙ ap (λ (s : StoreState). insert s.files (codes "img/hello") c.args.program.now) c.in_ok-put.ensures.ok
+    ap (λ (s : StoreState). s.files) c.in_ok-insert-2.ensures.ok
+    ∙ ap (λ (s : StoreState). insert s.files (codes "img/hello") c.args.program.now) c.in_ok-insert.ensures.ok
     ∙ ap (λ (s : StoreState). insert (insert s.files (codes "img/image.json") c.args.index.now) (codes "img/hello") c.args.program.now) (made _ _ c.in_ok-store.ensures)
