@@ -21,33 +21,47 @@ _dettrace_is_behind() {
     return 1
 }
 
-# How many words before the one that is completed are no options, nor values of the options in $1, behind word $2.
+# How many words before the one that is completed are no options, nor values of the options in $1, behind word $2. What
+# stands behind `=` is a value, or part of one.
 _dettrace_count() {
     local at count=0
     for ((at = $2 + 1; at < COMP_CWORD; at++)); do
         if [[ " $1 " == *" ${COMP_WORDS[at]} "* ]]; then
+            [[ ${COMP_WORDS[at + 1]} != = ]] || ((at++))
             ((at++))
-        elif [[ ${COMP_WORDS[at]} != -* && ${COMP_WORDS[at]} != = ]]; then
+        elif [[ ${COMP_WORDS[at]} == = ]]; then
+            ((at++))
+        elif [[ ${COMP_WORDS[at]} != -* ]]; then
             ((count++))
         fi
     done
     echo "$count"
 }
 
+# The last option before the word that is completed.
+_dettrace_option() {
+    local at
+    for ((at = COMP_CWORD - 1; at > 0; at--)); do
+        [[ ${COMP_WORDS[at]} != --* ]] || break
+    done
+    echo "${COMP_WORDS[at]}"
+}
+
 _dettrace() {
     local word=${COMP_WORDS[COMP_CWORD]} before=${COMP_WORDS[COMP_CWORD - 1]}
-    local valued="--seed --budget --workers --host"
+    local valued="--seed --budget --workers --host" folders=1
     COMPREPLY=()
     [[ ${COMP_WORDS[1]} == demo ]] && valued="--workers --host"
+    [[ ${COMP_WORDS[1]} == export ]] && folders=2
     if ((COMP_CWORD == 1)); then
-        _dettrace_words "run demo" "$word"
+        _dettrace_words "run export demo" "$word"
     elif _dettrace_is_behind || [[ " $valued " == *" $before "* ]]; then
         return
     elif [[ ${COMP_WORDS[1]} == demo ]]; then
         _dettrace_words "$valued" "$word"
     elif [[ $word == -* ]]; then
         _dettrace_words "$valued --" "$word"
-    elif (($(_dettrace_count "$valued" 1) == 0)); then
+    elif (($(_dettrace_count "$valued" 1) < folders)); then
         _dettrace_names -d "$word"
     else
         _dettrace_words "$valued --" "$word"
@@ -56,15 +70,19 @@ _dettrace() {
 
 _dettrace_run() {
     local word=${COMP_WORDS[COMP_CWORD]} before=${COMP_WORDS[COMP_CWORD - 1]}
-    local valued="--seed --budget --workers --host --report --check"
+    local valued="--seed --budget --workers --host --report --tree --take --check"
     local others="--twice --strict --quiet --help --version"
     COMPREPLY=()
     if _dettrace_is_behind; then
         return
-    elif [[ $before == --report ]]; then
-        _dettrace_names -f "$word"
-    elif [[ " $valued " == *" $before "* ]]; then
+    elif [[ $before == --take ]]; then
+        # A path in the image.
         return
+    elif [[ $word == = || $before == = || " $valued " == *" $before "* ]]; then
+        case $(_dettrace_option) in
+        --report) _dettrace_names -f "${word#=}" ;;
+        --tree | --take) _dettrace_names -d "${word#=}" ;;
+        esac
     elif [[ $word == -* ]]; then
         _dettrace_words "$valued $others --" "$word"
     elif (($(_dettrace_count "$valued" 0) == 0)); then

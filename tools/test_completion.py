@@ -14,8 +14,8 @@ from program import TOP
 SCRIPT = """. "$0" && COMP_CWORD=$(($# - 1)) && COMP_WORDS=("$@") && COMP_LINE="$*" && COMP_POINT=${#COMP_LINE}
 function=$(complete -p "$1" | sed 's/.*-F \\([a-z_]*\\) .*/\\1/') && { $function; printf '%s\\n' "${COMPREPLY[@]}"; }
 """
-RUN_OPTIONS = ["--seed", "--budget", "--workers", "--host", "--report", "--check", "--twice", "--strict", "--quiet",
-               "--help", "--version", "--"]
+RUN_OPTIONS = ["--seed", "--budget", "--workers", "--host", "--report", "--tree", "--take", "--check", "--twice",
+               "--strict", "--quiet", "--help", "--version", "--"]
 
 
 @unittest.skipUnless(shutil.which("bash"), "there is no bash")
@@ -48,12 +48,21 @@ class CompletionTest(unittest.TestCase):
     def test_the_program(self) -> None:
         options = ["--seed", "--budget", "--workers", "--host", "--"]
         self.expect(
-            ("dettrace ", ["run", "demo"]), ("dettrace r", ["run"]), ("dettrace d", ["demo"]), ("dettrace x", []),
+            ("dettrace ", ["run", "export", "demo"]), ("dettrace r", ["run"]), ("dettrace d", ["demo"]),
+            ("dettrace x", []),
             ("dettrace run ", self.FOLDERS), ("dettrace run im", ["image"]), ("dettrace run tree", []),
             ("dettrace run -", options), ("dettrace run --s", ["--seed"]), ("dettrace run --seed ", []),
             ("dettrace run --seed 5 ", self.FOLDERS), ("dettrace run image ", options),
             ("dettrace run image --host 1 --b", ["--budget"]), ("dettrace run image -- ", []),
-            ("dettrace run image -- --s", []), ("dettrace run --workers ", []))
+            ("dettrace run image -- --s", []), ("dettrace run --workers ", []),
+            ("dettrace run --seed = 5 ", self.FOLDERS))
+
+    def test_an_export(self) -> None:
+        options = ["--seed", "--budget", "--workers", "--host", "--"]
+        self.expect(
+            ("dettrace e", ["export"]), ("dettrace export ", self.FOLDERS), ("dettrace export image ", self.FOLDERS),
+            ("dettrace export image i", ["image"]), ("dettrace export image image ", options),
+            ("dettrace export --seed 5 image ", self.FOLDERS), ("dettrace export image -- i", []))
 
     def test_a_demonstration(self) -> None:
         options = ["--workers", "--host"]
@@ -67,6 +76,11 @@ class CompletionTest(unittest.TestCase):
             ("dettrace-run -", RUN_OPTIONS), ("dettrace-run --s", ["--seed", "--strict"]),
             ("dettrace-run --check ", []), ("dettrace-run --report ", self.FILES),
             ("dettrace-run --twice ", self.FILES), ("dettrace-run --seed 1 image ", RUN_OPTIONS),
+            ("dettrace-run --tree ", self.FOLDERS), ("dettrace-run --tree = i", ["image"]),
+            ("dettrace-run --take ", []), ("dettrace-run --take /bin =", self.FOLDERS),
+            ("dettrace-run --take /bin = i", ["image"]), ("dettrace-run --take /bin = out ", self.FILES),
+            ("dettrace-run --take = /bin = out image ", RUN_OPTIONS),
+            ("dettrace-run --report = t", ["tree.tar", "two words"]),
             ("dettrace-run image -- ", []))
 
     def test_the_tool_for_images(self) -> None:

@@ -43,7 +43,7 @@ class Runs(unittest.TestCase):
         self.assertNotIn(run_example("race", "--seed", 1).stdout, reports)
 
     def test_the_sessions_of_the_readme_print_what_it_shows(self):
-        for heading in ("A session", "Your own files"):
+        for heading in ("A session", "Your own files", "A build in steps"):
             self.assertGreater(len(session(heading)), 4)
             with fresh_checkout() as folder:
                 self.play(folder, session(heading))

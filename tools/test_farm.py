@@ -8,6 +8,7 @@ import shutil
 import subprocess
 import unittest
 from pathlib import Path
+from typing import Sequence
 
 from program import EXAMPLES, PROGRAM, TOP, fresh_checkout, needs_program
 from release_case import ReleaseCase, needs_tools, run
@@ -21,13 +22,14 @@ def script(name: str) -> str:
     return "\n".join(line[4:] for line in lines[first:after]).rstrip("\n") + "\n"
 
 
-@needs_program
-class FarmTest(unittest.TestCase):
+class FarmCase(unittest.TestCase):
+    """A test in a folder with the scripts of the page."""
+
     def setUp(self) -> None:
         checkout = fresh_checkout()
         self.folder = checkout.__enter__()
         self.addCleanup(checkout.__exit__, None, None, None)
-        for name in ("job", "nightly", "cached"):
+        for name in ("job", "nightly", "cached", "chain"):
             (self.folder / name).write_text(script(name))
             (self.folder / name).chmod(0o755)
         (self.folder / "tree").mkdir()
@@ -49,6 +51,9 @@ class FarmTest(unittest.TestCase):
         path.chmod(0o755)
         return path
 
+
+@needs_program
+class FarmTest(FarmCase):
     def test_a_job_keeps_a_complete_report_and_its_status(self) -> None:
         for example, words, status in (("hello", ["/hello"], "0\n"), ("shell", ["/describe"], "1\n"),
                                        ("hello", ["/nothere"], "10\n")):
@@ -97,6 +102,60 @@ class FarmTest(unittest.TestCase):
         self.assertEqual((status, out.split("\n")[0]), (
             1, "the number of paths is 1 in A and 2 in B; tree line 2 differs: /notes is only in B"))
         self.assertEqual(self.run_words("./nightly", "2025-03-03"), (2, ""))
+
+
+@needs_program
+class ChainTest(FarmCase):
+    """The script for a build of several steps, and the commands that compare what two have left."""
+
+    STEPS = ("/make", "/bin/join /all /out/poem /src/link", 'LANG=C /bin/show "/all"')
+
+    def chain(self, *lines: str, words: Sequence[str] = (), program: object = PROGRAM) -> tuple[int, str]:
+        (self.folder / "lines").write_text("\n".join(lines))
+        status, out = self.run_words("./chain", "examples/processes", "lines", *words, program=program)
+        return status, out.strip()
+
+    def test_each_step_is_made_once_on_the_tree_that_the_last_one_left(self) -> None:
+        self.assertEqual(self.chain(*self.STEPS)[0], 0)
+        name = self.chain(*self.STEPS)[1]
+        # Nothing is run any more.
+        self.assertEqual(self.chain(*self.STEPS, program="/bin/false"), (0, name))
+        self.assertEqual(len(os.listdir(self.folder / "chain.kept")), 3)
+        image = self.folder / name
+        self.assertIn('"path":"/all"', (image / "image.json").read_text())
+        report = (image.parent / "report").read_text()
+        self.assertIn((EXAMPLES / "processes" / "link").read_text(), report)
+        # Another second step is made, and the third on what that has left.
+        other = self.chain(self.STEPS[0], "/bin/join /all /out/one", self.STEPS[2])
+        self.assertEqual((other[0], len(os.listdir(self.folder / "chain.kept"))), (0, 5))
+        self.assertNotEqual(other[1], name)
+        self.assertNotEqual(self.chain(*self.STEPS, words=["--seed", "7"])[1], name)
+
+    def test_the_first_step_that_fails_is_the_last(self) -> None:
+        status, report = self.chain("/make", "/bin/show", "/bin/show /out/one")
+        self.assertEqual(status, 1)
+        self.assertIn("exit 1 code 2\n", (self.folder / report).read_text())
+        self.assertEqual(self.chain("/make", "/nothere")[0], 10)
+        self.assertEqual(self.chain("/make", "/bin/show /out/one", words=["--budget", "0"])[0], 2)
+        for text, status in (("exit 5", 75), ("kill -9 $$", 75), ("exit 4", 75), ("exit 3", 3), ("exit 8", 8)):
+            self.assertEqual(self.chain("/bin/show /none", program=self.stand_in(text)), (status, ""))
+
+    def test_both_ways_to_compare(self) -> None:
+        here, there = (self.folder / name for name in ("here", "there"))
+        for folder, source, words in ((here, "examples/processes", ["/make"]), (there, "here", ["/none"])):
+            folder.mkdir()
+            subprocess.run([PROGRAM, "export", source, folder, "--", *words], cwd=self.folder, check=False,
+                           stdout=subprocess.DEVNULL)
+        text = (TOP / "docs/FARM.md").read_text().split("\n## Comparing two exports\n")[1].split("\n## ")[0]
+        first, digests, trees = ["\n".join(line[4:] for line in block.splitlines())
+                                 for block in re.findall(r"(?m)(?:^    .*\n)+", text)]
+        # One tree, whose files have other inodes in the second.
+        for script, status in ((first, 1), (digests, 1), (trees, 0)):
+            self.assertEqual(self.run_words("sh", "-e", "-c", script)[0], status, script)
+        shutil.rmtree(there)
+        shutil.copytree(here, there)
+        for script in (first, digests):
+            self.assertEqual(self.run_words("sh", "-e", "-c", script), (0, ""))
 
 
 def template(name: str) -> str:

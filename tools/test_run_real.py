@@ -1,14 +1,20 @@
 """tools/run with the program itself: each example, each kind of end, and the session of docs/RUN.md."""
 from __future__ import annotations
 
+import hashlib
 import os
 import shlex
 import subprocess
 import tarfile
 import unittest
+from typing import Dict
 
+from hostilelib.building import Guest
+from hostilelib.numbers import AT_FDCWD, SYMLINKAT
 from imagelib.index import read_image
+from imagelib.testing import tree_of
 from program import EXAMPLES, PROGRAM, TOP, fresh_checkout, needs_program
+from reportlib.reader import Entry, Reader
 from reportlib.testing import run as report
 from runlib.testing import Done, RunCase, elf
 
@@ -31,6 +37,20 @@ def code(*words: int) -> bytes:
 def li(register: int, value: int) -> int:
     """addi register, x0, value"""
     return value << 20 | register << 7 | 0x13
+
+
+def told_tree(report: bytes) -> Dict[str, tuple]:
+    """The tree of a report, with the digests of its files."""
+    items = [item for item in Reader().feed(report) if isinstance(item, Entry)]
+    return {item.path.decode(): (item.kind, *((item.target.decode(),) if item.kind == "link" else
+                                              (int(item.mode, 8), *([item.sha256] if item.kind == "file" else []))))
+            for item in items}
+
+
+def told_of(tree: Dict[str, tuple]) -> Dict[str, tuple]:
+    """A tree in which each file has the digest of its bytes in their place."""
+    return {path: (*node[:2], hashlib.sha256(node[2]).hexdigest()) if node[0] == "file" else node
+            for path, node in tree.items()}
 
 
 ECALL, EBREAK, LOOP = 0x73, 0x100073, 0x6F
@@ -69,6 +89,34 @@ class Real(RunCase):
             done = self.run_words("--report", source + ".report", source, "--", "hello")
             self.assertEqual(done, Done(0, b"hello\n", []))
         self.assertEqual((self.work / "tree.report").read_bytes(), (self.work / "tree.tar.gz.report").read_bytes())
+
+    def test_folders_of_what_the_examples_leave_are_as_their_reports_tell(self) -> None:
+        for name in NAMES:
+            with self.subTest(name):
+                made = str(self.work / name)
+                done = self.run_words("--tree", made, "--report", f"{name}.report", EXAMPLES / name, *words_of(name))
+                self.assertEqual(done.status, CODES.get(name, 0))
+                self.assertEqual((self.work / f"{name}.report").read_bytes(), (EXAMPLES / name / "report").read_bytes())
+                self.assertEqual(told_of(tree_of(made)), told_tree((EXAMPLES / name / "report").read_bytes()))
+
+    def test_folders_of_what_is_below_a_path(self) -> None:
+        done = self.run_words("--take", "/out=out", "--take", "bin=programs", "--twice", EXAMPLES / "processes", "--",
+                              "/make")
+        self.assertEqual(done.status, 0)
+        self.assertEqual(sorted(os.listdir(self.work / "out")), ["one", "poem", "three", "two"])
+        self.assertEqual(sorted(os.listdir(self.work / "programs")), ["compile", "join", "lines", "show"])
+        done = self.run_words("--take", "/none=more", EXAMPLES / "processes", "--", "/make")
+        self.assertEqual((done.status, done.err), (
+            125, ["run: --take /none: in the tree at the end nothing is at /none; / has bin, make, out and src"]))
+
+    def test_a_tree_that_no_image_can_hold(self) -> None:
+        guest = Guest(8)
+        guest.call(SYMLINKAT, guest.text(b"\xff"), AT_FDCWD, guest.text(b"/l"))
+        self.write("x", guest.executable())
+        done = self.run_words("--tree", "made", "tree", "--", "/x")
+        self.says(done, 125, "--tree: no image can hold the tree at the end: "
+                             "a path or the target of a link is no UTF-8")
+        self.assertEqual(self.left(), ["tree"])
 
     def end(self, data: bytes, *options: str) -> tuple:
         """How a run of a program ends, and the first words of what is said."""

@@ -76,7 +76,7 @@ class Words(RunCase):
                 self.assertEqual((done.status, done.err), (0, []))
                 text = done.out.decode()
                 for part in ("--seed N", "--budget N", "--workers N", "--host N", "--report FILE", "--check N",
-                             "--twice", "--strict", "--quiet", "--version", "  125 ", "  126 ", "  127 ",
+                             "--tree FOLDER", "--take PATH=FOLDER", "--twice", "--strict", "--quiet", "--version", "  125 ", "  126 ", "  127 ",
                              "  128 + N", "  200 ", "  201 ", "  202 ", "  203 ", "XDG_CACHE_HOME", "DETTRACE"):
                     self.assertIn(part, text)
                 self.assertEqual([line for line in text.splitlines() if len(line) > 120], [])

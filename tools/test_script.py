@@ -85,9 +85,11 @@ class TryTest(ScriptCase):
         self.assertEqual(self.try_words("run", "image", said=f"dettrace: image refused\n{RT_SAID}"),
                          (3, "report", f"{NOTICE}dettrace: image refused\n"))
 
-    def test_the_image_is_named_by_its_whole_path(self) -> None:
+    def test_folders_are_named_by_their_whole_paths(self) -> None:
         whole = str(self.folder / "image")
-        for words in (["run", "{}"], ["run", "{}", "--seed", "5", "--", "/image"], ["run", "--seed", "5", "{}", "--"],
+        for words in (["export", "{}", "{}", "--", "image"], ["export", "--seed", "image", "{}", "--host=1", "{}"],
+                      ["export", "{}", "--", "image"], ["export", "{}", "{}", "image"],
+                      ["run", "{}"], ["run", "{}", "--seed", "5", "--", "/image"], ["run", "--seed", "5", "{}", "--"],
                       ["run", "--seed=5", "--host", "image", "{}", "image"], ["run", "--workers", "3", "{}", "--"],
                       ["run", "--", "image"], ["run"], ["demo", "image", "--workers", "image"], []):
             with self.subTest(words):

@@ -5,6 +5,7 @@ it), in the order in which the program looks for them."""
 from __future__ import annotations
 
 import json
+import re
 from collections import Counter
 from typing import Any, Callable, Dict, List, NamedTuple, Optional, Tuple
 
@@ -28,6 +29,9 @@ FILE, DIR, LINK = "file", "dir", "link"
 
 # What an entry is called in a sentence.
 CALLED = {FILE: "a file", DIR: "a directory", LINK: "a symbolic link"}
+
+# The names that the program gives to blobs where it exports a tree, which come before the index.
+EXPORTED = re.compile("b[0-9]+")
 
 BLOB_CHARACTERS = frozenset("ABCDEFGHIJKLMNOPQRSTUVWXYZabcdefghijklmnopqrstuvwxyz0123456789._-")
 
@@ -128,7 +132,8 @@ def missing_index(store: Store) -> str:
     """Why there is no index."""
     if not store.is_there():
         return f"there is no folder {quoted(store.folder)}"
-    return f"there is no file {quoted(store.path(INDEX))}: is it a folder that was not packed?"
+    why = "was an export stopped before its end?" if store.has(EXPORTED) else "is it a folder that was not packed?"
+    return f"there is no file {quoted(store.path(INDEX))}: {why}"
 
 
 def index_value(store: Store) -> Any:

@@ -4,6 +4,7 @@ A name that leads nowhere is no file; whatever else stands in the way is a store
 from __future__ import annotations
 
 import os
+import re
 import stat
 from typing import Iterator, Optional
 
@@ -22,6 +23,13 @@ class Store:
     def is_there(self) -> bool:
         """Whether anything stands at the folder's path."""
         return os.path.lexists(self.folder)
+
+    def has(self, pattern: "re.Pattern[str]") -> bool:
+        """Whether a name in the folder is of a pattern."""
+        try:
+            return any(pattern.fullmatch(name) for name in os.listdir(self.folder))
+        except OSError:
+            return False
 
     def path(self, name: str) -> str:
         """The program's name of a file; a join of paths would leave out the `/` after a folder `a/`."""

@@ -17,14 +17,19 @@ NEW_FILE = os.O_WRONLY | os.O_CREAT | os.O_EXCL | os.O_NOFOLLOW
 
 
 def unpack(image_word: str, folder_word: str) -> List[str]:
-    """Makes a folder with an image's tree. It answers what the system made otherwise than the image says.
-
-    Links are made last, so none of them is there to be followed while files are written."""
+    """Makes a folder with an image's tree. It answers what the system made otherwise than the image says."""
     image = read_image(image_word)
     place = place_of(folder_word)
     if is_inside(place, image_word):
         raise Outside(f"{quoted(folder_word)} lies inside {quoted(image_word)}, which is only read: "
                       "name another folder")
+    return make_tree(image, place)
+
+
+def make_tree(image: Image, place: str) -> List[str]:
+    """Makes a folder with an image's tree at a place, and answers what the system made otherwise.
+
+    Links are made last, so none of them is there to be followed while files are written."""
     with made_whole(place, 0o700) as folder:
         top = os.open(folder, FOLDER)
         try:

@@ -5,7 +5,7 @@ import contextlib
 import os
 import sys
 import traceback
-from typing import Dict, List, Optional, Sequence
+from typing import TYPE_CHECKING, Dict, List, Optional, Sequence
 
 from imagelib.errors import ImageError, reason_of
 from imagelib.texts import shown
@@ -17,10 +17,13 @@ from .finding import find_program, has_option, usage_of, version_of
 from .outlets import Outlets, open_all, write_all
 from .progress import EVERY, Progress
 from .reports import Kept, Report, kept_report
-from .running import check, follow
+from .running import check, follow, tree_fault
 from .signals import Stopped, scratch, stop_on_signals
 from .source import IMAGE, kind_of
-from .words import Request, Told, help_text, read_words
+from .words import Request, Told, check_text, help_text, read_words
+
+if TYPE_CHECKING:
+    from .trees import Trees
 
 
 class Voice:
@@ -51,25 +54,26 @@ class Voice:
 
 
 class Runs:
-    """The runs of a request on an image."""
+    """The runs of a request on an image. The first is shown, and the folders are made of its tree."""
 
-    def __init__(self, request: Request, program: str, image: str, voice: Voice) -> None:
-        self.request, self.program, self.image, self.voice = request, program, image, voice
+    def __init__(self, request: Request, program: str, image: str, trees: Optional[Trees], voice: Voice) -> None:
+        self.request, self.program, self.image, self.trees, self.voice = request, program, image, trees, voice
         self.outlets = Outlets(voice.progress)
 
-    def words(self, numbers: Dict[str, int]) -> List[bytes]:
+    def words(self, numbers: Dict[str, int], trees: Optional[Trees]) -> List[bytes]:
         options = [word for name, number in numbers.items() for word in (name, str(number))]
-        words = [self.program, "run", self.image, *options, "--", *self.request.command]
+        form = ["export", self.image, trees.export] if trees else ["run", self.image]
+        words = [self.program, *form, *options, "--", *self.request.command]
         return [os.fsencode(word) for word in words]
 
-    def run(self, numbers: Dict[str, int], is_shown: bool, keeps: Sequence[Kept]) -> Outcome:
-        """A run with these options, of which the guest's output is shown or not."""
-        progress = self.voice.progress
-        report = Report(self.show if is_shown else lambda stream, data: None, keeps)
+    def run(self, numbers: Dict[str, int], is_first: bool, keeps: Sequence[Kept]) -> Outcome:
+        """A run with these options."""
+        progress, trees = self.voice.progress, self.trees if is_first else None
+        report = Report(self.show if is_first else lambda stream, data: None, keeps)
 
         def take(block: bytes) -> None:
             report.take(block)
-            fault = None if keeps else self.outlets.fault()
+            fault = None if keeps or trees else self.outlets.fault()
             if fault:
                 raise fault
 
@@ -77,11 +81,15 @@ class Runs:
             progress.tick(report.reader.events, report.reader.offset)
 
         try:
-            ended = follow(self.words(numbers), take, tick, EVERY if progress.is_shown else None)
+            ended = follow(self.words(numbers, trees), take, tick, EVERY if progress.is_shown else None)
         finally:
             progress.hide()
-        check(ended, report, self.program, self.image)
-        self.voice.say([f"dettrace said: {shown(line)}" for line in ended.said.splitlines()])
+        fault = tree_fault(ended, report) if trees else ""
+        check(ended, report, self.program, self.image, fault != "")
+        if trees and fault:
+            trees.fault = fault
+        else:
+            self.voice.say([f"dettrace said: {shown(line)}" for line in ended.said.splitlines()])
         for kept in keeps:
             kept.finish()
         return outcome(self.request, self.image, report.first_end, report.reader.verdict)
@@ -92,6 +100,7 @@ class Runs:
     def run_one(self, keeps: Sequence[Kept]) -> int:
         end = self.run(self.request.numbers, True, keeps)
         self.voice.say(end.lines)
+        self.make_trees()
         return end.status
 
     def run_several(self, keeps: Sequence[Kept]) -> int:
@@ -106,6 +115,7 @@ class Runs:
             with kept_report(first) as kept:
                 end = self.run(tried[0], True, [kept, *keeps])
             self.voice.say(end.lines)
+            self.make_trees()
             for at, numbers in enumerate(tried[1:], 2):
                 other = os.path.join(folder, "other")
                 self.again(numbers, f"run {at} of {len(tried)} ({comparing.called(numbers)})", other)
@@ -116,6 +126,13 @@ class Runs:
                     return DIFFERENT
         self.voice.note([comparing.told_equal(tried)])
         return end.status if self.request.is_strict else 0
+
+    def make_trees(self) -> None:
+        """Makes the folders that are wanted of the tree which the first run has left."""
+        if self.trees:
+            self.trees.make()
+            self.voice.note(self.trees.notes)
+            self.voice.say(self.trees.faults)
 
     def again(self, numbers: Dict[str, int], called: str, path: str) -> None:
         """One more run, whose report is put at a path."""
@@ -134,6 +151,11 @@ def run(request: Request, voice: Voice) -> int:
         raise RunError(f"--workers: this dettrace does not have it: {shown(usage_of(program))}")
     kind = kind_of(request.source)
     with contextlib.ExitStack() as stack:
+        trees = None
+        if request.trees:
+            from .trees import trees_of
+
+            trees = stack.enter_context(trees_of(request, kind))
         image = request.source
         if kind != IMAGE:
             from .cache import packed
@@ -143,19 +165,13 @@ def run(request: Request, voice: Voice) -> int:
             voice.note(made.notes)
         check_text(image)
         keeps = [stack.enter_context(kept_report(request.report))] if request.report is not None else []
-        runs = Runs(request, program, image, voice)
+        runs = Runs(request, program, image, trees, voice)
         status = runs.run_one(keeps) if request.runs == 1 else runs.run_several(keeps)
         fault = runs.outlets.fault()
         if fault:
             raise fault
-    return status
-
-
-def check_text(image: str) -> None:
-    try:
-        os.fsencode(image).decode("utf-8")
-    except UnicodeDecodeError as error:
-        raise RunError(f"{shown(os.fsencode(image))} is no UTF-8, as the name of an image has to be") from error
+        # A program that failed itself may have left nothing, and its own code says more.
+        return FAILED if status == 0 and trees and trees.faults else status
 
 
 def tell(option: str, name: str) -> int:

@@ -5,14 +5,15 @@ import contextlib
 import os
 import selectors
 import subprocess
+import tempfile
 import time
 from typing import Callable, Iterator, List, NamedTuple, Optional, Sequence
 
 from imagelib.errors import ImageError, reason_of
 from imagelib.folders import STOPS, stops_held
-from imagelib.index import read_image
+from imagelib.index import ENTRY_LIMIT, INDEX_LIMIT, PATH_LIMIT, read_image
 from imagelib.texts import shown
-from reportlib.reader import NotReport, told_place
+from reportlib.reader import NotReport, Phase, told_place
 
 from .ends import SIGNALS
 from .errors import RunError
@@ -25,12 +26,21 @@ SAID_LIMIT = 65536
 # Seconds.
 LATER = 0.2
 ENDED, OTHERWISE, UNDECIDED = 0, 1, 10
-REFUSED_WORDS, REFUSED_IMAGE, STORE_FAULT, HOST_FAULT, OUTPUT_FAULT, NO_MEMORY = range(2, 8)
+REFUSED_WORDS, REFUSED_IMAGE, STORE_FAULT, HOST_FAULT, OUTPUT_FAULT, NO_MEMORY, REFUSED_EXPORT = range(2, 9)
 
 FAULTS = {
     HOST_FAULT: "the host of dettrace failed, which it never should",
     OUTPUT_FAULT: "dettrace could not write its report",
     NO_MEMORY: "memory ran out: the run needs more of it (docs/FARM.md, \"What a run costs\")",
+}
+
+
+# What of a tree no image can hold, by the names of the refusals.
+EXPORT_REFUSALS = {
+    "LongPath": f"a path has more than {PATH_LIMIT} bytes",
+    "TooMany": f"there are more than {ENTRY_LIMIT} paths",
+    "NotText": "a path or the target of a link is no UTF-8",
+    "BigIndex": f"its index would have more than {INDEX_LIMIT} bytes",
 }
 
 
@@ -84,9 +94,23 @@ def follow(words: Sequence[bytes], take: Callable[[bytes], None], tick: Callable
         return Ended(status, said.decode("utf-8", "replace").strip())
 
 
-def check(ended: Ended, report: Report, program: str, image: str) -> None:
-    """Ends the tool where the run is not over as its report says, or has no whole report."""
-    if ended.status not in (ENDED, OTHERWISE, UNDECIDED):
+def tree_fault(ended: Ended, report: Report) -> str:
+    """Why an export has left no tree, though its report is whole; empty where it has, and where the report is not."""
+    if report.reader.phase is not Phase.END:
+        return ""
+    if ended.status == REFUSED_EXPORT:
+        said = " ".join(ended.said.split())
+        return f"no image can hold the tree at the end: {EXPORT_REFUSALS.get(said.rpartition(' ')[2], shown(said))}"
+    if ended.status == STORE_FAULT:
+        return (f"dettrace could not write the tree to a folder in {shown(tempfile.gettempdir())}: is the disk full? "
+                "TMPDIR names another place")
+    return ""
+
+
+def check(ended: Ended, report: Report, program: str, image: str, lacks_tree: bool = False) -> None:
+    """Ends the tool where the run is not over as its report says, or has no whole report. The status may be that of an
+    export that failed behind it."""
+    if ended.status not in (ENDED, OTHERWISE, UNDECIDED) and not lacks_tree:
         raise RunError(*fault_lines(ended, program, image))
     try:
         cut = report.reader.finish()
@@ -99,7 +123,7 @@ def check(ended: Ended, report: Report, program: str, image: str) -> None:
         raise RunError("the report has no end of process 1, though its verdict is that this ended")
     is_good = end is not None and (end.how, end.number) == ("code", 0)
     told = UNDECIDED if verdict.kind != "ended" else ENDED if is_good else OTHERWISE
-    if told != ended.status:
+    if told != ended.status and not lacks_tree:
         raise RunError(f"dettrace ended with {ended.status}, and not with {told}, which its report comes to")
 
 

@@ -28,7 +28,8 @@ USAGE = ("dettrace: usage: dettrace run IMAGE [--seed N] [--budget N] [--workers
 # That of an older program.
 OLD_USAGE = USAGE.replace("[--workers N] ", "")
 
-# Notes its words, and gives the report of this call, or the last one that there is.
+# Notes its words, and gives the report of this call, or the last one that there is. An export gets the files that are
+# kept for it.
 STAND_IN = """#!/bin/sh
 cd {folder}
 [ $# -gt 0 ] || {{ echo {usage} >&2; exit 2; }}
@@ -38,6 +39,7 @@ number=$(($(cat number) + 1))
 echo $number >number
 while [ ! -e report$number ]; do number=$((number - 1)); done
 cat report$number
+[ "$1" != export ] || [ ! -d exported ] || cp -R exported/. "$3"
 cat errors >&2
 {more}
 exit {status}
@@ -88,6 +90,14 @@ class RunCase(unittest.TestCase):
         self.program.write_text(STAND_IN.format(folder=shlex.quote(str(self.folder)), usage=shlex.quote(usage),
                                                 more=more, status=status))
         self.program.chmod(0o755)
+
+    def export(self, index: str, **blobs: bytes) -> None:
+        """Keeps the files of an exported tree for the stand-in: its index, and the bytes of its files."""
+        folder = self.folder / "exported"
+        folder.mkdir(exist_ok=True)
+        (folder / "image.json").write_text(index)
+        for name, data in blobs.items():
+            (folder / name).write_bytes(data)
 
     def calls(self) -> List[List[str]]:
         """The words of each call of the stand-in."""

@@ -6,6 +6,7 @@ import os
 import re
 from typing import Dict, List, NamedTuple, Optional, Sequence, Tuple
 
+from imagelib.index import PATH_LIMIT
 from imagelib.texts import shown
 
 from .errors import RunError
@@ -31,10 +32,21 @@ class Range(NamedTuple):
 PASSED = {"--seed": Range(0, HIGHEST), "--budget": Range(1, BUDGET_LIMIT), "--workers": Range(1, WORKERS_LIMIT),
           "--host": Range(0, HIGHEST)}
 NUMBERS = {**PASSED, "--check": Range(2, RUNS_LIMIT)}
+# What the other options that have a value want there. One of them may stand several times.
+NAMES = {"--report": "the name of a file", "--tree": "the name of a folder", "--take": "PATH=FOLDER"}
+SEVERAL = "--take"
 FLAGS = ("--twice", "--strict", "--quiet", "--help", "--version")
-OPTIONS = (*NUMBERS, "--report", *FLAGS)
+OPTIONS = (*NUMBERS, *NAMES, *FLAGS)
 
 ASSIGNMENT = re.compile(r"[A-Za-z_][A-Za-z0-9_]*=", re.ASCII)
+
+
+class Wanted(NamedTuple):
+    """A folder that is to be made of the final tree: of all of it, or of what is below a path."""
+
+    option: str
+    path: str
+    folder: str
 
 
 class Request(NamedTuple):
@@ -44,6 +56,7 @@ class Request(NamedTuple):
     numbers: Dict[str, int]
     command: List[str]
     report: Optional[str]
+    trees: List[Wanted]
     runs: int
     is_strict: bool
     is_quiet: bool
@@ -72,12 +85,12 @@ def read_words(words: Sequence[str]) -> Request:
     is_parted = "--" in words
     end = words.index("--") if is_parted else len(words)
     try:
-        options, names = parted(words[:end])
+        options, takes, names = parted(words[:end])
     except RunError:
         # Words of the program are no options of this tool.
         if is_parted:
             raise
-        options, names = {}, []
+        options, takes, names = {}, [], []
     for name in ("--help", "--version"):
         if name in options:
             raise Told(name)
@@ -88,12 +101,22 @@ def read_words(words: Sequence[str]) -> Request:
         raise RunError("--twice is --check 2: give one of them")
     runs = 2 if "--twice" in options else int(options.get("--check", "1"))
     return Request(source, {name: int(options[name]) for name in PASSED if name in options}, command,
-                   options.get("--report"), runs, "--strict" in options, "--quiet" in options)
+                   options.get("--report"), trees_of(options.get("--tree"), takes), runs, "--strict" in options,
+                   "--quiet" in options)
 
 
-def parted(words: Sequence[str]) -> Tuple[Dict[str, str], List[str]]:
-    """The options among the words before `--`, each with its value, and the other words."""
+def trees_of(tree: Optional[str], takes: Sequence[str]) -> List[Wanted]:
+    """The folders that are to be made, that of the whole tree first."""
+    parts = [take.partition("=") for take in takes]
+    whole = [] if tree is None else [Wanted("--tree", "/", tree)]
+    return whole + [Wanted(f"--take {shown(path)}", path, folder) for path, _, folder in parts]
+
+
+def parted(words: Sequence[str]) -> Tuple[Dict[str, str], List[str], List[str]]:
+    """The options among the words before `--`, each with its value, the values of that which may stand several times,
+    and the other words."""
     options: Dict[str, str] = {}
+    takes = []
     names = []
     rest = list(reversed(words))
     while rest:
@@ -113,8 +136,11 @@ def parted(words: Sequence[str]) -> Tuple[Dict[str, str], List[str]]:
             if not rest or rest[-1].startswith("--"):
                 raise RunError(f"{name}: {wanted(name)} is missing behind it")
             value = rest.pop()
-        options[name] = checked(name, value)
-    return options, names
+        if name == SEVERAL:
+            takes.append(checked(name, value))
+        else:
+            options[name] = checked(name, value)
+    return options, takes, names
 
 
 def unknown(name: str) -> str:
@@ -127,7 +153,7 @@ def unknown(name: str) -> str:
 def wanted(name: str) -> str:
     if name in NUMBERS:
         return f"a whole number from {NUMBERS[name].low} to {NUMBERS[name].high}"
-    return "the name of a file"
+    return NAMES[name]
 
 
 def checked(name: str, value: str) -> str:
@@ -136,6 +162,10 @@ def checked(name: str, value: str) -> str:
     if name == "--report" and value in ("", "-"):
         raise RunError("--report: the name of the file is empty" if not value else
                        "--report -: standard output has what the program writes; name a file")
+    if name == "--tree" and not value:
+        raise RunError("--tree: the name of the folder is empty")
+    if name == SEVERAL:
+        check_take(said, value)
     if name not in NUMBERS:
         return value
     digits = value[1:] if value.startswith("+") else value
@@ -149,6 +179,24 @@ def checked(name: str, value: str) -> str:
     if int(digits) < low:
         raise RunError(f"{said}: at least {low}")
     return digits
+
+
+def check_take(said: str, value: str) -> None:
+    """A path of the tree, which is text there, and behind the first `=` the name of a folder."""
+    path, equals, folder = value.partition("=")
+    length = len(os.fsencode(path))
+    try:
+        os.fsencode(path).decode("utf-8")
+    except UnicodeDecodeError:
+        raise RunError(f"{said}: the path is no UTF-8, as all paths of an image are") from None
+    if length > PATH_LIMIT:
+        raise RunError(f"--take: the path has {length} bytes, more than {PATH_LIMIT}")
+    if not equals:
+        raise RunError(f"{said}: write PATH=FOLDER, as --take /bin=FOLDER")
+    if not path:
+        raise RunError(f"{said}: the path is empty; --tree FOLDER makes a folder of the whole tree")
+    if not folder:
+        raise RunError(f"{said}: the name of the folder is empty")
 
 
 def source_of(names: Sequence[str], is_parted: bool) -> str:
@@ -178,6 +226,14 @@ def check_command(command: Sequence[str]) -> None:
         raise RunError(f"{behind}: the path of the program in the image is missing")
 
 
+def check_text(name: str) -> None:
+    """The name of an image has to be text, as all words of the program."""
+    try:
+        os.fsencode(name).decode("utf-8")
+    except UnicodeDecodeError as error:
+        raise RunError(f"{shown(os.fsencode(name))} is no UTF-8, as the name of an image has to be") from error
+
+
 def help_text(name: str) -> str:
     return HELP.replace("NAME_OF_TOOL", name)
 
@@ -189,22 +245,25 @@ archive is packed as an image first, and the image is kept, so that the next run
 writes to its two streams comes out of the same two here. It ends with the program's own code.
 
 options:
-  --seed N       the random bytes that the program gets: 0 to {HIGHEST} (0)
-  --budget N     how many instructions it may take: 1 to {BUDGET_LIMIT} ({BUDGET_DEFAULT})
-  --workers N    how many threads it may use; no report depends on it: 1 to {WORKERS_LIMIT} ({WORKERS_DEFAULT})
-  --host N       what the host's choices come from; no report depends on it: 0 to {HIGHEST}
-  --report FILE  keeps the report, whole or not at all
-  --check N      runs it N times, 2 to {RUNS_LIMIT}, under other hosts and with other numbers of workers, and says that
-                 the reports are equal, or what differs first; the output is that of the first run
-  --twice        the same as --check 2
-  --strict       with --check: ends as the run itself would, and not with 0 where the reports are equal
-  --quiet        says nothing but what went wrong
-  --help         writes this
-  --version      writes the version, and the commit that it was made of
+  --seed N            the random bytes that the program gets: 0 to {HIGHEST} (0)
+  --budget N          how many instructions it may take: 1 to {BUDGET_LIMIT} ({BUDGET_DEFAULT})
+  --workers N         how many threads it may use; no report depends on it: 1 to {WORKERS_LIMIT} ({WORKERS_DEFAULT})
+  --host N            what the host's choices come from; no report depends on it: 0 to {HIGHEST}
+  --report FILE       keeps the report, whole or not at all
+  --tree FOLDER       makes FOLDER, which must be empty or not exist, with the files as the run left them
+  --take PATH=FOLDER  the same with what is below PATH, a directory that it left; it may be given several times
+  --check N           runs it N times, 2 to {RUNS_LIMIT}, under other hosts and with other numbers of workers, and says
+                      that the reports are equal, or what differs first; output and files are those of the first run
+  --twice             the same as --check 2
+  --strict            with --check: ends as the run itself would, and not with 0 where the reports are equal
+  --quiet             says nothing but what went wrong
+  --help              writes this
+  --version           writes the version, and the commit that it was made of
 
 exit status:
   0 to 255  the program's own code; with --check 0 where all reports are equal
-  125       dettrace or this tool failed, or refused what it was told
+  125       dettrace or this tool failed, or refused what it was told; or a folder of --tree or --take could not be
+            made, where the program ended with 0
   126       the program is there and cannot be started
   127       the program is not there
   128 + N   signal N ended the program; 129, 130 and 143 also where this tool was stopped by signal 1, 2 or 15
