@@ -316,12 +316,25 @@ class Writing(Traced):
 class Memory(Traced):
     """Memory that ends while a run goes on."""
 
+    def make_large(self, size: int) -> Sequence[str]:
+        """An image with a file of that size beside the program, and the words that run it."""
+        (self.top / "large").mkdir()
+        shutil.copy(self.top / BLOB, self.top / "large/hello")
+        (self.top / "large/bytes").write_bytes(bytes(size))
+        entries = file_entry("/bytes", "bytes"), file_entry("/hello", "hello")
+        (self.top / "large/image.json").write_bytes(index_of(*entries))
+        return "run", "large", "--", "/hello"
+
     def test_memory_that_ends_at_each_call_that_asks_for_it(self) -> None:
-        places = self.places(BRK, MMAP, MREMAP)
+        words = self.make_large(1 << 20)
+        came, calls = self.trace(lambda call: None, words)
+        self.assertEqual(came.status, 0)
+        start = next(call.place for call in calls if call.path == b"large/image.json")
+        places = [call.place for call in calls if call.number in (BRK, MMAP, MREMAP) and call.place >= start]
         self.assertTrue(places)
         for place in places:
             with self.subTest(place=place):
-                self.is_fault(self.trace(Ending(place))[0], NO_MEMORY)
+                self.is_fault(self.trace(Ending(place), words)[0], NO_MEMORY, came.out)
 
     def test_threads_that_cannot_be_made_change_nothing(self) -> None:
         refused: List[int] = []
@@ -342,14 +355,15 @@ class Memory(Traced):
 
     def test_limits_of_addresses(self) -> None:
         """A run has memory enough, or ends with status 7. Below the first of these limits no program starts."""
+        words = self.make_large(12 << 20)
+        whole = self.run_with(*words).stdout
         statuses = []
-        for kib in range(6000, 40_000, 1500):
+        for kib in range(6000, 60_000, 1500):
             limit = (kib * 1024, kib * 1024)
-            done = self.run_with("demo", "14", "--workers", "4",
-                                 preexec_fn=lambda: resource.setrlimit(resource.RLIMIT_AS, limit))
+            done = self.run_with(*words, preexec_fn=lambda: resource.setrlimit(resource.RLIMIT_AS, limit))
             statuses.append(done.returncode)
             if done.returncode != 0:
-                self.is_fault(Came(done.returncode, done.stdout, done.stderr), NO_MEMORY)
+                self.is_fault(Came(done.returncode, done.stdout, done.stderr), NO_MEMORY, whole)
         self.assertEqual(set(statuses), {0, 7})
 
 
