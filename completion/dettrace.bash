@@ -21,10 +21,16 @@ _dettrace_is_behind() {
     return 1
 }
 
-# How many words before the one that is completed are no options, nor values of the options in $1, behind word $2. What
-# stands behind `=` is a value, or part of one.
-_dettrace_count() {
-    local at count=0
+# The names in folder $1 that begin with $2.
+_dettrace_names_in() {
+    local IFS=$'\n'
+    COMPREPLY=($(CDPATH= cd -- "$1" 2>/dev/null && compgen -f -- "$2"))
+}
+
+# The words before the one that is completed that are no options, nor values of the options in $1, behind word $2, one a
+# line. What stands behind `=` is a value, or part of one.
+_dettrace_operands() {
+    local at
     for ((at = $2 + 1; at < COMP_CWORD; at++)); do
         if [[ " $1 " == *" ${COMP_WORDS[at]} "* ]]; then
             [[ ${COMP_WORDS[at + 1]} != = ]] || ((at++))
@@ -32,10 +38,16 @@ _dettrace_count() {
         elif [[ ${COMP_WORDS[at]} == = ]]; then
             ((at++))
         elif [[ ${COMP_WORDS[at]} != -* ]]; then
-            ((count++))
+            printf '%s\n' "${COMP_WORDS[at]}"
         fi
     done
-    echo "$count"
+}
+
+# How many they are.
+_dettrace_count() {
+    local found
+    mapfile -t found < <(_dettrace_operands "$1" "$2")
+    echo "${#found[@]}"
 }
 
 # The last option before the word that is completed.
@@ -49,22 +61,25 @@ _dettrace_option() {
 
 _dettrace() {
     local word=${COMP_WORDS[COMP_CWORD]} before=${COMP_WORDS[COMP_CWORD - 1]}
-    local valued="--seed --budget --workers --host" folders=1
+    local valued="--seed --budget --workers --host" options folders=1 operands
     COMPREPLY=()
-    [[ ${COMP_WORDS[1]} == demo ]] && valued="--workers --host"
+    [[ ${COMP_WORDS[1]} == demo ]] && valued="--workers --host" folders=0
     [[ ${COMP_WORDS[1]} == export ]] && folders=2
+    options="$valued --"
+    [[ ${COMP_WORDS[1]} == demo || ${COMP_WORDS[1]} == steps ]] && options=$valued
+    mapfile -t operands < <(_dettrace_operands "$valued" 1)
     if ((COMP_CWORD == 1)); then
-        _dettrace_words "run export demo" "$word"
+        _dettrace_words "run export steps demo" "$word"
     elif _dettrace_is_behind || [[ " $valued " == *" $before "* ]]; then
         return
-    elif [[ ${COMP_WORDS[1]} == demo ]]; then
-        _dettrace_words "$valued" "$word"
     elif [[ $word == -* ]]; then
-        _dettrace_words "$valued --" "$word"
-    elif (($(_dettrace_count "$valued" 1) < folders)); then
+        _dettrace_words "$options" "$word"
+    elif ((${#operands[@]} < folders)); then
         _dettrace_names -d "$word"
+    elif [[ ${COMP_WORDS[1]} == steps && ${#operands[@]} == 1 ]]; then
+        _dettrace_names_in "${operands[0]}" "$word"
     else
-        _dettrace_words "$valued --" "$word"
+        _dettrace_words "$options" "$word"
     fi
 }
 

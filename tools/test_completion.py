@@ -26,6 +26,8 @@ class CompletionTest(unittest.TestCase):
         self.folder = Path(folder.name)
         (self.folder / "two words").mkdir()
         (self.folder / "image").mkdir()
+        for name in ("image.json", "list"):
+            (self.folder / "image" / name).touch()
         (self.folder / "tree.tar").touch()
 
     def completed(self, *words: str) -> List[str]:
@@ -48,7 +50,7 @@ class CompletionTest(unittest.TestCase):
     def test_the_program(self) -> None:
         options = ["--seed", "--budget", "--workers", "--host", "--"]
         self.expect(
-            ("dettrace ", ["run", "export", "demo"]), ("dettrace r", ["run"]), ("dettrace d", ["demo"]),
+            ("dettrace ", ["run", "export", "steps", "demo"]), ("dettrace r", ["run"]), ("dettrace d", ["demo"]),
             ("dettrace x", []),
             ("dettrace run ", self.FOLDERS), ("dettrace run im", ["image"]), ("dettrace run tree", []),
             ("dettrace run -", options), ("dettrace run --s", ["--seed"]), ("dettrace run --seed ", []),
@@ -63,6 +65,15 @@ class CompletionTest(unittest.TestCase):
             ("dettrace e", ["export"]), ("dettrace export ", self.FOLDERS), ("dettrace export image ", self.FOLDERS),
             ("dettrace export image i", ["image"]), ("dettrace export image image ", options),
             ("dettrace export --seed 5 image ", self.FOLDERS), ("dettrace export image -- i", []))
+
+    def test_steps(self) -> None:
+        options = ["--seed", "--budget", "--workers", "--host"]
+        self.expect(
+            ("dettrace s", ["steps"]), ("dettrace steps ", self.FOLDERS), ("dettrace steps i", ["image"]),
+            ("dettrace steps image ", ["image.json", "list"]), ("dettrace steps image/ l", ["list"]),
+            ("dettrace steps --seed 5 image l", ["list"]), ("dettrace steps nowhere ", []),
+            ("dettrace steps image list ", options), ("dettrace steps image --", options),
+            ("dettrace steps image list --workers ", []))
 
     def test_a_demonstration(self) -> None:
         options = ["--workers", "--host"]

@@ -9,11 +9,12 @@ import resource
 import shutil
 import signal
 import subprocess
-import tempfile
 import unittest
 from pathlib import Path
-from typing import Any, Callable, Dict, List, Optional, Sequence
+from typing import Any, Callable, Dict, List, Optional
 
+from folder_case import (DEEP, FAULT, FolderCase, IMAGE_REFUSED, OUTPUT_FAULT, REFUSED, STORE_FAULT, USAGE,
+                         WORDS_REFUSED, files_of, folder_entry, go_deep, refused, small_guest)
 from hostilelib import tracing
 from hostilelib.building import ROOM, Guest
 from hostilelib.numbers import AT_FDCWD, CHDIR, FTRUNCATE, LINKAT, MKDIRAT, O_CREAT, O_RDWR, OPENAT, SYMLINKAT, UNLINKAT
@@ -21,24 +22,15 @@ from hostilelib.numbers import WRITE
 from hostilelib.tries import file_entry, index_of
 from imagelib.index import read_image
 from imagelib.testing import tree_of
-from program import EXAMPLES, PROGRAM, needs_program
+from program import EXAMPLES, PROGRAM
 from reportlib.reader import Entry, Reader
 
-PAGE = 4096
 OUT_OF_ROOM = 1000
-WORDS_REFUSED, IMAGE_REFUSED, STORE_FAULT, REFUSED = 2, 3, 4, 8
-USAGE = (b"dettrace: usage: dettrace run IMAGE [--seed N] [--budget N] [--workers N] [--host N] -- "
-         b"[NAME=VALUE ..] PROGRAM [ARG ..]\n")
-FAULT = b"dettrace: store fault\n"
 NAMES = sorted(index.parent.name for index in EXAMPLES.glob("*/image.json"))
 # Linux's calls by which a file is put, on x86-64, beside those that write.
 UNLINK, RENAME, UNLINKAT_64, RENAMEAT, RENAMEAT2 = 87, 82, 263, 264, 316
 
 needs_tracing = unittest.skipUnless(tracing.can_trace(), "processes cannot be traced here")
-
-
-def refused(reason: str) -> bytes:
-    return f"dettrace: export refused: {reason}\n".encode()
 
 
 def index_text(*entries: Dict[str, Any]) -> bytes:
@@ -47,45 +39,17 @@ def index_text(*entries: Dict[str, Any]) -> bytes:
     return json.dumps(value, sort_keys=True, separators=(",", ":"), ensure_ascii=False).encode()
 
 
-def folder_entry(path: str) -> Dict[str, Any]:
-    return {"path": path, "type": "dir", "mode": 0o755}
-
-
-def files_of(folder: Path) -> Dict[str, bytes]:
-    return {path.name: path.read_bytes() for path in folder.iterdir()}
-
-
-@needs_program
-class ExportCase(unittest.TestCase):
+class ExportCase(FolderCase):
     """A test in a folder with an image, `img`, and an empty folder, `to`."""
 
     def setUp(self) -> None:
-        self.top = Path(tempfile.mkdtemp(prefix="export-test-"))
-        self.addCleanup(shutil.rmtree, self.top, True)
-        for name in ("img", "to"):
-            (self.top / name).mkdir()
-
-    def image(self, guest: Guest, *entries: Dict[str, Any], **blobs: bytes) -> None:
-        """Makes the image, of the program `/p` and of what else there is."""
-        blobs["p"] = guest.executable()
-        (self.top / "img" / "image.json").write_bytes(index_of(*entries, file_entry("/p", "p")))
-        for name, data in blobs.items():
-            (self.top / "img" / name).write_bytes(data)
-
-    def call(self, *words: object, **options: Any) -> "subprocess.CompletedProcess[bytes]":
-        return subprocess.run([PROGRAM, *map(str, words)], cwd=self.top, stdin=subprocess.DEVNULL, capture_output=True,
-                              timeout=100, check=False, **options)
+        super().setUp()
+        (self.top / "to").mkdir()
 
     def export(self, *words: object, to: str = "to", **options: Any) -> tuple:
         """Status, output and line of an export of the image; by itself, of its program."""
         done = self.call("export", "img", to, *(words or ("--", "/p")), **options)
         return done.returncode, done.stdout, done.stderr
-
-    def report(self, *words: object, status: int = 0) -> bytes:
-        """The report of the same run."""
-        done = self.call("run", "img", *(words or ("--", "/p")))
-        self.assertEqual((done.returncode, done.stderr), (status, b""))
-        return done.stdout
 
     def empty(self) -> None:
         shutil.rmtree(self.top / "to")
@@ -95,10 +59,6 @@ class ExportCase(unittest.TestCase):
         """Asserts that nothing is put of the tree that the program leaves, behind the whole report."""
         self.assertEqual(self.export(), (REFUSED, self.report(), refused(reason)))
         self.assertEqual(files_of(self.top / "to"), {})
-
-
-def small_guest() -> Guest:
-    return Guest(PAGE)
 
 
 def file_held_open() -> Guest:
@@ -268,17 +228,6 @@ class Examples(ExportCase):
         self.assertEqual(tree["/out"], ("dir", 0o755))
 
 
-# Directories one in another, whose paths have up to 3,840 bytes.
-DEEP = ["".join(f"/{'d' * 255}" for _ in range(depth)) for depth in range(1, 16)]
-
-
-def go_deep(guest: Guest) -> None:
-    name = guest.text(b"d" * 255)
-    for _ in DEEP:
-        guest.call(CHDIR, name)
-        guest.expect(0)
-
-
 class Refusals(ExportCase):
     """Trees at each bound, and one past it."""
 
@@ -417,7 +366,7 @@ class Faults(ExportCase):
         with open("/dev/full", "wb") as full:
             done = subprocess.run([PROGRAM, "export", "img", "to", "--", "/p"], cwd=self.top, stdout=full,
                                   stderr=subprocess.PIPE, check=False)
-        self.assertEqual((done.returncode, done.stderr), (6, b"dettrace: output fault\n"))
+        self.assertEqual((done.returncode, done.stderr), (OUTPUT_FAULT, b"dettrace: output fault\n"))
         self.assertEqual(files_of(self.top / "to"), {})
 
 

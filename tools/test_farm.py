@@ -22,6 +22,12 @@ def script(name: str) -> str:
     return "\n".join(line[4:] for line in lines[first:after]).rstrip("\n") + "\n"
 
 
+def blocks(heading: str) -> list[str]:
+    """The commands that a section of the page shows, a text for each place where it does."""
+    section = (TOP / "docs/FARM.md").read_text().split(f"\n## {heading}\n")[1].split("\n## ")[0]
+    return ["\n".join(line[4:] for line in block.splitlines()) for block in re.findall(r"(?m)(?:^    .*\n)+", section)]
+
+
 class FarmCase(unittest.TestCase):
     """A test in a folder with the scripts of the page."""
 
@@ -106,7 +112,8 @@ class FarmTest(FarmCase):
 
 @needs_program
 class ChainTest(FarmCase):
-    """The script for a build of several steps, and the commands that compare what two have left."""
+    """The script for a build of several steps, the same steps in one call, and the commands that compare what two have
+    left."""
 
     STEPS = ("/make", "/bin/join /all /out/poem /src/link", 'LANG=C /bin/show "/all"')
 
@@ -140,15 +147,23 @@ class ChainTest(FarmCase):
         for text, status in (("exit 5", 75), ("kill -9 $$", 75), ("exit 4", 75), ("exit 3", 3), ("exit 8", 8)):
             self.assertEqual(self.chain("/bin/show /none", program=self.stand_in(text)), (status, ""))
 
+    def test_the_same_steps_in_one_call_have_the_same_reports(self) -> None:
+        commands, = [block for block in blocks("A build of several steps") if "\ndettrace steps" in block]
+        commands = commands.replace("\ndettrace", "\n./dettrace")
+        self.assertEqual(self.run_words("sh", "-e", "-c", commands), (0, ""))
+        wanted = b""
+        for number in (1, 2, 3):
+            image = self.folder / self.chain(*self.STEPS[:number])[1]
+            wanted += b"step %d\n%b" % (number, (image.parent / "report").read_bytes())
+        self.assertEqual((self.folder / "poem.reports").read_bytes(), wanted)
+
     def test_both_ways_to_compare(self) -> None:
         here, there = (self.folder / name for name in ("here", "there"))
         for folder, source, words in ((here, "examples/processes", ["/make"]), (there, "here", ["/none"])):
             folder.mkdir()
             subprocess.run([PROGRAM, "export", source, folder, "--", *words], cwd=self.folder, check=False,
                            stdout=subprocess.DEVNULL)
-        text = (TOP / "docs/FARM.md").read_text().split("\n## Comparing two exports\n")[1].split("\n## ")[0]
-        first, digests, trees = ["\n".join(line[4:] for line in block.splitlines())
-                                 for block in re.findall(r"(?m)(?:^    .*\n)+", text)]
+        first, digests, trees = blocks("Comparing two exports")
         # One tree, whose files have other inodes in the second.
         for script, status in ((first, 1), (digests, 1), (trees, 0)):
             self.assertEqual(self.run_words("sh", "-e", "-c", script)[0], status, script)

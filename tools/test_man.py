@@ -17,10 +17,8 @@ from reportlib import commands as report
 
 PAGES = sorted(path.name for path in (TOP / "man").glob("*.1"))
 COMMANDS = ["dettrace-image", "dettrace-report", "dettrace-run", "dettrace"]
-# What mandoc says of pages and of the machine that they are not installed on.
 Options = Dict[str, Set[Tuple[str, ...]]]
-# What the source says for a form of the command line that the program does not have yet.
-NOT_YET = {"dettrace: image refused: 11 BadSteps"}
+# What mandoc says of pages and of the machine that they are not installed on.
 NOT_INSTALLED = re.compile(r".*referenced manual not found: Xr dettrace|mandoc: outdated mandoc\.db")
 
 
@@ -71,7 +69,7 @@ class ProgramTest(unittest.TestCase):
         self.page = page("dettrace")
         source = (TOP / "crates/dt_run/src/failure.rt").read_text()
         texts = re.findall(r'"(dettrace: (?:[^"\\]|\\.|\\\n)*)"', source)
-        self.lines = [line for line in (re.sub(r"\\\n\s*", "", text)[:-2] for text in texts) if line not in NOT_YET]
+        self.lines = [re.sub(r"\\\n\s*", "", text)[:-2] for text in texts]
 
     def test_the_synopsis_begins_with_the_usage_line_of_the_source(self) -> None:
         (usage,) = [line for line in self.lines if line.startswith("dettrace: usage: ")]
@@ -84,11 +82,11 @@ class ProgramTest(unittest.TestCase):
     def test_each_line_of_error_is_in_the_source_and_on_the_page(self) -> None:
         heads = [item.head for item in mdoc.items(self.page["DIAGNOSTICS"])]
         self.assertEqual(sorted(heads), sorted(set(self.lines)))
-        self.assertEqual(len(heads), 18)
+        self.assertEqual(len(heads), 19)
 
     def test_the_words_and_their_ranges_are_those_of_the_readme(self) -> None:
         items = mdoc.items(self.page["DESCRIPTION"])
-        rows = table("README.md", "The command line")[1:11]
+        rows = table("README.md", "The command line")[1:12]
         self.assertEqual([item.head for item in items], [row[0] for row in rows])
         for item, (words, numbers, default, _) in zip(items, rows):
             with self.subTest(words):
@@ -100,7 +98,7 @@ class ProgramTest(unittest.TestCase):
 
     def test_the_statuses_are_those_of_the_readme(self) -> None:
         rows = [row for row in table("README.md", "The command line") if row[0].isdigit()]
-        told = {row[0]: sentence(row[1].replace("tools/image check", "dettrace-image check")) for row in rows}
+        told = {row[0]: sentence(row[1]) for row in rows}
         self.assertEqual({item.head: item.text for item in mdoc.items(self.page["EXIT STATUS"])}, told)
         self.assertEqual(len(rows), 10)
 
@@ -111,7 +109,8 @@ class ProgramTest(unittest.TestCase):
 
     def test_the_refusals_are_those_of_the_formats(self) -> None:
         wanted = []
-        for heading, what, count in (("The image", "image", 8), ("An exported image", "export", 5)):
+        for heading, what, count in (("The image", "image", 8), ("Steps", "image", 1),
+                                     ("An exported image", "export", 5)):
             rows = [row for row in table("docs/FORMATS.md", heading) if row[0].isdigit()]
             wanted += [f"dettrace: {what} refused: {row[0]} {row[1]}" for row in rows]
             self.assertEqual(len(rows), count)

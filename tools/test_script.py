@@ -89,6 +89,7 @@ class TryTest(ScriptCase):
         whole = str(self.folder / "image")
         for words in (["export", "{}", "{}", "--", "image"], ["export", "--seed", "image", "{}", "--host=1", "{}"],
                       ["export", "{}", "--", "image"], ["export", "{}", "{}", "image"],
+                      ["steps", "{}", "image"], ["steps", "--host", "image", "{}", "--seed=1", "image"],
                       ["run", "{}"], ["run", "{}", "--seed", "5", "--", "/image"], ["run", "--seed", "5", "{}", "--"],
                       ["run", "--seed=5", "--host", "image", "{}", "image"], ["run", "--workers", "3", "{}", "--"],
                       ["run", "--", "image"], ["run"], ["demo", "image", "--workers", "image"], []):

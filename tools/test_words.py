@@ -21,7 +21,8 @@ def run(name: bytes, *words: bytes) -> tuple[int, bytes, bytes]:
 class WordsTest(unittest.TestCase):
     def test_a_word_that_is_not_text_is_refused(self) -> None:
         for words in [(NO_TEXT,), (NO_TEXT, *HELLO[1:]), (*HELLO, NO_TEXT), (*HELLO, b"x", b"x" + NO_TEXT, b"x"),
-                      (*HELLO[:3], b"A=" + NO_TEXT, HELLO[3])]:
+                      (*HELLO[:3], b"A=" + NO_TEXT, HELLO[3]), (b"steps", HELLO[1], NO_TEXT),
+                      (b"steps", NO_TEXT, b"list")]:
             with self.subTest(words):
                 self.assertEqual(run(b"dettrace", *words), (2, b"", USAGE))
 

@@ -229,11 +229,12 @@ impl Container {
         &self.shared.fs.tree
     }
 
-    /// Lets all that the container has at its host go. The host is then as at the start: it has a root without entries
+    /// Lets all that the container has at its host go. The host is then as at the start: it has its root without entries
     /// and no other node, no pipe, and no live pid.
     pub fn clear<H: Host>(self, host: &mut H) -> Result<(), HostErr>
         requires { IsSoundContainer self (H.view host.old) }
         ensures empty { OnOk result (IsEmptyStart (H.view host.new)) }
+        ensures root { OnOk result ((H.view host.new).forest.root ≡ (H.view host.old).forest.root) }
         ensures cause { HasCause (H.count host.old) (H.count host.new) (IsErrOf result HostErr.Failed) }
     {
         self.shared.clear(host)

@@ -72,6 +72,7 @@ impl Shared {
     pub fn clear<H: Host>(self, host: &mut H) -> Result<(), HostErr>
         requires { IsSound self (H.view host.old) }
         ensures empty { OnOk result (IsEmptyStart (H.view host.new)) }
+        ensures root { OnOk result ((H.view host.new).forest.root ≡ (H.view host.old).forest.root) }
         ensures cause { HasCause (H.count host.old) (H.count host.new) (IsErrOf result HostErr.Failed) }
     {
         let Shared { fs, pids, .. } = self;

@@ -10,6 +10,7 @@ use dt_memhost::{MemHost, MemSink, MemStore, Picker};
 use dt_run::dettrace;
 use std::alloc::{AllocError, Global};
 use std::thread::Threads;
+use std::time::Clock;
 
 /// Which words a picker gives.
 #[derive(Clone, Copy, Debug)]
@@ -87,7 +88,7 @@ impl<'a> Call<'a> {
     }
 
     /// Makes the call.
-    pub fn make<R: AllocGlobal + Threads + Sync>(&self, rt: &R) -> Result<Came, CaseErr>
+    pub fn make<R: AllocGlobal + Clock + Threads + Sync>(&self, rt: &R) -> Result<Came, CaseErr>
         ensures { IfOk result (λ came. IsTrue (is_status came.status)) }
     {
         let alloc = rt.alloc();

@@ -15,9 +15,10 @@ use crate::steps::plan::Plan;
 use crate::steps::trial::Trial;
 use std::alloc::Global;
 use std::thread::Threads;
+use std::time::Clock;
 
 /// What comes of the cases of a file.
-pub fn run<R: AllocGlobal + Threads + Sync>(
+pub fn run<R: AllocGlobal + Clock + Threads + Sync>(
     rt: &R,
     text: &str,
     mut numbers: Numbers,

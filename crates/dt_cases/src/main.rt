@@ -20,6 +20,7 @@ use std::env::{self, Env};
 use std::process::ExitCode;
 use std::rt::Files;
 use std::thread::Threads;
+use std::time::Clock;
 
 fn main(rt: HostRuntime) -> ExitCode {
     match all_files(&rt) {
@@ -33,7 +34,7 @@ fn main(rt: HostRuntime) -> ExitCode {
 }
 
 // Whether all files of the folder that is the first argument are as they have to be.
-fn all_files<R: AllocGlobal + Env + Files + Print + Threads + Sync + Clone + Drop>(
+fn all_files<R: AllocGlobal + Clock + Env + Files + Print + Threads + Sync + Clone + Drop>(
     rt: &R,
 ) -> Result<bool, CaseErr> {
     let mut words = env::args(rt)?;
@@ -53,7 +54,7 @@ fn all_files<R: AllocGlobal + Env + Files + Print + Threads + Sync + Clone + Dro
 }
 
 // What comes of a file's cases. A file that is not read to its end, or that has no case, is wrong too.
-fn one_file<R: AllocGlobal + Files + Threads + Sync>(
+fn one_file<R: AllocGlobal + Clock + Files + Threads + Sync>(
     rt: &R,
     folder: &str,
     file: &str,
@@ -67,7 +68,7 @@ fn one_file<R: AllocGlobal + Files + Threads + Sync>(
 }
 
 // What comes of a file's cases, by the kind that the end of its name says.
-fn cases_of<R: AllocGlobal + Files + Threads + Sync>(
+fn cases_of<R: AllocGlobal + Clock + Files + Threads + Sync>(
     rt: &R,
     folder: &str,
     file: &str,

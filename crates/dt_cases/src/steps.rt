@@ -17,9 +17,10 @@ use crate::steps::trial::Trial;
 use crate::text::split_word;
 use std::alloc::Global;
 use std::thread::Threads;
+use std::time::Clock;
 
 /// What comes of the cases of a file.
-pub fn run<R: AllocGlobal + Threads + Sync>(
+pub fn run<R: AllocGlobal + Clock + Threads + Sync>(
     rt: &R,
     text: &str,
     mut numbers: Numbers,
@@ -41,7 +42,7 @@ pub fn run<R: AllocGlobal + Threads + Sync>(
 }
 
 // Adds what comes of a case, once for each of its rows.
-fn add_case<R: AllocGlobal + Threads + Sync>(
+fn add_case<R: AllocGlobal + Clock + Threads + Sync>(
     rt: &R,
     tally: &mut Tally,
     head: &[&str],

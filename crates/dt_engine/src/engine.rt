@@ -33,7 +33,7 @@ use std::marker::Model;
 /// A run in play. Machines can be lent, so that their segments are run elsewhere, and come back in any order. The head
 /// of the queue is admitted once its segment has arrived, and what its turn shows is written at once.
 ///
-/// After an error an engine may only be dropped.
+/// After an error an engine may only be dropped, or closed where a verdict stands.
 #[derive(Drop)]
 pub struct Engine {
     pub(crate) alloc: Global,

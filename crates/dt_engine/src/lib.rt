@@ -9,6 +9,7 @@ mod error;
 mod happening;
 mod laws;
 mod onward;
+mod pace;
 mod play;
 mod round;
 mod run;

@@ -17,11 +17,12 @@ use crate::round::Runner;
 use dt_host::{Gate, Host, HostErr, Sink};
 use dt_rv64::Hints;
 use std::thread::Threads;
+use std::time::Clock;
 
 impl Engine {
     // Takes the run on until a verdict stands. What each turn shows is written before the next one.
     pub(crate) fn go_on<
-        R: AllocGlobal + Threads + Sync,
+        R: AllocGlobal + Clock + Threads + Sync,
         H: Host + Send,
         O: Sink + Send,
         G: Gate + Sync,
@@ -52,7 +53,12 @@ impl Engine {
     }
 
     // Takes the run on by a round, or by less where threads are not worth their start.
-    fn take_on<R: AllocGlobal + Threads + Sync, H: Host + Send, O: Sink + Send, G: Gate + Sync>(
+    fn take_on<
+        R: AllocGlobal + Clock + Threads + Sync,
+        H: Host + Send,
+        O: Sink + Send,
+        G: Gate + Sync,
+    >(
         &mut self,
         host: &mut H,
         out: &mut O,
@@ -77,7 +83,7 @@ impl Engine {
     }
 
     // Takes the turn of the head, or where its segment has not arrived lets one arrive that is owed.
-    fn step<R: AllocGlobal + Threads + Sync, H: Host, O: Sink, G: Gate + Sync>(
+    fn step<R: AllocGlobal + Clock + Threads + Sync, H: Host, O: Sink, G: Gate + Sync>(
         &mut self,
         host: &mut H,
         out: &mut O,
@@ -102,7 +108,7 @@ impl Engine {
     }
 
     // Lets a segment arrive that is owed.
-    fn let_arrive<R: AllocGlobal + Threads + Sync, H: Host, G: Gate + Sync>(
+    fn let_arrive<R: AllocGlobal + Clock + Threads + Sync, H: Host, G: Gate + Sync>(
         &mut self,
         host: &mut H,
         runner: &mut Runner<'_, R, G>,

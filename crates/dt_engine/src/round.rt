@@ -22,6 +22,7 @@ ghost use Rattle.dt_engine.specs.inner.Round.{IsRound, TakesOn, with_arrival};
 use crate::engine::Engine;
 use crate::error::RunErr;
 use crate::happening::Admitted;
+use crate::pace::{Pace, Way};
 use crate::state::State;
 use dt_base::NoMemory;
 use dt_host::{Gate, Host, Sink};
@@ -29,6 +30,7 @@ use dt_rv64::{Machine, Seg, Stop};
 use dt_workers::{Slot, run_segments};
 use std::alloc::Global;
 use std::thread::{Threads, join_mut};
+use std::time::Clock;
 
 // How many short segments in a row tell that threads are not worth their start.
 const SHORT_SEGMENTS: u32 = 8;
@@ -36,15 +38,16 @@ const SHORT_SEGMENTS: u32 = 8;
 /// Who runs the segments of a run: this thread one after another, or workers side by side where several processes
 /// live. No answer depends on what it is.
 #[derive(Drop)]
-pub struct Runner<'a, R: AllocGlobal + Threads + Sync, G: Gate + Sync> {
+pub struct Runner<'a, R: AllocGlobal + Clock + Threads + Sync, G: Gate + Sync> {
     pub(crate) rt: &'a R,
     pub(crate) workers: usize,
     pub(crate) gate: &'a G,
     // How many of the last segments in a row ended before their limit of steps.
     pub(crate) short: u32,
+    pub(crate) pace: Pace,
 }
 
-impl<'a, R: AllocGlobal + Threads + Sync, G: Gate + Sync> Runner<'a, R, G> {
+impl<'a, R: AllocGlobal + Clock + Threads + Sync, G: Gate + Sync> Runner<'a, R, G> {
     /// A runner that knows nothing yet.
     pub fn new(rt: &'a R, workers: usize, gate: &'a G) -> Self {
         Runner {
@@ -52,6 +55,7 @@ impl<'a, R: AllocGlobal + Threads + Sync, G: Gate + Sync> Runner<'a, R, G> {
             workers,
             gate,
             short: 0,
+            pace: Pace::new(),
         }
     }
 
@@ -64,19 +68,28 @@ impl<'a, R: AllocGlobal + Threads + Sync, G: Gate + Sync> Runner<'a, R, G> {
     pub(crate) fn note(&mut self, stop: Stop)
         ensures { self.new.workers ≡ self.old.workers }
     {
-        self.short = match stop {
-            Stop::Slice => 0,
-            Stop::Call | Stop::Counter(_) | Stop::Fault(_) => self.short.saturating_add(1),
-        };
+        match stop {
+            Stop::Slice => {
+                self.short = 0;
+                self.pace.note_segment(self.rt);
+            }
+            Stop::Call | Stop::Counter(_) | Stop::Fault(_) => {
+                self.short = self.short.saturating_add(1);
+            }
+        }
     }
 
     /// Whether threads are worth their start: a process owes a segment, another one owes one too or can take its turn
-    /// meanwhile, and the last segments were not all short.
-    pub(crate) fn prefers_workers(&self, owing: usize, live: usize) -> bool
-        ensures workers { result ≡ true → 0 < self.now.workers }
+    /// meanwhile, the last segments were not all short, and workers were not slower than this thread alone.
+    pub(crate) fn prefers_workers(&mut self, owing: usize, live: usize) -> bool
+        ensures workers { result ≡ true → 0 < self.new.workers }
         ensures owing { result ≡ true → 0 < owing }
     {
-        1 < self.workers && 0 < owing && 1 < live && self.short < SHORT_SEGMENTS
+        if self.workers <= 1 || live <= 1 || SHORT_SEGMENTS <= self.short {
+            self.pace.give_up();
+            return false;
+        }
+        0 < owing && self.pace.way(self.rt) == Way::Workers
     }
 }
 
@@ -84,7 +97,7 @@ impl Engine {
     /// Has workers run the segments of all that owe one, takes turns beside them, and lets the segments arrive in the
     /// order that the host chooses.
     pub(crate) fn round<
-        R: AllocGlobal + Threads + Sync,
+        R: AllocGlobal + Clock + Threads + Sync,
         H: Host + Send,
         O: Sink + Send,
         G: Gate + Sync,
@@ -120,7 +133,12 @@ impl Engine {
 
     // Lends the machines of these processes, which are all that owe, has workers run their segments, and takes turns
     // beside them: at most half as many as processes could take one at first.
-    fn begin_round<R: AllocGlobal + Threads + Sync, H: Host + Send, O: Sink + Send, G: Gate + Sync>(
+    fn begin_round<
+        R: AllocGlobal + Clock + Threads + Sync,
+        H: Host + Send,
+        O: Sink + Send,
+        G: Gate + Sync,
+    >(
         &mut self,
         host: &mut H,
         out: &mut O,
@@ -192,8 +210,13 @@ impl Engine {
     }
 
     // Has workers run the segments of slots, and beside them admits the head while it has arrived, at most so many
-    // times.
-    fn run_beside<R: AllocGlobal + Threads + Sync, H: Host + Send, O: Sink + Send, G: Gate + Sync>(
+    // times. Where that is never, no thread is started for it.
+    fn run_beside<
+        R: AllocGlobal + Clock + Threads + Sync,
+        H: Host + Send,
+        O: Sink + Send,
+        G: Gate + Sync,
+    >(
         &mut self,
         host: &mut H,
         out: &mut O,
@@ -220,6 +243,10 @@ impl Engine {
         ensures host { HasCause (H.count host.old) (H.count host.new) (IsErrOf result RunErr.Host) }
         ensures sink { HasCause (O.count out.old) (O.count out.new) (IsErrOf result RunErr.Sink) }
     {
+        if most == 0 {
+            run_slots(rt, gate, workers, slots);
+            return Ok(());
+        }
         let mut segments = ||
             requires { IsSync R.row × IsSync G.row × (0 < workers) }
             ensures { AllZip IsSlotAfter slots.entry.now slots.exit.now }

@@ -16,6 +16,7 @@ use dt_calls::Container;
 use dt_host::{Gate, Host, Sink};
 use dt_rv64::Hints;
 use std::thread::Threads;
+use std::time::Clock;
 
 /// A run that was completed: its status, and the container that it left.
 #[derive(Drop)]
@@ -29,7 +30,12 @@ pub struct Ended {
 ///
 /// `budget` is counted in steps. Where several processes compute, `workers` run their segments side by side, on threads
 /// of `rt`, and pass the gate before each. The report does not depend on either.
-pub fn run_to_end<R: AllocGlobal + Threads + Sync, H: Host + Send, O: Sink + Send, G: Gate + Sync>(
+pub fn run_to_end<
+    R: AllocGlobal + Clock + Threads + Sync,
+    H: Host + Send,
+    O: Sink + Send,
+    G: Gate + Sync,
+>(
     rt: &R,
     image: &Image,
     command: &Command,

@@ -21,6 +21,7 @@ use dt_sched::Core;
 use dt_tables::Numbered;
 use std::alloc::Global;
 use std::thread::Threads;
+use std::time::Clock;
 
 /// A run between two turns: the container, the queue, which knows where each process stands, and the stop of the last
 /// segment that each has run.
@@ -59,7 +60,7 @@ impl State {
 
     /// Runs a segment that is owed, of the process that the host chooses, and lets it arrive. This thread passes the gate
     /// before it.
-    pub fn arrive_next<R: AllocGlobal + Threads + Sync, H: Host, G: Gate + Sync>(
+    pub fn arrive_next<R: AllocGlobal + Clock + Threads + Sync, H: Host, G: Gate + Sync>(
         &mut self,
         host: &mut H,
         runner: &mut Runner<'_, R, G>,

@@ -1,6 +1,6 @@
 -- The steps of a run of several commands: what a file in an image's folder lists. It holds a JSON array (RFC 8259) of
 -- objects. `args` has a step's argument words, and `env` its environment, if it is there; other members are not looked at.
-use Rattle.std.specs.Prelude.{ℕ, Bool, ◌&&◌, List, [], ◌∷◌, length, codes, nat_le, Option, Some, None, option_and_then, if◌then◌else◌}
+use Rattle.std.specs.Prelude.{◌≡◌, ℕ, Bool, ◌&&◌, List, [], ◌∷◌, length, codes, nat_le, Option, Some, None, option_and_then, if◌then◌else◌}
 use Rattle.std.specs.List.{list_all}
 use Rattle.std.specs.FinMap.{get}
 use Rattle.serde_json.specs.Data.{Data, Items, no_items, item}
@@ -68,3 +68,8 @@ steps_of bytes = do
 -- the steps that a file of a folder lists, if a blob may have its name, it is there, and it lists some
 abbrev pub steps_at : StoreFiles → List ℕ → List ℕ → Option (List Words)
 steps_at files folder file = if is_blob_name file then option_and_then steps_of (get files (name_below folder file)) else None
+
+-- there is a file that lists these commands
+pub record IsListed (commands : List Words) : Type 0 where
+  pub bytes : List ℕ
+  pub lists : steps_of bytes ≡ Some commands

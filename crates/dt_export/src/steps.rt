@@ -10,7 +10,7 @@ ghost use Rattle.dt_base.specs.Path.{has_no_nul};
 ghost use Rattle.dt_base.specs.declared.refusal.Refusal.{Refusal};
 ghost use Rattle.dt_host.specs.Asks.{AsksOr};
 ghost use Rattle.dt_export.specs.Steps.{texts_in, texts_of, env_by, is_step, step_words, steps_in};
-ghost use Rattle.dt_export.specs.Steps.{if_steps, steps_of, steps_at};
+ghost use Rattle.dt_export.specs.Steps.{if_steps, steps_of, steps_at, IsListed};
 
 use dt_base::{Blob, Command, INDEX_LIMIT, ImageErr, NoMemory, Refusal, has_no_nul, is_assignment};
 use dt_host::Store;
@@ -33,6 +33,7 @@ pub fn read_steps<S: Store>(
 ) -> Result<Vec<Command>, ImageErr>
     ensures ok { IfSome (S.told store.old)
         (λ files. IfOk result (λ steps. steps_at files folder.now file.now ≡ Some steps.items)) }
+    ensures listed { IfOk result (λ steps. IsListed steps.items) }
     ensures refused { (r : Refusal) → result ≡ Err (ImageErr.Refused r) → (r ≡ Refusal.BadSteps)
         × IfSome (S.told store.old) (λ files. steps_at files folder.now file.now ≡ None) }
     ensures asks { AsksOr S.told S.count ImageErr.Store store.old store.new result }
@@ -52,6 +53,7 @@ fn find_steps<S: Store>(
 ) -> Result<Option<Vec<Command>>, ImageErr>
     ensures steps { IfSome (S.told store.old) (λ files.
         IfOk result (λ found. option_map vec_items found ≡ steps_at files folder.now file.now)) }
+    ensures listed { IfOk result (λ found. IfSome found (λ steps. IsListed steps.items)) }
     ensures answered { (r : Refusal) → result ≡ Err (ImageErr.Refused r) → ⊥ }
     ensures asks { AsksOr S.told S.count ImageErr.Store store.old store.new result }
 {

@@ -1,5 +1,5 @@
 // The entries of an image, with the bytes of their blobs.
-ghost use Rattle.std.specs.Prelude.{◌≡◌, ◌≤◌, ℕ, Ok, Err, Some, IfOk, IfSome, IsTrue, map, length, is_some};
+ghost use Rattle.std.specs.Prelude.{◌≡◌, ◌≢◌, ◌≤◌, ℕ, Ok, Err, Some, IfOk, IfSome, IsTrue, map, length, is_some};
 ghost use Rattle.std.specs.Prelude.{true, false, nat_le};
 ghost use Rattle.std.specs.List.{list_all, All};
 ghost use Rattle.std.specs.List.Sorted.{IsStrictlySortedBy};
@@ -44,6 +44,7 @@ pub fn with_blobs<S: Store>(
         IfOk result (λ image. with_blobs held folder.now (map entry_in order.now) ≡ Ok image)) }
     ensures refused { (r : Refusal) → result ≡ Err (ImageErr.Refused r) →
         IfSome (S.told store.old) (λ held. with_blobs held folder.now (map entry_in order.now) ≡ Err r) }
+    ensures no_steps { result ≢ Err (ImageErr.Refused Refusal.BadSteps) }
     ensures asks { AsksOr S.told S.count ImageErr.Store store.old store.new result }
 {
     let blobs = measure(alloc, store, folder, order)?;

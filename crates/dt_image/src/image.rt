@@ -1,5 +1,5 @@
 // An image, read from a folder of a store.
-ghost use Rattle.std.specs.Prelude.{◌≡◌, ℕ, List, ◌≤◌, length, map, codes, vec_len, Some, None, Err, Ok, IfOk, IfSome};
+ghost use Rattle.std.specs.Prelude.{◌≡◌, ◌≢◌, ℕ, List, ◌≤◌, length, map, codes, vec_len, Some, None, Err, Ok, IfOk, IfSome};
 ghost use Rattle.std.specs.Prelude.{IsErrOf, IsTrue};
 ghost use Rattle.std.specs.List.{list_all};
 ghost use Rattle.std.specs.List.Sorted.{IsStrictlySortedBy};
@@ -27,6 +27,7 @@ pub fn read_image<S: Store>(alloc: Global, store: &mut S, folder: &str) -> Resul
     ensures ok { IfSome (S.told store.old) (λ files. IfOk result (λ image. image_of files folder.now ≡ Ok image)) }
     ensures refused { (r : Refusal) → result ≡ Err (ImageErr.Refused r) →
         IfSome (S.told store.old) (λ files. image_of files folder.now ≡ Err r) }
+    ensures no_steps { result ≢ Err (ImageErr.Refused Refusal.BadSteps) }
     ensures asks { AsksOr S.told S.count ImageErr.Store store.old store.new result }
 {
     let bytes = read_index(alloc, store, folder)?;
@@ -44,6 +45,7 @@ fn read_index<S: Store>(alloc: Global, store: &mut S, folder: &str) -> Result<Ve
     ensures within { IfOk result (λ bytes. vec_len bytes ≤ INDEX_LIMIT) }
     ensures refused { (r : Refusal) → result ≡ Err (ImageErr.Refused r) →
         IfSome (S.told store.old) (λ files. image_of files folder.now ≡ Err r) }
+    ensures no_steps { result ≢ Err (ImageErr.Refused Refusal.BadSteps) }
     ensures asks { AsksOr S.told S.count ImageErr.Store store.old store.new result }
 {
     let name = name_below(alloc, folder, "image.json")?;
@@ -56,6 +58,7 @@ fn index_bytes<S: Store>(alloc: Global, store: &mut S, name: &str) -> Result<Vec
     ensures refused { (r : Refusal) → result ≡ Err (ImageErr.Refused r) →
         IfSome (S.told store.old) (λ files.
         (folder : List ℕ) → image_by files folder (get files name.now) ≡ Err r) }
+    ensures no_steps { result ≢ Err (ImageErr.Refused Refusal.BadSteps) }
     ensures asks { AsksOr S.told S.count ImageErr.Store store.old store.new result }
 {
     match size_in(store, name)? {
@@ -91,6 +94,7 @@ fn read_entries<S: Store>(
         IfOk result (λ image. image_from held folder.now (map entry_in entries.now) ≡ Ok image)) }
     ensures refused { (r : Refusal) → result ≡ Err (ImageErr.Refused r) →
         IfSome (S.told store.old) (λ held. image_from held folder.now (map entry_in entries.now) ≡ Err r) }
+    ensures no_steps { result ≢ Err (ImageErr.Refused Refusal.BadSteps) }
     ensures asks { AsksOr S.told S.count ImageErr.Store store.old store.new result }
 {
     if !are_good(entries) {
@@ -121,6 +125,7 @@ fn read_order<S: Store>(
         IfOk result (λ image. image_in_order held folder.now (map entry_in order.now) ≡ Ok image)) }
     ensures refused { (r : Refusal) → result ≡ Err (ImageErr.Refused r) →
         IfSome (S.told store.old) (λ held. image_in_order held folder.now (map entry_in order.now) ≡ Err r) }
+    ensures no_steps { result ≢ Err (ImageErr.Refused Refusal.BadSteps) }
     ensures asks { AsksOr S.told S.count ImageErr.Store store.old store.new result }
 {
     let found = have_parents(alloc, order)?;

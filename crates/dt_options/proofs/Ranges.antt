@@ -15,7 +15,7 @@ use Rattle.clap.specs.declared.builder.value_parser.ValueParser.TheVariants as p
 use Rattle.clap.proofs.ValueTestLemmas.{accepts-Accepts}
 use Rattle.dt_base.specs.declared.limits.TheConstants.{BUDGET_LIMIT}
 use Rattle.dt_options.specs.declared.options.TheConstants.{WORKERS_LIMIT}
-use Rattle.dt_options.specs.Arguments.{default_budget, default_workers, matched_rows, number_in, number_of, run_app, export_app, demo_app}
+use Rattle.dt_options.specs.Arguments.{default_budget, default_workers, matched_rows, number_in, number_of, run_app, export_app, demo_app, steps_app}
 use Rattle.dt_options.proofs.Passed.{AreGood, IsSound, subcommand_good}
 
 -- a value of this option is a number from 1 to a limit, and is read as it is written
@@ -140,6 +140,55 @@ demo_workers_sound = (
   (((λ same. never same, λ v passes same. never same), tt), tt),
 )
 
+-- IMAGE, FILE, the options and `--help` of `steps`, and the one argument of `help`
+steps_budget_sound : AreSound steps_app (codes "budget") BUDGET_LIMIT
+steps_budget_sound = (
+  (
+    (λ same. never same, λ v passes same. never same),
+    (
+      (λ same. never same, λ v passes same. never same),
+      (
+        (λ same. never same, λ v passes same. never same),
+        (
+          (λ same. refl, λ v passes same. passes),
+          (
+            (λ same. never same, λ v passes same. never same),
+            (
+              (λ same. never same, λ v passes same. never same),
+              ((λ same. never same, λ v passes same. never same), tt),
+            ),
+          ),
+        ),
+      ),
+    ),
+  ),
+  (((λ same. never same, λ v passes same. never same), tt), tt),
+)
+
+steps_workers_sound : AreSound steps_app (codes "workers") WORKERS_LIMIT
+steps_workers_sound = (
+  (
+    (λ same. never same, λ v passes same. never same),
+    (
+      (λ same. never same, λ v passes same. never same),
+      (
+        (λ same. never same, λ v passes same. never same),
+        (
+          (λ same. never same, λ v passes same. never same),
+          (
+            (λ same. refl, λ v passes same. passes),
+            (
+              (λ same. never same, λ v passes same. never same),
+              ((λ same. never same, λ v passes same. never same), tt),
+            ),
+          ),
+        ),
+      ),
+    ),
+  ),
+  (((λ same. never same, λ v passes same. never same), tt), tt),
+)
+
 none_of : (kinds : Kinds) → is_empty kinds ≡ true → kinds ≡ []
 none_of [] empty = refl
 none_of (k ∷ ks) empty = let short = eqb-true _ _ empty in absurd (omega arith)
@@ -211,3 +260,11 @@ export_workers_within = within (codes "workers") WORKERS_LIMIT default_workers e
 -- the workers of a demonstration
 pub demo_workers_within : (words : List (List ℕ)) (rows : List Row) (n : ℕ) → matched_rows demo_app words ≡ Some rows → n ≡ unwrap_or (number_in (codes "workers") rows) default_workers → (1 ≤ n) × (n ≤ WORKERS_LIMIT)
 demo_workers_within = within (codes "workers") WORKERS_LIMIT default_workers demo_app demo_workers_sound (omega arith, omega arith)
+
+-- the budget of steps
+pub steps_budget_within : (words : List (List ℕ)) (rows : List Row) (n : ℕ) → matched_rows steps_app words ≡ Some rows → n ≡ unwrap_or (number_in (codes "budget") rows) default_budget → (1 ≤ n) × (n ≤ BUDGET_LIMIT)
+steps_budget_within = within (codes "budget") BUDGET_LIMIT default_budget steps_app steps_budget_sound (omega arith, omega arith)
+
+-- the workers of steps
+pub steps_workers_within : (words : List (List ℕ)) (rows : List Row) (n : ℕ) → matched_rows steps_app words ≡ Some rows → n ≡ unwrap_or (number_in (codes "workers") rows) default_workers → (1 ≤ n) × (n ≤ WORKERS_LIMIT)
+steps_workers_within = within (codes "workers") WORKERS_LIMIT default_workers steps_app steps_workers_sound (omega arith, omega arith)

@@ -9,8 +9,8 @@ use Rattle.clap.proofs.WalkLemmas.{both}
 use Rattle.clap.specs.Words.{Row}
 use Rattle.dt_base.specs.Command.{Words, IsCommand}
 use Rattle.dt_base.specs.Path.{has_no_nul}
-use Rattle.dt_options.specs.Arguments.{run_app, export_app, demo_app, matched_rows, operand_in, number_in, default_workers}
-use Rattle.dt_options.specs.Options.{Request, ExportRequest, DemoRequest, request, export_request, demo_request, form_of, form_at, form_with_command, form_without_command, run_form, export_form, demo_form, begins_with, request_in, export_in, demo_in, command_in, command_at}
+use Rattle.dt_options.specs.Arguments.{run_app, export_app, demo_app, steps_app, matched_rows, operand_in, number_in, default_workers}
+use Rattle.dt_options.specs.Options.{Request, ExportRequest, DemoRequest, StepsRequest, request, export_request, demo_request, steps_request, form_of, form_at, form_with_command, form_without_command, run_form, export_form, demo_form, steps_form, begins_with, request_in, export_in, demo_in, steps_in, command_in, command_at}
 use Rattle.dt_base.specs.Assignment.{is_assignment}
 
 prefix_len-map : {A B : Type 0} (p : B → Bool) (f : A → B) (xs : List A) → prefix_len p (map f xs) ≡ prefix_len (λ x. p (f x)) xs
@@ -104,6 +104,16 @@ demo_in-some words rows r found number workers host =
     ∙ ap (option_map (demo_request rows)) number
     ∙ (λ i. Some (record { number = r.number; workers = sym workers i; host = sym host i }))
 
+-- ---- the words of steps
+
+pub steps_in-none : (words : List (List ℕ)) → matched_rows steps_app words ≡ None → steps_in words ≡ None
+unfolding steps_in
+steps_in-none words none = ap (option_map steps_request) none
+
+pub steps_in-some : (words : List (List ℕ)) (rows : List Row) (r : StepsRequest) → matched_rows steps_app words ≡ Some rows → r ≡ steps_request rows → steps_in words ≡ Some r
+unfolding steps_in
+steps_in-some words rows r found is = ap (option_map steps_request) found ∙ ap Some (sym is)
+
 -- ---- all words
 
 module _ (before after : List (List ℕ)) where
@@ -129,11 +139,22 @@ module _ (before after : List (List ℕ)) where
 module _ (words : List (List ℕ)) where
   pub without_command-demo : (r : Option DemoRequest) → begins_with (codes "demo") words ≡ true → demo_in words ≡ r → form_without_command words ≡ option_map demo_form r
   unfolding form_without_command
-  without_command-demo r first is = ap (λ b. cond b (option_map demo_form (demo_in words)) None) first ∙ ap (option_map demo_form) is
+  without_command-demo r first is =
+      ap (λ b. cond b (option_map demo_form (demo_in words)) (cond (begins_with (codes "steps") words) (option_map steps_form (steps_in words)) None)) first
+      ∙ ap (option_map demo_form) is
 
-  pub without_command-none : begins_with (codes "demo") words ≡ false → form_without_command words ≡ None
+  pub without_command-steps : (r : Option StepsRequest) → begins_with (codes "demo") words ≡ false → begins_with (codes "steps") words ≡ true → steps_in words ≡ r → form_without_command words ≡ option_map steps_form r
   unfolding form_without_command
-  without_command-none other = ap (λ b. cond b (option_map demo_form (demo_in words)) None) other
+  without_command-steps r other first is =
+      ap (λ b. cond b (option_map demo_form (demo_in words)) (cond (begins_with (codes "steps") words) (option_map steps_form (steps_in words)) None)) other
+      ∙ ap (λ b. cond b (option_map steps_form (steps_in words)) None) first
+      ∙ ap (option_map steps_form) is
+
+  pub without_command-none : begins_with (codes "demo") words ≡ false → begins_with (codes "steps") words ≡ false → form_without_command words ≡ None
+  unfolding form_without_command
+  without_command-none other last =
+      ap (λ b. cond b (option_map demo_form (demo_in words)) (cond (begins_with (codes "steps") words) (option_map steps_form (steps_in words)) None)) other
+      ∙ ap (λ b. cond b (option_map steps_form (steps_in words)) None) last
 
 -- where words have a `--`, by those on both sides
 pub form_of-with_command : {A : Type 0} (f : A → List ℕ) (words before after : List A) (index : ℕ) → position (λ word. bytes_eq (f word) (codes "--")) words ≡ Some index

@@ -1,5 +1,5 @@
 -- The words that clap reads: the arguments of `run` and of `export`, which stand before the first `--`, and those of
--- `demo`.
+-- `demo` and of `steps`.
 use Rattle.std.specs.Prelude.{ℕ, true, false, List, [], ◌∷◌, Option, Some, None, codes, if◌then◌else◌, unwrap_or, option_map, option_and_then}
 use Rattle.std.specs.Str.Parse.{digits_value, without_leading_plus}
 use Rattle.clap.specs.Words.{App, Row, Rule, Shape, fault_of, first_of, new_rule, one_of, subcommand_of}
@@ -22,7 +22,7 @@ default_budget = 100000000
 abbrev pub default_workers : ℕ
 default_workers = 4
 
--- an operand, a text that must be there: IMAGE or TO
+-- an operand, a text that must be there: IMAGE, TO or FILE
 abbrev pub operand_rule : List ℕ → Rule
 operand_rule name = record (new_rule name) { required = true }
 
@@ -56,6 +56,12 @@ export_shape = record (new_shape (codes "export")) {
   rules = operand_rule (codes "image") ∷ operand_rule (codes "to") ∷ run_rules;
 }
 
+-- `steps IMAGE FILE`, and the options of a run
+abbrev pub steps_shape : Shape
+steps_shape = record (new_shape (codes "steps")) {
+  rules = operand_rule (codes "image") ∷ operand_rule (codes "file") ∷ run_rules;
+}
+
 -- `demo N [--workers N] [--host N]`
 abbrev pub demo_shape : Shape
 demo_shape = record (new_shape (codes "demo")) {
@@ -85,6 +91,10 @@ export_app = app_with export_shape
 -- the program where it is `demo`
 abbrev pub demo_app : App
 demo_app = app_with demo_shape
+
+-- the program where it is `steps`
+abbrev pub steps_app : App
+steps_app = app_with steps_shape
 
 -- the values that clap matches to the arguments of the subcommand, where it takes the words
 unfoldable pub matched_rows : App → List (List ℕ) → Option (List Row)

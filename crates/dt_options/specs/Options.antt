@@ -1,6 +1,6 @@
 -- The command line: what the words of argv after the program's name ask for. The first word names the form. The words of
 -- a run and of an export have a `--`: the first one ends the options (POSIX, Base Definitions, 12.2, guideline 10), and
--- behind it stands the command. Those of a demonstration have none.
+-- behind it stands the command. Those of a demonstration and of steps have none.
 use Rattle.std.specs.Prelude.{ℕ, ◌+◌, ◌≤◌, Bool, false, not, ◌&&◌, ◌||◌, ◌==◌, List, [], ◌∷◌, take, drop, Option, Some, None, codes, if◌then◌else◌, unwrap_or, option_map, option_and_then}
 use Rattle.std.specs.List.{list_all, position}
 use Rattle.std.specs.Str.{bytes_eq}
@@ -10,11 +10,12 @@ use Rattle.dt_base.specs.Command.{Words}
 use Rattle.dt_base.specs.Path.{has_no_nul}
 use Rattle.dt_base.specs.declared.limits.TheConstants.{BUDGET_LIMIT}
 use Rattle.dt_options.specs.declared.options.Options.{Options}
-use Rattle.dt_options.specs.declared.options.Options.TheVariants.{Run, Export, Demo}
+use Rattle.dt_options.specs.declared.options.Options.TheVariants.{Run, Export, Demo, Steps}
 use Rattle.dt_options.specs.declared.options.RunOptions.{RunOptions}
 use Rattle.dt_options.specs.declared.options.ExportOptions.{ExportOptions}
 use Rattle.dt_options.specs.declared.options.DemoOptions.{DemoOptions}
-use Rattle.dt_options.specs.Arguments.{run_app, export_app, demo_app, matched_rows, operand_in, number_in, default_seed, default_budget, default_workers}
+use Rattle.dt_options.specs.declared.options.StepsOptions.{StepsOptions}
+use Rattle.dt_options.specs.Arguments.{run_app, export_app, demo_app, steps_app, matched_rows, operand_in, number_in, default_seed, default_budget, default_workers}
 
 -- what a run is asked to be: a folder with an image, the command that runs in it, and numbers
 pub record Request : Type 0 where
@@ -36,11 +37,21 @@ pub record DemoRequest : Type 0 where
   pub workers : ℕ
   pub host : Option ℕ
 
+-- what steps are asked to be: a folder with an image, the file in it that lists their commands, and numbers for each step
+pub record StepsRequest : Type 0 where
+  pub image : List ℕ
+  pub file : List ℕ
+  pub seed : ℕ
+  pub budget : ℕ
+  pub workers : ℕ
+  pub host : Option ℕ
+
 -- what words may ask for
 pub data Form : Type 0 where
   run_form : Request → Form
   export_form : ExportRequest → Form
   demo_form : DemoRequest → Form
+  steps_form : StepsRequest → Form
 
 -- ---- the words after `--`
 
@@ -91,6 +102,21 @@ unfoldable pub demo_in : List (List ℕ) → Option DemoRequest
 demo_in words =
     option_and_then (λ rows. option_map (demo_request rows) (number_in (codes "number") rows)) (matched_rows demo_app words)
 
+-- the steps that a file lists
+abbrev pub steps_request : List Row → StepsRequest
+steps_request rows = record {
+  image = operand_in (codes "image") rows;
+  file = operand_in (codes "file") rows;
+  seed = unwrap_or (number_in (codes "seed") rows) default_seed;
+  budget = unwrap_or (number_in (codes "budget") rows) default_budget;
+  workers = unwrap_or (number_in (codes "workers") rows) default_workers;
+  host = number_in (codes "host") rows;
+}
+
+-- what the words of steps ask for
+unfoldable pub steps_in : List (List ℕ) → Option StepsRequest
+steps_in words = option_map steps_request (matched_rows steps_app words)
+
 -- the first word is this one
 abbrev pub begins_with : List ℕ → List (List ℕ) → Bool
 begins_with name [] = false
@@ -102,10 +128,11 @@ form_with_command before after =
     if begins_with (codes "run") before then option_map run_form (request_in before after)
     else (if begins_with (codes "export") before then option_map export_form (export_in before after) else None)
 
--- what words without a `--` ask for: a demonstration
+-- what words without a `--` ask for: a demonstration or steps
 unfoldable pub form_without_command : List (List ℕ) → Option Form
 form_without_command words =
-    if begins_with (codes "demo") words then option_map demo_form (demo_in words) else None
+    if begins_with (codes "demo") words then option_map demo_form (demo_in words)
+    else (if begins_with (codes "steps") words then option_map steps_form (steps_in words) else None)
 
 -- what words ask for, the first `--` of which has this index, if there is one
 abbrev pub form_at : List (List ℕ) → Option ℕ → Option Form
@@ -133,15 +160,27 @@ as_request options = record {
 abbrev pub as_export_request : ExportOptions → ExportRequest
 as_export_request options = record { run = as_request options.run; to = options.to }
 
--- and a demonstration's
+-- a demonstration's
 abbrev pub as_demo_request : DemoOptions → DemoRequest
 as_demo_request options = record { number = options.number; workers = options.workers; host = options.host }
+
+-- and that of steps
+abbrev pub as_steps_request : StepsOptions → StepsRequest
+as_steps_request options = record {
+  image = options.image;
+  file = options.file;
+  seed = options.seed;
+  budget = options.budget;
+  workers = options.workers;
+  host = options.host;
+}
 
 -- the form that options hold
 abbrev pub as_form : Options → Form
 as_form (Run options) = run_form (as_request options)
 as_form (Export options) = export_form (as_export_request options)
 as_form (Demo options) = demo_form (as_demo_request options)
+as_form (Steps options) = steps_form (as_steps_request options)
 
 -- a budget is in its range
 abbrev pub IsBudget : ℕ → Type 0
@@ -152,9 +191,11 @@ abbrev pub HasBudget : Options → Type 0
 HasBudget (Run options) = IsBudget options.budget
 HasBudget (Export options) = IsBudget options.run.budget
 HasBudget (Demo options) = Unit {0}
+HasBudget (Steps options) = IsBudget options.budget
 
 -- how many workers options ask for
 abbrev pub workers_of : Options → ℕ
 workers_of (Run options) = options.workers
 workers_of (Export options) = options.run.workers
 workers_of (Demo options) = options.workers
+workers_of (Steps options) = options.workers

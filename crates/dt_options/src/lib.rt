@@ -4,5 +4,6 @@
 mod options;
 
 pub use options::{
-    DemoOptions, ExportOptions, Options, RunOptions, UsageErr, WORKERS_LIMIT, read_options,
+    DemoOptions, ExportOptions, Options, RunOptions, StepsOptions, UsageErr, WORKERS_LIMIT,
+    read_options,
 };

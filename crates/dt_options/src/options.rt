@@ -6,8 +6,8 @@ ghost use Rattle.std.specs.Str.{bytes_eq};
 ghost use Rattle.dt_base.specs.Path.{has_no_nul};
 ghost use Rattle.clap.specs.Words.{found_of, rows_of};
 ghost use Rattle.dt_options.specs.Options.{form_of, form_with_command, form_without_command, as_form, HasBudget};
-ghost use Rattle.dt_options.specs.Options.{IsBudget, workers_of, request, request_in, export_in, demo_in};
-ghost use Rattle.dt_options.specs.Options.{as_request, as_export_request, as_demo_request};
+ghost use Rattle.dt_options.specs.Options.{IsBudget, workers_of, request, request_in, export_in, demo_in, steps_in};
+ghost use Rattle.dt_options.specs.Options.{as_request, as_export_request, as_demo_request, as_steps_request};
 ghost use Rattle.dt_options.specs.Options.{begins_with, command_in};
 ghost use Rattle.dt_base.specs.Assignment.{is_assignment};
 ghost use Rattle.dt_options.specs.declared.options.UsageErr.TheVariants.{NoMemory as OutOfMemory};
@@ -15,8 +15,8 @@ ghost use Rattle.dt_options.specs.declared.options.UsageErr.TheVariants.{NoMemor
 mod arguments;
 
 use arguments::{
-    budget, number, operand, read_demo_arguments, read_export_arguments, read_run_arguments, seed,
-    workers,
+    budget, number, operand, read_demo_arguments, read_export_arguments, read_run_arguments,
+    read_steps_arguments, seed, workers,
 };
 use clap::ArgMatches;
 use clap::error::ErrorKind;
@@ -36,6 +36,8 @@ pub enum Options {
     Export(ExportOptions),
     /// The demonstration of a number.
     Demo(DemoOptions),
+    /// A run for each command of a file, each on the image of the tree that the one before left.
+    Steps(StepsOptions),
 }
 
 /// What the words ask of a run.
@@ -47,7 +49,7 @@ pub struct RunOptions {
     pub command: Command,
     /// The key of what looks random to the command.
     pub seed: u64,
-    /// How many steps the run may take, from 1 to 1,000,000,000.
+    /// How many steps of the machine the run may take, from 1 to 1,000,000,000.
     pub budget: u64,
     /// How many workers run segments, from 1 to 64.
     pub workers: usize,
@@ -69,6 +71,23 @@ pub struct ExportOptions {
 pub struct DemoOptions {
     /// The number that it is made of.
     pub number: u64,
+    /// How many workers run segments, from 1 to 64.
+    pub workers: usize,
+    /// What the host's choices start from, where the words say so.
+    pub host: Option<u64>,
+}
+
+/// What the words ask of steps.
+#[derive(Debug, Drop)]
+pub struct StepsOptions {
+    /// The name of the folder that holds the image.
+    pub image: Text,
+    /// The name of the file in it that lists the commands.
+    pub file: Text,
+    /// The key of what looks random to each command.
+    pub seed: u64,
+    /// How many steps of the machine each run may take, from 1 to 1,000,000,000.
+    pub budget: u64,
     /// How many workers run segments, from 1 to 64.
     pub workers: usize,
     /// What the host's choices start from, where the words say so.
@@ -116,7 +135,8 @@ impl From<clap::Error> for UsageErr {
 
 /// Reads the words of argv after the program's name, which are to be
 /// `run IMAGE [--seed N] [--budget N] [--workers N] [--host N] -- [NAME=VALUE ..] PROGRAM [ARG ..]`,
-/// `export IMAGE TO` with the same options and words behind them, or `demo N [--workers N] [--host N]`.
+/// `export IMAGE TO` with the same options and words behind them, `demo N [--workers N] [--host N]` or
+/// `steps IMAGE FILE [--seed N] [--budget N] [--workers N] [--host N]`.
 pub fn read_options(alloc: Global, argv: &[String]) -> Result<Options, UsageErr>
     ensures ok { IfOk result (λ o. form_of (map string_bytes argv.now) ≡ Some (as_form o)) }
     ensures refused { result ≡ Err UsageErr.Refused → form_of (map string_bytes argv.now) ≡ None }
@@ -177,6 +197,8 @@ fn read_without_command(alloc: Global, words: &[String]) -> Result<Options, Usag
 {
     if begins_with("demo", words) {
         Ok(Options::Demo(read_demo(alloc, words)?))
+    } else if begins_with("steps", words) {
+        Ok(Options::Steps(read_steps(alloc, words)?))
     } else {
         Err(UsageErr::Refused)
     }
@@ -275,6 +297,27 @@ fn read_demo(alloc: Global, words: &[String]) -> Result<DemoOptions, UsageErr>
         number: given,
         workers: workers(demo),
         host: number(demo, "host"),
+    })
+}
+
+// Reads the words of steps.
+fn read_steps(alloc: Global, words: &[String]) -> Result<StepsOptions, UsageErr>
+    ensures ok { IfOk result (λ o. steps_in (map string_bytes words.now) ≡ Some (as_steps_request o)) }
+    ensures refused { result ≡ Err UsageErr.Refused → steps_in (map string_bytes words.now) ≡ None }
+    ensures budget { IfOk result (λ o. IsBudget o.budget) }
+    ensures workers { IfOk result (λ o. (1 ≤ o.workers) × (o.workers ≤ WORKERS_LIMIT)) }
+{
+    let matches = read_steps_arguments(alloc, words)?;
+    let Some((_, steps)) = matches.subcommand() else {
+        return Err(UsageErr::Refused);
+    };
+    Ok(StepsOptions {
+        image: text_of(alloc, operand(steps, "image"))?,
+        file: text_of(alloc, operand(steps, "file"))?,
+        seed: seed(steps),
+        budget: budget(steps),
+        workers: workers(steps),
+        host: number(steps, "host"),
     })
 }
 

@@ -1,11 +1,12 @@
 // What a run tells of its words, on a store of which nothing may be known.
 ghost use Rattle.std.specs.Prelude.{◌≡◌, ◌⊎◌, List, Some, None, map, string_bytes, IsTrue};
 ghost use Rattle.dt_base.specs.declared.image.Entry.{Entry};
+ghost use Rattle.dt_base.specs.Command.{Words};
 ghost use Rattle.dt_base.specs.Image.{IsImage};
 ghost use Rattle.dt_host.specs.World.{IsEmptyStart};
 ghost use Rattle.dt_options.specs.Options.{Form, form_of};
 ghost use Rattle.dt_run.specs.declared.status.TheConstants.{WORDS_REFUSED, OUT_OF_MEMORY};
-ghost use Rattle.dt_engine.specs.Run.{status_of_run};
+ghost use Rattle.dt_run.specs.Outcome.{status_of_outcome};
 ghost use Rattle.dt_run.specs.Statuses.{is_run_status};
 ghost use Rattle.dt_run.specs.Wanted.{outcome_on};
 
@@ -16,12 +17,13 @@ use dt_host::{Gate, Host, NoGate, Sink, Store};
 use dt_run::{Outside, dettrace};
 use std::test::Fail;
 use std::thread::Threads;
+use std::time::Clock;
 
-// Runs what the words ask for. A run that was completed is one of the words on some image, both well formed, and the
-// status is its own. (A demonstration is the same on each image.) Words that ask for nothing are refused, or memory is
+// Runs what the words ask for. A run that was completed is one of the words on some image, both well formed, or steps with
+// some commands, and the status is its own. (A demonstration is the same on each image.) Words that ask for nothing are refused, or memory is
 // wanting: both add nothing to the report.
 fn run<
-    R: AllocGlobal + Threads + Sync,
+    R: AllocGlobal + Clock + Threads + Sync,
     S: Store,
     H: Host + Send,
     O: Sink + Send,
@@ -30,8 +32,8 @@ fn run<
 >(rt: &R, words: &[String], met: &mut Outside<S, H, O, E>, gate: &G) -> u8
     requires { IsEmptyStart (H.view met.old.host) }
     ensures completed { IsTrue (is_run_status result) → (form : Form) × (image : List Entry)
-        × (form_of (map string_bytes words.now) ≡ Some form) × IsImage image
-        × (result ≡ status_of_run (outcome_on form image).written.run) }
+        × (commands : List Words) × (form_of (map string_bytes words.now) ≡ Some form) × IsImage image
+        × (result ≡ status_of_outcome (outcome_on form image commands)) }
     ensures refused { form_of (map string_bytes words.now) ≡ None
         → ((result ≡ WORDS_REFUSED) ⊎ (result ≡ OUT_OF_MEMORY)) × (O.told met.new.out ≡ O.told met.old.out) }
 {
@@ -48,7 +50,7 @@ fn run<
 
 /// The status of what the lines of a text ask for, at a host that holds nothing.
 pub fn status_of<
-    R: AllocGlobal + Threads + Sync,
+    R: AllocGlobal + Clock + Threads + Sync,
     S: Store,
     H: Host + Send,
     O: Sink + Send,
@@ -61,7 +63,7 @@ pub fn status_of<
 
 /// The same, where the workers pass a gate.
 pub fn status_beside<
-    R: AllocGlobal + Threads + Sync,
+    R: AllocGlobal + Clock + Threads + Sync,
     S: Store,
     H: Host + Send,
     O: Sink + Send,
@@ -75,7 +77,10 @@ pub fn status_beside<
 }
 
 // The status of these words where `/hello` is the image's one file.
-fn status_with_hello<R: AllocGlobal + Threads + Sync>(rt: &R, words: &str) -> Result<u8, Fail> {
+fn status_with_hello<R: AllocGlobal + Clock + Threads + Sync>(
+    rt: &R,
+    words: &str,
+) -> Result<u8, Fail> {
     let program = hello(rt.alloc())?;
     let mut met = outside(rt.alloc(), 3, HELLO_INDEX, &program)?;
     status_of(rt, words, &mut met)

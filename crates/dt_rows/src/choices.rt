@@ -10,6 +10,7 @@ use dt_host::{Host, HostErr};
 use std::process::Abort;
 use std::test::Fail;
 use std::thread::Threads;
+use std::time::Clock;
 
 // What comes of a run of `/hello`: its status and its report, and the word by which the host chooses next. That word
 // tells the stream by which the host went, and how far it went in it.
@@ -21,7 +22,7 @@ struct Ran {
 }
 
 // Runs `/hello` by these words, at a host that was disturbed by hand where a number is given.
-fn run<R: AllocGlobal + Threads + Sync>(
+fn run<R: AllocGlobal + Clock + Threads + Sync>(
     rt: &R,
     words: &str,
     by_hand: Option<u64>,
@@ -32,7 +33,7 @@ fn run<R: AllocGlobal + Threads + Sync>(
 }
 
 // The same at what it meets.
-fn run_at<R: AllocGlobal + Threads + Sync>(
+fn run_at<R: AllocGlobal + Clock + Threads + Sync>(
     rt: &R,
     words: &str,
     by_hand: Option<u64>,
@@ -69,7 +70,7 @@ fn expect_hello(rt: &impl Abort, number: u64, ran: &Ran) {
 
 // Ends the test unless a number among the words disturbs the host as it does by hand, and as none of the numbers before
 // it did. The word by which the host chooses next.
-fn expect_disturbed<R: Abort + AllocGlobal + Threads + Sync>(
+fn expect_disturbed<R: Abort + AllocGlobal + Clock + Threads + Sync>(
     rt: &R,
     number: u64,
     seen: &[u64],
@@ -85,7 +86,7 @@ fn expect_disturbed<R: Abort + AllocGlobal + Threads + Sync>(
 }
 
 // Ends the test unless it is so for each of these numbers.
-fn expect_all_disturbed<R: Abort + AllocGlobal + Threads + Sync>(
+fn expect_all_disturbed<R: Abort + AllocGlobal + Clock + Threads + Sync>(
     rt: &R,
     numbers: &[u64],
 ) -> Result<(), Fail> {

@@ -14,6 +14,7 @@ use std::alloc::{AllocError, Global};
 use std::process::Abort;
 use std::test::Fail;
 use std::thread::Threads;
+use std::time::Clock;
 
 // A number for each that a run meets: the call at which it fails, or how many of its calls failed.
 #[derive(Clone, Copy, Debug, PartialEq)]
@@ -146,14 +147,14 @@ impl Failing {
 }
 
 // The status of a run of `/hello`.
-fn status<R: AllocGlobal + Threads + Sync>(rt: &R, fails: Each) -> Result<u8, Fail> {
+fn status<R: AllocGlobal + Clock + Threads + Sync>(rt: &R, fails: Each) -> Result<u8, Fail> {
     let mut met = meet(rt.alloc(), fails)?;
     status_of(rt, RUN_HELLO, &mut met)
 }
 
 // The number of the first of its calls that a run does not make before the others end it. At each number below that its
 // fault ends the run.
-fn first_not_made<R: AllocGlobal + Threads + Sync>(
+fn first_not_made<R: AllocGlobal + Clock + Threads + Sync>(
     rt: &R,
     failing: Failing,
     others: Each,
@@ -178,7 +179,7 @@ struct Row<'a> {
 }
 
 // A run that ends by one fault alone. Then the next call of each that fails at any is a fault: so it was not made.
-fn expect_one_fault<R: Abort + AllocGlobal + Threads + Sync>(
+fn expect_one_fault<R: Abort + AllocGlobal + Clock + Threads + Sync>(
     rt: &R,
     row: Row<'_>,
 ) -> Result<(), Fail> {
@@ -186,7 +187,7 @@ fn expect_one_fault<R: Abort + AllocGlobal + Threads + Sync>(
     expect_row(rt, row, &mut met)
 }
 
-fn expect_row<R: Abort + AllocGlobal + Threads + Sync>(
+fn expect_row<R: Abort + AllocGlobal + Clock + Threads + Sync>(
     rt: &R,
     row: Row<'_>,
     met: &mut InMemory,
@@ -247,7 +248,7 @@ fn by_host(store: u64, number: u64) -> Row<'static> {
 
 // The same of the report. What it shows is written between calls of the host, so the host is whole up to the call that
 // no run makes before this one.
-fn by_report<R: AllocGlobal + Threads + Sync>(
+fn by_report<R: AllocGlobal + Clock + Threads + Sync>(
     rt: &R,
     store: u64,
     number: u64,
@@ -283,7 +284,7 @@ fn by_line(number: u64) -> Row<'static> {
 
 // Ends the test unless each of them ends by its fault, at the call of each of these numbers. Below the store's and the
 // host's first call that a whole run does not make, the call is made.
-fn expect_faults<R: Abort + AllocGlobal + Threads + Sync>(
+fn expect_faults<R: Abort + AllocGlobal + Clock + Threads + Sync>(
     rt: &R,
     numbers: &[u64],
 ) -> Result<(), Fail> {

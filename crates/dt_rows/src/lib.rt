@@ -1,5 +1,5 @@
 //! Tests of whole calls of the program that need code: two runs, a number for the host, a store of which nothing is
-//! known, the first fault, want of memory, and a turn beside a segment.
+//! known, the first fault, steps with a cache, want of memory, and a turn beside a segment.
 #![tactic(auto)]
 
 #[cfg(test)]
@@ -16,5 +16,7 @@ mod first;
 mod memory;
 #[cfg(test)]
 mod program;
+#[cfg(test)]
+mod steps;
 #[cfg(test)]
 mod twice;

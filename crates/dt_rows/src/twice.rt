@@ -12,6 +12,7 @@ use dt_run::{Outside, run_twice};
 use std::alloc::Global;
 use std::test::Fail;
 use std::thread::Threads;
+use std::time::Clock;
 
 /// All that a run meets outside, in memory.
 pub type InMemory = Outside<MemStore, MemHost, MemSink, MemSink>;
@@ -78,7 +79,13 @@ pub fn sink(alloc: Global, stream: u64) -> Result<MemSink, NoMemory> {
 }
 
 // The statuses of two runs of the same words, at hosts that hold nothing and on stores that tell the same files.
-fn statuses<R: AllocGlobal + Threads + Sync, S: Store, H: Host + Send, O: Sink + Send, E: Sink>(
+fn statuses<
+    R: AllocGlobal + Clock + Threads + Sync,
+    S: Store,
+    H: Host + Send,
+    O: Sink + Send,
+    E: Sink,
+>(
     rt: &R,
     words: &[String],
     first: &mut Outside<S, H, O, E>,

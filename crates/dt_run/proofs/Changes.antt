@@ -1,7 +1,7 @@
 -- What is told of a store while the files of an export are put.
-use Rattle.std.proofs.Common.{◌≡◌, ℕ, ◌+◌, ◌<◌, List, [], ◌∷◌, ◌++◌, map, take, length, get_or, true, Option, Some, None, Result, Ok, Err, refl, sym, ap, subst, ◌∙◌, ⊎_elim}
+use Rattle.std.proofs.Common.{◌≡◌, ℕ, ◌+◌, ◌<◌, List, [], ◌∷◌, ◌++◌, map, take, drop, length, get_or, true, Option, Some, None, Result, Ok, Err, refl, sym, ap, subst, ◌∙◌, ⊎_elim}
 use Rattle.std.proofs.lemmas.Bool.{and_parts}
-use Rattle.std.proofs.lemmas.List.{take_more, map-append}
+use Rattle.std.proofs.lemmas.List.{take_more, take-append-drop, drop_more, map-append}
 use Rattle.std.proofs.lemmas.List.Elements.{All-weaker, filter_passes}
 use Rattle.std.proofs.lemmas.List.Sums.{fold-append}
 use Rattle.std.specs.Prelude.{codes, ◌&&◌, OnOk, OnErr}
@@ -17,7 +17,7 @@ use Rattle.dt_export.specs.ExportedIndex.{blob_name}
 use Rattle.dt_export.specs.ExportedFiles.{is_file, has_path, exported_inodes, blob_at, with_file_in, with_files}
 use Rattle.dt_host.specs.Store.{told_with, StoresPart}
 use Rattle.dt_run.specs.Exports.{ChangesFolder}
-use Rattle.dt_run.specs.inner.Exporting.{told_with_blobs}
+use Rattle.dt_run.specs.inner.Exporting.{told_with_blobs, PutsBlobs}
 
 module _ (folder : List ℕ) where
   pub folder_stays : (told now : Option StoreFiles) → now ≡ told → ChangesFolder folder told now
@@ -61,6 +61,34 @@ module _ (folder : List ℕ) where
       ∙ ap (with_files files folder) (map-append (blob_at t) (take k inodes) (n ∷ []))
       ∙ fold-append (with_file_in folder) files (map (blob_at t) (take k inodes)) (blob_at t n ∷ [])
       ))
+
+  -- the next one failed
+  pub blobs-stop : (told mid now : Option StoreFiles) (t : FileTree) (inodes : List ℕ) (k n other : ℕ) → k < length inodes → n ≡ get_or inodes k other
+      → mid ≡ told_with_blobs told folder t (take k inodes) → StoresPart mid now (name_below folder (blob_name n)) (content t.shape n) → PutsBlobs t folder inodes told now
+  blobs-stop told mid now t inodes k n other within is so_far part = record {
+    before = take k inodes;
+    next = n;
+    rest = drop (k + 1) inodes;
+    split =
+        sym (take-append-drop k inodes)
+        ∙ ap (λ ns. take k inodes ++ ns) (drop_more inodes k other within)
+        ∙ ap (λ m. take k inodes ++ m ∷ drop (k + 1) inodes) (sym is);
+    part = subst (λ from. StoresPart from now (name_below folder (blob_name n)) (content t.shape n)) so_far part;
+  }
+
+-- a part of a file, by another word for its name and its bytes
+pub part-same : (told now : Option StoreFiles) (name other bytes others : List ℕ) → name ≡ other → bytes ≡ others → StoresPart told now name bytes → StoresPart told now other others
+part-same told now name other bytes others is are part =
+    subst (λ name. StoresPart told now name others) is (subst (λ bytes. StoresPart told now name bytes) are part)
+
+-- what holds where a call fails
+pub on_fail : {A E : Type 0} (r : Result A E) (P : Type 0) → P → OnErr r P
+on_fail (Ok x) P holds = tt
+on_fail (Err e) P holds = holds
+
+pub if_fail : {A E : Type 0} (r : Result A E) (P Q : Type 0) → OnErr r P → (P → Q) → OnErr r Q
+if_fail (Ok x) P Q fails on = tt
+if_fail (Err e) P Q fails on = on fails
 
 -- the inodes of an export are files
 pub exported-files : (t : FileTree) → All (IsFile t.shape) (exported_inodes t)

@@ -1,5 +1,5 @@
 -- What follows from a failure and the status that was answered for it.
-use Rattle.std.proofs.Common.{◌≡◌, ◌≢◌, ℕ, List, Option, Some, None, Result, Ok, Err, refl, sym, subst, ◌∙◌, ⊎_elim, inl, inr}
+use Rattle.std.proofs.Common.{◌≡◌, ◌≢◌, ℕ, Bool, true, false, List, Option, Some, None, Result, Ok, Err, refl, sym, ap, subst, ◌∙◌, ⊎_elim, inl, inr}
 use Rattle.std.specs.Prelude.{IsTrue, IfOk, IfSome, ◌⊎◌}
 use Rattle.dt_base.specs.declared.refusal.Refusal.{Refusal}
 use Rattle.dt_export.specs.declared.refusal.ExportRefusal.{ExportRefusal}
@@ -11,15 +11,15 @@ use Rattle.dt_host.specs.World.{World}
 use Rattle.dt_run.specs.declared.failure.Failure.{Failure}
 use Rattle.dt_run.specs.declared.failure.Failure.TheVariants.{Usage, Image, Export, Store, Host, Output, NoMemory}
 use Rattle.dt_run.specs.Failure.{failure_status}
-use Rattle.dt_run.specs.Outcome.{Outcome, status_of_outcome}
-use Rattle.dt_run.specs.Wanted.{wanted, outcome_on, ReadsStore}
+use Rattle.dt_run.specs.Outcome.{Outcome, text_of, status_of_outcome, IsCompleted}
+use Rattle.dt_run.specs.Wanted.{wanted, outcome_on, ReadsStore, IsRefusedFor}
 use Rattle.dt_run.specs.SomeRun.{SomeRun, AddsTextPart, AddsExportText}
 use Rattle.dt_run.specs.Exports.{HasPut, IsRefusedLate, RefusesExport}
-use Rattle.dt_run.specs.Statuses.{RefusesImage, RefusesFolder, precedes_run, precedes_export, fails_run}
-use Rattle.dt_engine.specs.Completed.{Finishes}
+use Rattle.dt_run.specs.Statuses.{RefusesImage, RefusesFolder, precedes_run, fails_run}
 use Rattle.dt_run.specs.inner.Fails.{HasFailureCause}
 use Rattle.dt_run.proofs.Wanting.{not_refused}
-use Rattle.dt_run.proofs.Ran.{put-status, late-status}
+use Rattle.dt_run.proofs.Ran.{late-status}
+use Rattle.dt_run.proofs.Outcomes.{completed-status}
 
 -- what was answered for a failure: its status, or want of memory's
 abbrev pub Answers : Failure → ℕ → Type 0
@@ -40,15 +40,17 @@ each_some (Some x) on = on x
 -- a run is no refusal
 run_unless : {P : Outcome → Type 0} (told : Option StoreFiles) (words : List (List ℕ)) (f : Failure) → SomeRun told words P → wanted told words ≡ Some (Err f) → ⊥
 run_unless told words f run is =
-    let bad : Err f ≡ Ok (outcome_on run.form run.image) = subst (λ found. IfSome found (λ w. w ≡ Ok (outcome_on run.form run.image))) is run.is_wanted in cc
+    let bad : Err f ≡ Ok (outcome_on run.form run.image run.commands) = subst (λ found. IfSome found (λ w. w ≡ Ok (outcome_on run.form run.image run.commands))) is run.is_wanted in cc
 
 -- all that is written is a prefix of it
-whole-part : (told : Option StoreFiles) (words : List (List ℕ)) (old new : Option (List ℕ)) → {P : Outcome → Type 0} → ((outcome : Outcome) → P outcome → new ≡ added old outcome.written.text) → SomeRun told words P → AddsTextPart told words old new
+whole-part : (told : Option StoreFiles) (words : List (List ℕ)) (old new : Option (List ℕ)) → {P : Outcome → Type 0} → ((outcome : Outcome) → P outcome → new ≡ added old (text_of outcome)) → SomeRun told words P → AddsTextPart told words old new
 whole-part told words old new whole s = record {
   form = s.form;
   parsed = s.parsed;
   image = s.image;
   good = s.good;
+  commands = s.commands;
+  listed = s.listed;
   is_wanted = s.is_wanted;
   holds = adds_all old new _ (whole _ s.holds);
 }
@@ -69,7 +71,7 @@ part_or_nothing told words old new NoMemory fails = fails
 pub record Refuses (told : Option StoreFiles) (words : List (List ℕ)) (f : Failure) : Type 0 where
   pub refusal : Refusal
   pub is : f ≡ Image refusal
-  pub first : IfSome (wanted told words) (λ found. found ≡ Err (Image refusal))
+  pub refused : IsRefusedFor refusal told words
 
 -- the refusal of an export that was answered
 pub record RefusesTo (told : Option StoreFiles) (words : List (List ℕ)) (old new : Option (List ℕ)) (f : Failure) : Type 0 where
@@ -77,11 +79,24 @@ pub record RefusesTo (told : Option StoreFiles) (words : List (List ℕ)) (old n
   pub is : f ≡ Export refusal
   pub refused : RefusesExport refusal told words old new
 
--- at which status nothing was put
-pub untouched : (status : ℕ) (f : Failure) (S : Type 0) → Answers f status → (IsTrue (precedes_export (failure_status f)) → S) → IsTrue (precedes_export status) → S
-untouched status f S by stays early =
-    let own = own_status f status by (λ seven. let bad : IsTrue (precedes_export 7) = subst (λ s. IsTrue (precedes_export s)) seven early in cc) in
-    stays (subst (λ s. IsTrue (precedes_export s)) own early)
+-- what holds at the failure's status, where it is one of these, holds at the one that was answered
+pub at_status : (these : ℕ → Bool) → these 7 ≡ false → (status : ℕ) (f : Failure) (S : Type 0) → Answers f status → (IsTrue (these (failure_status f)) → S) → IsTrue (these status) → S
+at_status these not_seven status f S by holds is =
+    let own = own_status f status by (λ seven. let bad : true ≡ false = sym is ∙ ap these seven ∙ not_seven in cc) in
+    holds (subst (λ s. IsTrue (these s)) own is)
+
+-- the failure at 4 is that of the store
+own_store : (f : Failure) → failure_status f ≡ 4 → f ≡ Store
+own_store Usage is = absurd (cc)
+own_store (Image refusal) is = absurd (cc)
+own_store (Export refusal) is = absurd (cc)
+own_store Store is = refl
+own_store Host is = absurd (cc)
+own_store Output is = absurd (cc)
+own_store NoMemory is = absurd (cc)
+
+pub store_failed : (status : ℕ) (f : Failure) → Answers f status → status ≡ 4 → f ≡ Store
+store_failed status f by four = own_store f (sym (own_status f status by (λ seven. let bad : 4 ≡ 7 = sym four ∙ seven in cc)) ∙ four)
 
 module _ (status : ℕ) (told : Option StoreFiles) (words : List (List ℕ)) (old new : Option (List ℕ)) where
   own_part : (f : Failure) → IsTrue (fails_run (failure_status f)) → HasFailureCause f told words old new → AddsTextPart told words old new
@@ -153,7 +168,7 @@ module _ (status : ℕ) (told : Option StoreFiles) (words : List (List ℕ)) (ol
 
   own_image : (f : Failure) → failure_status f ≡ 3 → HasFailureCause f told words old new → Refuses told words f
   own_image Usage is fails = absurd (cc)
-  own_image (Image refusal) is fails = record { refusal = refusal; is = refl; first = fails.0 }
+  own_image (Image refusal) is fails = record { refusal = refusal; is = refl; refused = fails.0 }
   own_image (Export refusal) is fails = absurd (cc)
   own_image Store is fails = absurd (cc)
   own_image Host is fails = absurd (cc)
@@ -192,7 +207,7 @@ module _ (status : ℕ) (told : Option StoreFiles) (words : List (List ℕ)) (ol
   pub refused_words : (f : Failure) → Answers f status → HasFailureCause f told words old new → wanted told words ≡ Some (Err Usage) → (status ≡ 2) ⊎ (status ≡ 7)
   refused_words Usage by fails is = by
   refused_words (Image refusal) by fails is =
-      absurd (let bad : Err Usage ≡ Err (Image refusal) = subst (λ found. IfSome found (λ w. w ≡ Err (Image refusal))) is fails.0 in cc)
+      absurd (let bad : Err Usage ≡ Err (Image refusal) = subst (λ found. IfSome found (λ w. w ≡ Err (Image refusal))) is fails.0.first in cc)
   refused_words (Export refusal) by fails is =
       ⊎_elim
       (λ once. absurd (let bad : Err Usage ≡ Err (Export Exists) = subst (λ found. IfSome found (λ w. w ≡ Err (Export Exists))) is once.first in cc))
@@ -222,7 +237,7 @@ module _ (status : ℕ) (told : Option StoreFiles) (words : List (List ℕ)) (ol
   -- where the folder of an export has an index, and the store didn't fail
   pub refused_folder : (f : Failure) (StoreRose : Type 0) → Answers f status → HasFailureCause f told words old new → (f ≡ Store → StoreRose) → ¬ StoreRose → IfSome (wanted told words) (λ found. RefusesFolder found → (status ≡ 8) ⊎ (status ≡ 7))
   refused_folder Usage S by fails store none = other_than RefusesFolder Usage (λ r. cc) _ (known-usage fails.0)
-  refused_folder (Image refusal) S by fails store none = other_than RefusesFolder (Image refusal) (λ r. cc) _ fails.0
+  refused_folder (Image refusal) S by fails store none = other_than RefusesFolder (Image refusal) (λ r. cc) _ fails.0.first
   refused_folder (Export refusal) S by fails store none = each_some (wanted told words) (λ found r. by)
   refused_folder Store S by fails store none = absurd (none (store refl))
   refused_folder Host S by fails store none = no_run RefusesFolder no_folder_run _ fails
@@ -248,7 +263,7 @@ module _ (status : ℕ) (told : Option StoreFiles) (words : List (List ℕ)) (ol
   -- where words and image are accepted, and no call failed
   pub complete : (f : Failure) (StoreRose HostRose OutRose : Type 0) → Answers f status → HasFailureCause f told words old new → (f ≡ Store → StoreRose) → (f ≡ Host → HostRose) → (f ≡ Output → OutRose) → ¬ StoreRose → ¬ HostRose → ¬ OutRose → IfSome (wanted told words) Ends
   complete Usage S H O by fails store host output no_store no_host no_output = ends-refused Usage (known-usage fails.0)
-  complete (Image refusal) S H O by fails store host output no_store no_host no_output = ends-refused (Image refusal) fails.0
+  complete (Image refusal) S H O by fails store host output no_store no_host no_output = ends-refused (Image refusal) fails.0.first
   complete (Export refusal) S H O by fails store host output no_store no_host no_output =
       ⊎_elim (λ once. ends-refused (Export Exists) once.first) (λ late. ends-late refusal by late) fails
   complete Store S H O by fails store host output no_store no_host no_output = absurd (no_store (store refl))
@@ -270,7 +285,7 @@ not_refused_folder Q told words run =
     if_some (wanted told words) run.is_wanted (λ found is r. absurd (let bad = sym is ∙ r in cc))
 
 -- and its status is that of what is wanted
-pub completed : (status : ℕ) (told now : Option StoreFiles) (words : List (List ℕ)) (old new : Option (List ℕ)) (w : World) → SomeRun told words (λ outcome. Finishes outcome.written status old new w × HasPut outcome told now) → IfSome (wanted told words) (λ found. IfOk found (λ outcome. (status ≡ status_of_outcome outcome) ⊎ (status ≡ 7)))
+pub completed : (status : ℕ) (told now : Option StoreFiles) (words : List (List ℕ)) (old new : Option (List ℕ)) (w : World) → SomeRun told words (λ outcome. IsCompleted outcome status old new w × HasPut outcome told now) → IfSome (wanted told words) (λ found. IfOk found (λ outcome. (status ≡ status_of_outcome outcome) ⊎ (status ≡ 7)))
 completed status told now words old new w run =
     if_some (wanted told words) run.is_wanted
-    (λ found is. subst (λ found. IfOk found (λ outcome. (status ≡ status_of_outcome outcome) ⊎ (status ≡ 7))) (sym is) (inl (run.holds.0.status ∙ sym (put-status _ told now run.holds.1))))
+    (λ found is. subst (λ found. IfOk found (λ outcome. (status ≡ status_of_outcome outcome) ⊎ (status ≡ 7))) (sym is) (inl (completed-status status old new w _ told now run.holds.0 run.holds.1)))

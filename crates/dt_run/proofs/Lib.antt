@@ -4,5 +4,6 @@ pub mod Wanting
 pub mod Failing
 pub mod Lines
 pub mod Ran
+pub mod Outcomes
 pub mod Answered
 pub mod Demonstrated

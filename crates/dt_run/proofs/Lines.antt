@@ -8,7 +8,6 @@ use Rattle.dt_host.proofs.Growth.{added-nil, adds_none}
 use Rattle.dt_run.specs.declared.failure.Failure.{Failure}
 use Rattle.dt_run.specs.declared.failure.Failure.TheVariants.{Usage, Image, Export, Store, Host, Output, NoMemory}
 use Rattle.dt_run.specs.Failure.{failure_status, failure_line}
-use Rattle.dt_run.specs.Wanted.{wanted}
 use Rattle.dt_run.specs.Statuses.{is_run_status, status_line, AddsLine, AddsRefusal, AddsExportRefusal}
 use Rattle.dt_run.specs.inner.Fails.{HasFailureCause}
 use Rattle.dt_run.proofs.Failing.{Answers, own_status, image, export}
@@ -30,10 +29,10 @@ own_line f status old new before now by no_image no_export other line =
     subst (λ found. AddsLine found old new before now) (sym same) line
 
 -- at 3 it is the line of the refusal
-pub refusal_line : (f : Failure) (status : ℕ) (told : Option StoreFiles) (words : List (List ℕ)) (out out_now old new : Option (List ℕ)) (before now : ℕ) → Answers f status → HasFailureCause f told words out out_now → status ≡ 3 → AddsLine (failure_line f) old new before now → AddsRefusal (wanted told words) old new before now
+pub refusal_line : (f : Failure) (status : ℕ) (told : Option StoreFiles) (words : List (List ℕ)) (out out_now old new : Option (List ℕ)) (before now : ℕ) → Answers f status → HasFailureCause f told words out out_now → status ≡ 3 → AddsLine (failure_line f) old new before now → AddsRefusal told words old new before now
 refusal_line f status told words out out_now old new before now by fails three line =
     let r = image status told words out out_now f by fails three in
-    record { refusal = r.refusal; first = r.first; line = subst (λ found. AddsLine (failure_line found) old new before now) r.is line }
+    record { refusal = r.refusal; refused = r.refused; line = subst (λ found. AddsLine (failure_line found) old new before now) r.is line }
 
 -- at 8 it is the line of the export's refusal
 pub export_line : (f : Failure) (status : ℕ) (told : Option StoreFiles) (words : List (List ℕ)) (out out_now old new : Option (List ℕ)) (before now : ℕ) → Answers f status → HasFailureCause f told words out out_now → status ≡ 8 → AddsLine (failure_line f) old new before now → AddsExportRefusal told words out out_now old new before now

@@ -1,47 +1,108 @@
 -- An export that was put, or was not.
-use Rattle.std.proofs.Common.{◌≡◌, ℕ, List, Option, Some, None, Result, Ok, Err, refl, sym, ap, subst, ◌∙◌}
-use Rattle.std.specs.Prelude.{IsOk, IfSome, IsErrAnd, option_map, ⊤}
+use Rattle.std.proofs.Common.{◌≡◌, ℕ, List, [], ◌∷◌, ◌++◌, map, Option, Some, None, Result, Ok, Err, refl, sym, ap, subst, ◌∙◌, ⊎_elim, inl, inr}
+use Rattle.std.proofs.lemmas.List.{append_assoc, map-append}
+use Rattle.std.specs.Prelude.{◌⊎◌, IsOk, IfSome, IsErrAnd, option_map, codes, ⊤}
 use Rattle.dt_host.specs.Sink.{added}
-use Rattle.dt_host.specs.Store.{StoreFiles}
+use Rattle.dt_host.specs.Store.{StoreFiles, StoresPart}
+use Rattle.dt_host.specs.declared.error.StoreErr.{StoreErr}
+use Rattle.dt_host.specs.declared.error.StoreErr.TheVariants.{Failed as StoreCallFailed, NoMemory as NoStoreMemory}
+use Rattle.dt_tree.specs.FileTree.{FileTree}
+use Rattle.dt_image.specs.ImageOf.{name_below}
 use Rattle.dt_host.proofs.Growth.{adds_all}
 use Rattle.dt_export.specs.declared.image.TheConstants.{IMAGE_VERSION}
 use Rattle.dt_export.specs.declared.refusal.ExportRefusal.{ExportRefusal}
-use Rattle.dt_export.specs.ExportedFiles.{exported_text, exported_files, with_files}
+use Rattle.dt_export.specs.declared.refusal.ExportErr.{ExportErr}
+use Rattle.dt_export.specs.declared.refusal.ExportErr.TheVariants.{Refused as ExportRefused, Host as ExportHostFailed, NoMemory as NoExportMemory}
+use Rattle.dt_export.specs.ExportedFiles.{exported_text, exported_files, exported_inodes, blob_at, with_files}
 use Rattle.dt_export.specs.ReadBack.{IsReadAs}
 use Rattle.dt_engine.specs.Run.{Run, report_of}
 use Rattle.dt_engine.specs.Completed.{Written}
 use Rattle.dt_run.specs.declared.failure.Failure.{Failure}
 use Rattle.dt_run.specs.declared.failure.Failure.TheVariants.{Usage, Image, Export, Store, Host, Output, NoMemory}
-use Rattle.dt_run.specs.Outcome.{ExportTo, written_alone, exported, files_with_index}
-use Rattle.dt_run.specs.Exports.{HasPut, IsReadBack}
-use Rattle.dt_run.specs.inner.Exporting.{told_with_files, PutsTree, IsExportFault, FailsExport}
+use Rattle.dt_steps.specs.Steps.{Steps}
+use Rattle.dt_run.specs.Outcome.{some_steps, written_alone, exported, files_with_index}
+use Rattle.dt_run.specs.Exports.{HasPut, IsReadBack, PutsSome, PutsPart, told_with_files}
+use Rattle.dt_run.specs.inner.Exporting.{told_with_blobs, export_of, PutsTree, PutsBlobs, IsPutFault, FailsPut, FailsExport}
+use Rattle.dt_run.specs.inner.Failures.{failure_of_export, failure_of_store}
+
+alone : (told : Option StoreFiles) → told ≡ option_map (λ files. files) told
+alone None = refl
+alone (Some files) = refl
+
+nothing : (now : Option StoreFiles) → IfSome now (λ files. ⊤)
+nothing None = tt
+nothing (Some files) = tt
 
 -- where nothing is exported the store stays
 pub stays-put : (written : Written) (told now : Option StoreFiles) → now ≡ told → HasPut (written_alone written) told now
 stays-put written told now same = record { accepted = tt; files = same ∙ alone told; image = nothing now }
-  where
-    alone : (told : Option StoreFiles) → told ≡ option_map (λ files. files) told
-    alone None = refl
-    alone (Some files) = refl
 
-    nothing : (now : Option StoreFiles) → IfSome now (λ files. ⊤)
-    nothing None = tt
-    nothing (Some files) = tt
+-- likewise after steps
+pub steps-put : (steps : Steps) (told now : Option StoreFiles) → now ≡ told → HasPut (some_steps steps) told now
+steps-put steps told now same = record { accepted = tt; files = same ∙ alone told; image = nothing now }
 
-abbrev export_of : List ℕ → Run → ExportTo
-export_of folder run = record { folder = folder; index = exported_text IMAGE_VERSION run.last.tree }
+-- ---- a tree that is put
+
+module _ (t : FileTree) (folder : List ℕ) (told now : Option StoreFiles) where
+  module _ (text : List ℕ) (index : exported_text IMAGE_VERSION t ≡ Ok text) where
+    -- some of the blobs
+    pub blobs-some : PutsBlobs t folder (exported_inodes t) told now → PutsSome t (export_of t folder) told now
+    blobs-some p = record {
+      text = text;
+      index = index;
+      before = map (blob_at t) p.before;
+      next = blob_at t p.next;
+      rest = map (blob_at t) p.rest ++ (codes "image.json", text) ∷ [];
+      split =
+          ap (λ ns. map (blob_at t) ns ++ (codes "image.json", text) ∷ []) p.split
+          ∙ ap (λ puts. puts ++ (codes "image.json", text) ∷ []) (map-append (blob_at t) p.before (p.next ∷ p.rest))
+          ∙ append_assoc (map (blob_at t) p.before) (blob_at t p.next ∷ map (blob_at t) p.rest) ((codes "image.json", text) ∷ []);
+      part = p.part;
+    }
+
+    -- all blobs, and some of the index
+    pub index-some : (mid : Option StoreFiles) → mid ≡ told_with_blobs told folder t (exported_inodes t) → StoresPart mid now (name_below folder (codes "image.json")) text → PutsSome t (export_of t folder) told now
+    index-some mid is part = record {
+      text = text;
+      index = index;
+      before = map (blob_at t) (exported_inodes t);
+      next = (codes "image.json", text);
+      rest = [];
+      split = refl;
+      part = subst (λ from. StoresPart from now (name_below folder (codes "image.json")) text) is part;
+    }
+
+  pub fails-prepare : (e : ExportErr) → now ≡ told → ((r : ExportRefusal) → e ≡ ExportRefused r → exported_text IMAGE_VERSION t ≡ Err r) → FailsPut (failure_of_export e) t folder told now
+  fails-prepare (ExportRefused r) stays refused = (refused r refl, stays)
+  fails-prepare ExportHostFailed stays refused = inl stays
+  fails-prepare NoExportMemory stays refused = inl stays
+
+  pub fails-blobs : (f : Failure) → IsPutFault f → PutsSome t (export_of t folder) told now → FailsPut f t folder told now
+  fails-blobs Usage fault some = absurd fault
+  fails-blobs (Image refusal) fault some = absurd fault
+  fails-blobs (Export refusal) fault some = absurd fault
+  fails-blobs Store fault some = some
+  fails-blobs Host fault some = inr some
+  fails-blobs Output fault some = absurd fault
+  fails-blobs NoMemory fault some = inr some
+
+  pub fails-index : (e : StoreErr) → PutsSome t (export_of t folder) told now → FailsPut (failure_of_store e) t folder told now
+  fails-index StoreCallFailed some = some
+  fails-index NoStoreMemory some = inr some
+
+-- ---- a run whose tree is put
 
 module _ (folder : List ℕ) (run : Run) where
   read-back : (told now : Option StoreFiles) (p : PutsTree run.last.tree folder told now)
-      → IfSome now (λ files. IsReadBack run.last.tree (export_of folder run) (exported_text IMAGE_VERSION run.last.tree) files)
+      → IfSome now (λ files. IsReadBack run.last.tree (export_of run.last.tree folder) (exported_text IMAGE_VERSION run.last.tree) files)
   unfolding IsReadAs
   read-back told now p = by_told told p.files
     where
-      by_told : (told : Option StoreFiles) → now ≡ told_with_files told folder (exported_files run.last.tree p.text) → IfSome now (λ files. IsReadBack run.last.tree (export_of folder run) (exported_text IMAGE_VERSION run.last.tree) files)
-      by_told None is = subst (λ now. IfSome now (λ files. IsReadBack run.last.tree (export_of folder run) (exported_text IMAGE_VERSION run.last.tree) files)) (sym is) tt
+      by_told : (told : Option StoreFiles) → now ≡ told_with_files told folder (exported_files run.last.tree p.text) → IfSome now (λ files. IsReadBack run.last.tree (export_of run.last.tree folder) (exported_text IMAGE_VERSION run.last.tree) files)
+      by_told None is = subst (λ now. IfSome now (λ files. IsReadBack run.last.tree (export_of run.last.tree folder) (exported_text IMAGE_VERSION run.last.tree) files)) (sym is) tt
       by_told (Some files) is =
-          subst (λ now. IfSome now (λ files. IsReadBack run.last.tree (export_of folder run) (exported_text IMAGE_VERSION run.last.tree) files)) (sym is)
-          (subst (λ index. IsReadBack run.last.tree (export_of folder run) index (with_files files folder (exported_files run.last.tree p.text))) (sym p.index)
+          subst (λ now. IfSome now (λ files. IsReadBack run.last.tree (export_of run.last.tree folder) (exported_text IMAGE_VERSION run.last.tree) files)) (sym is)
+          (subst (λ index. IsReadBack run.last.tree (export_of run.last.tree folder) index (with_files files folder (exported_files run.last.tree p.text))) (sym p.index)
           (record { entries = p.entries; exported = p.image; read = p.read files folder }))
 
   -- an export that was put is read as the image of the tree
@@ -53,15 +114,24 @@ module _ (folder : List ℕ) (run : Run) where
   }
 
   -- where the export was not put, after the whole report
-  pub fails-put : (f : Failure) (old new : Option (List ℕ)) → IsExportFault f → ((r : ExportRefusal) → f ≡ Export r → exported_text IMAGE_VERSION run.last.tree ≡ Err r)
-      → new ≡ added old (report_of run) → FailsExport f (exported folder run) old new
-  fails-put Usage old new fault refused report = absurd fault
-  fails-put (Image refusal) old new fault refused report = absurd fault
-  fails-put (Export refusal) old new fault refused report = record { is = refused refusal refl; report = report }
-  fails-put Store old new fault refused report = report
-  fails-put Host old new fault refused report = adds_all old new (report_of run) report
-  fails-put Output old new fault refused report = absurd fault
-  fails-put NoMemory old new fault refused report = adds_all old new (report_of run) report
+  pub fails-put : (f : Failure) (old new : Option (List ℕ)) (told now : Option StoreFiles) → FailsPut f run.last.tree folder told now → new ≡ added old (report_of run) → FailsExport f (exported folder run) old new
+  fails-put Usage old new told now fails report = absurd fails
+  fails-put (Image refusal) old new told now fails report = absurd fails
+  fails-put (Export refusal) old new told now fails report = record { is = fails.0; report = report }
+  fails-put Store old new told now fails report = (subst (λ index. IsOk index) (sym fails.index) refl, report)
+  fails-put Host old new told now fails report = adds_all old new (report_of run) report
+  fails-put Output old new told now fails report = absurd fails
+  fails-put NoMemory old new told now fails report = adds_all old new (report_of run) report
+
+  -- the store holds what it held, or some of the export
+  pub some-put : (f : Failure) (old new : Option (List ℕ)) (told now : Option StoreFiles) → FailsPut f run.last.tree folder told now → new ≡ added old (report_of run) → (now ≡ told) ⊎ PutsPart old new told now (exported folder run)
+  some-put Usage old new told now fails report = absurd fails
+  some-put (Image refusal) old new told now fails report = absurd fails
+  some-put (Export refusal) old new told now fails report = inl fails.1
+  some-put Store old new told now fails report = inr (record { report = report; some = fails })
+  some-put Host old new told now fails report = ⊎_elim inl (λ some. inr (record { report = report; some = some })) fails
+  some-put Output old new told now fails report = absurd fails
+  some-put NoMemory old new told now fails report = ⊎_elim inl (λ some. inr (record { report = report; some = some })) fails
 
 -- a refusal that is passed on is the one that was met
 pub own-refusal : {A : Type 0} (r : Result A Failure) (f : Failure) (refusal : ExportRefusal) → IsErrAnd r (λ found. found ≡ f) → r ≡ Err (Export refusal) → f ≡ Export refusal

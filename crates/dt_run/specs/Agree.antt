@@ -3,7 +3,7 @@ use Rattle.std.specs.Prelude.{◌≡◌, ◌==◌, ◌||◌, ℕ, Bool, List, Op
 use Rattle.dt_host.specs.Cause.{HasCause}
 use Rattle.dt_host.specs.Sink.{added, AddsPart}
 use Rattle.dt_options.specs.Arguments.{default_workers}
-use Rattle.dt_options.specs.Options.{Form, run_form, export_form, demo_form, form_of}
+use Rattle.dt_options.specs.Options.{Form, run_form, export_form, demo_form, steps_form, form_of}
 use Rattle.dt_run.specs.Statuses.{is_status, is_run_status, AddsLine}
 use Rattle.dt_run.specs.declared.status.TheConstants.{WORDS_REFUSED, IMAGE_REFUSED, STORE_FAULT, HOST_FAULT, OUTPUT_FAULT, EXPORT_REFUSED}
 
@@ -13,9 +13,11 @@ without_choices (run_form request) = run_form (record request { workers = defaul
 without_choices (export_form request) =
     export_form (record request { run = record request.run { workers = default_workers; host = None } })
 without_choices (demo_form request) = demo_form (record request { workers = default_workers; host = None })
+without_choices (steps_form request) = steps_form (record request { workers = default_workers; host = None })
 
 -- both ask for a run of the same image, command, seed and budget, or for its export to the same folder, or for a
--- demonstration of the same number, or both are refused
+-- demonstration of the same number, or for steps that the same file lists on the same image, with the same seed and budget,
+-- or both are refused
 abbrev pub AskTheSame : List (List ℕ) → List (List ℕ) → Type 0
 AskTheSame words other = option_map without_choices (form_of words) ≡ option_map without_choices (form_of other)
 

@@ -1,5 +1,5 @@
 -- What each status of the program says of what was written, and why it comes.
-use Rattle.std.specs.Prelude.{◌≡◌, ◌⊎◌, ◌||◌, ◌==◌, ℕ, Bool, List, [], Option, Result, Err, IfSome, nat_le, if◌then◌else◌}
+use Rattle.std.specs.Prelude.{◌≡◌, ◌⊎◌, ◌||◌, ◌==◌, ℕ, Bool, List, [], Option, Result, Err, nat_le, if◌then◌else◌}
 use Rattle.dt_base.specs.declared.refusal.Refusal.{Refusal}
 use Rattle.dt_host.specs.Cause.{HasRisen}
 use Rattle.dt_host.specs.Sink.{added, AddsPart}
@@ -12,9 +12,10 @@ use Rattle.dt_host.specs.Store.{StoreFiles}
 use Rattle.dt_export.specs.declared.refusal.ExportRefusal.{ExportRefusal}
 use Rattle.dt_export.specs.declared.refusal.ExportRefusal.TheVariants.{Exists}
 use Rattle.dt_run.specs.Outcome.{Outcome}
+use Rattle.dt_run.specs.Wanted.{IsRefusedFor}
 use Rattle.dt_run.specs.Exports.{RefusesExport}
 
--- the status of a run that was completed, and its export put where one is asked for
+-- the status of a run that was completed, and its export put where one is asked for; or of steps
 abbrev pub is_run_status : ℕ → Bool
 is_run_status status = (status == ENDED_ZERO) || (status == ENDED_OTHERWISE) || (status == NOT_ENDED)
 
@@ -26,11 +27,11 @@ is_status status = nat_le status EXPORT_REFUSED || (status == NOT_ENDED)
 abbrev pub precedes_run : ℕ → Bool
 precedes_run status = (status == WORDS_REFUSED) || (status == IMAGE_REFUSED)
 
--- a status at which nothing was put into the store: something was refused, or the sink of the report failed
+-- a status at which nothing was put into any store: something was refused, or the sink of the report failed
 abbrev pub precedes_export : ℕ → Bool
 precedes_export status = precedes_run status || (status == EXPORT_REFUSED) || (status == OUTPUT_FAULT)
 
--- a status at which a run was begun and not completed: the host or the sink failed
+-- a status at which a run was begun, and it, or its export, was not completed: the host or the sink failed
 abbrev pub fails_run : ℕ → Bool
 fails_run status = (status == HOST_FAULT) || (status == OUTPUT_FAULT)
 
@@ -67,10 +68,10 @@ pub record AddsSomeLine (old new : Option (List ℕ)) : Type 0 where
   pub failure : Failure
   pub part : AddsPart old new (failure_line failure)
 
--- the line of a refusal was added, of the one that refuses the image, where what is wanted is known
-pub record AddsRefusal (found : Option (Result Outcome Failure)) (old new : Option (List ℕ)) (before now : ℕ) : Type 0 where
+-- the line of a refusal of the image was added, and that refusal has its cause
+pub record AddsRefusal (told : Option StoreFiles) (words : List (List ℕ)) (old new : Option (List ℕ)) (before now : ℕ) : Type 0 where
   pub refusal : Refusal
-  pub first : IfSome found (λ wanted. wanted ≡ Err (Image refusal))
+  pub refused : IsRefusedFor refusal told words
   pub line : AddsLine (failure_line (Image refusal)) old new before now
 
 -- the line of the refusal of an export was added, and that refusal has its cause

@@ -1,28 +1,34 @@
 -- What the words ask for, over a store's files where those are known.
-use Rattle.std.specs.Prelude.{ℕ, List, Option, Some, None, option_map, option_and_then, Result, Ok, Err, IsSome, if◌then◌else◌}
+use Rattle.std.specs.Prelude.{◌≡◌, ℕ, List, Option, Some, None, option_map, option_and_then, Result, Ok, Err, IsSome, IfSome, if◌then◌else◌}
 use Rattle.dt_base.specs.declared.image.Entry.{Entry}
+use Rattle.dt_base.specs.Command.{Words}
 use Rattle.dt_base.specs.declared.refusal.Refusal.{Refusal}
+use Rattle.dt_base.specs.declared.refusal.Refusal.TheVariants.{BadSteps}
 use Rattle.dt_host.specs.Store.{StoreFiles}
 use Rattle.dt_run.specs.declared.failure.Failure.{Failure}
 use Rattle.dt_run.specs.declared.failure.Failure.TheVariants.{Usage, Image, Export}
 use Rattle.dt_export.specs.declared.refusal.ExportRefusal.TheVariants.{Exists}
 use Rattle.dt_export.specs.ExportedFiles.{has_index}
-use Rattle.dt_options.specs.Options.{Request, ExportRequest, Form, run_form, export_form, demo_form, form_of}
+use Rattle.dt_export.specs.Steps.{steps_at}
+use Rattle.dt_options.specs.Options.{Request, ExportRequest, StepsRequest, Form, run_form, export_form, demo_form, steps_form, form_of}
 use Rattle.dt_image.specs.ImageOf.{image_of}
 use Rattle.dt_engine.specs.Run.{Run, run_of}
 use Rattle.dt_engine.specs.Completed.{reported}
 use Rattle.dt_run.specs.Written.{demonstrated}
-use Rattle.dt_run.specs.Outcome.{Outcome, written_alone, exported}
+use Rattle.dt_steps.specs.Steps.{steps_on}
+use Rattle.dt_run.specs.Outcome.{Outcome, some_steps, written_alone, exported}
 
 -- a request's run on an image
 abbrev pub run_on : Request → List Entry → Run
 run_on request entries = run_of entries request.command request.seed request.budget
 
--- what words of this form ask for, on an image; a demonstration has its own, and looks at no other
-abbrev pub outcome_on : Form → List Entry → Outcome
-outcome_on (run_form request) entries = written_alone (reported (run_on request entries))
-outcome_on (export_form request) entries = exported request.to (run_on request.run entries)
-outcome_on (demo_form request) entries = written_alone (demonstrated request.number)
+-- what words of this form ask for, on an image and with these commands; a demonstration has its own image, and looks at no
+-- other, and only steps look at the commands
+abbrev pub outcome_on : Form → List Entry → List Words → Outcome
+outcome_on (run_form request) entries commands = written_alone (reported (run_on request entries))
+outcome_on (export_form request) entries commands = exported request.to (run_on request.run entries)
+outcome_on (demo_form request) entries commands = written_alone (demonstrated request.number)
+outcome_on (steps_form request) entries commands = some_steps (steps_on entries commands request.seed request.budget)
 
 -- a request's run on an image that was read, or the image's refusal
 abbrev pub run_or_refusal : Request → Result (List Entry) Refusal → Result Outcome Failure
@@ -35,6 +41,12 @@ export_or_refusal request files (Err refusal) = Err (Image refusal)
 export_or_refusal request files (Ok entries) =
     if has_index files request.to then Err (Export Exists) else Ok (exported request.to (run_on request.run entries))
 
+-- the steps on an image that was read, the image's refusal, or that of the file, where it lists no commands
+abbrev pub steps_or_refusal : StepsRequest → Result (List Entry) Refusal → Option (List Words) → Result Outcome Failure
+steps_or_refusal request (Err refusal) commands = Err (Image refusal)
+steps_or_refusal request (Ok entries) None = Err (Image BadSteps)
+steps_or_refusal request (Ok entries) (Some commands) = Ok (some_steps (steps_on entries commands request.seed request.budget))
+
 -- what words of a form want of these files; without a form they are refused, whatever the files are, and a demonstration
 -- wants none of them
 abbrev pub form_outcome : Option Form → Option StoreFiles → Option (Result Outcome Failure)
@@ -43,28 +55,49 @@ form_outcome (Some (run_form request)) told = option_map (λ files. run_or_refus
 form_outcome (Some (export_form request)) told =
     option_map (λ files. export_or_refusal request files (image_of files request.run.image)) told
 form_outcome (Some (demo_form request)) told = Some (Ok (written_alone (demonstrated request.number)))
+form_outcome (Some (steps_form request)) told =
+    option_map (λ files. steps_or_refusal request (image_of files request.image) (steps_at files request.image request.file)) told
 
 -- what the words come to, or the first refusal; none where that depends on files that
 -- are not known
 unfoldable pub wanted : Option StoreFiles → List (List ℕ) → Option (Result Outcome Failure)
 wanted told words = form_outcome (form_of words) told
 
--- the request of a run, which an export has too
-abbrev pub run_request : Form → Option Request
-run_request (run_form request) = Some request
-run_request (export_form request) = Some request.run
-run_request (demo_form request) = None
+-- the folder whose image is read
+abbrev pub image_folder : Form → Option (List ℕ)
+image_folder (run_form request) = Some request.image
+image_folder (export_form request) = Some request.run.image
+image_folder (demo_form request) = None
+image_folder (steps_form request) = Some request.image
 
 -- the request of an export
-abbrev pub export_request : Form → Option ExportRequest
-export_request (run_form request) = None
-export_request (export_form request) = Some request
-export_request (demo_form request) = None
+abbrev pub request_of_export : Form → Option ExportRequest
+request_of_export (run_form request) = None
+request_of_export (export_form request) = Some request
+request_of_export (demo_form request) = None
+request_of_export (steps_form request) = None
 
--- the words ask for a run or an export, for which the store is read
+-- the words ask for a run, an export or steps, for which the store is read
 abbrev pub ReadsStore : List (List ℕ) → Type 0
-ReadsStore words = IsSome (option_and_then run_request (form_of words))
+ReadsStore words = IsSome (option_and_then image_folder (form_of words))
 
 -- the words ask for an export
 abbrev pub AsksExport : List (List ℕ) → Type 0
-AsksExport words = IsSome (option_and_then export_request (form_of words))
+AsksExport words = IsSome (option_and_then request_of_export (form_of words))
+
+-- the request of steps
+abbrev pub request_of_steps : Form → Option StepsRequest
+request_of_steps (run_form request) = None
+request_of_steps (export_form request) = None
+request_of_steps (demo_form request) = None
+request_of_steps (steps_form request) = Some request
+
+-- the words ask for steps
+abbrev pub AsksSteps : List (List ℕ) → Type 0
+AsksSteps words = IsSome (option_and_then request_of_steps (form_of words))
+
+-- the image is refused for this reason, where what is wanted is known; a file of steps is only refused where steps are asked
+-- for
+pub record IsRefusedFor (refusal : Refusal) (told : Option StoreFiles) (words : List (List ℕ)) : Type 0 where
+  pub first : IfSome (wanted told words) (λ found. found ≡ Err (Image refusal))
+  pub steps : refusal ≡ BadSteps → AsksSteps words

@@ -2,3 +2,4 @@
 pub mod Failures
 pub mod Fails
 pub mod Exporting
+pub mod Listing

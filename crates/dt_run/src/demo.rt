@@ -19,18 +19,18 @@ use sha2::{Digest, Sha256};
 use std::alloc::{AllocError, Global};
 use std::io::Write;
 use std::thread::Threads;
+use std::time::Clock;
 
 // How many steps a demonstration may take.
 const DEMO_BUDGET: u64 = 100_000_000;
 
 /// Runs the demonstration of a number, and writes a summary of its report to `out`. The answer is the status.
-pub fn demonstrate<R: AllocGlobal + Threads + Sync, H: Host + Send, O: Sink + Send, G: Gate + Sync>(
-    rt: &R,
-    options: &DemoOptions,
-    host: &mut H,
-    out: &mut O,
-    gate: &G,
-) -> Result<u8, RunErr>
+pub fn demonstrate<
+    R: AllocGlobal + Clock + Threads + Sync,
+    H: Host + Send,
+    O: Sink + Send,
+    G: Gate + Sync,
+>(rt: &R, options: &DemoOptions, host: &mut H, out: &mut O, gate: &G) -> Result<u8, RunErr>
     requires empty { IsEmptyStart (H.view host.old) }
     requires workers { (1 ≤ options.now.workers) × (options.now.workers ≤ 64) }
     ensures completed { IfOk result (λ status. Finishes (demonstrated options.now.number) status
@@ -49,7 +49,7 @@ pub fn demonstrate<R: AllocGlobal + Threads + Sync, H: Host + Send, O: Sink + Se
 }
 
 // Runs the demonstration of a number, and gathers its report.
-fn gather<R: AllocGlobal + Threads + Sync, H: Host + Send, G: Gate + Sync>(
+fn gather<R: AllocGlobal + Clock + Threads + Sync, H: Host + Send, G: Gate + Sync>(
     rt: &R,
     options: &DemoOptions,
     host: &mut H,

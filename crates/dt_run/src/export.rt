@@ -1,19 +1,18 @@
 // A run whose last file tree is put into a folder, as an image.
-ghost use Rattle.std.specs.Prelude.{◌≡◌, ◌≤◌, Err, codes, IfOk, OnOk, IfErr, IsErrOf};
+ghost use Rattle.std.specs.Prelude.{◌≡◌, ◌≤◌, ◌⊎◌, Err, codes, IfOk, OnOk, IfErr, OnErr, IsErrOf};
 ghost use Rattle.std.specs.List.{All};
 ghost use Rattle.dt_host.specs.Cause.{HasCause};
 ghost use Rattle.dt_host.specs.World.{IsEmptyStart, IsFile};
 ghost use Rattle.dt_tree.specs.Table.{Stands, shape_of, tree_of};
-ghost use Rattle.dt_export.specs.declared.image.TheConstants.{IMAGE_VERSION as VERSION};
 ghost use Rattle.dt_export.specs.declared.refusal.ExportRefusal.{ExportRefusal as Refusal};
-ghost use Rattle.dt_export.specs.ExportedFiles.{exported_text, blob_at};
+ghost use Rattle.dt_export.specs.ExportedFiles.{blob_at};
 ghost use Rattle.dt_image.specs.ImageOf.{name_below};
 ghost use Rattle.dt_engine.specs.Run.{run_of};
-ghost use Rattle.dt_host.specs.Store.{told_with};
+ghost use Rattle.dt_host.specs.Store.{told_with, StoresPart};
 ghost use Rattle.dt_run.specs.Outcome.{exported};
-ghost use Rattle.dt_run.specs.Exports.{HasPut, ChangesFolder};
+ghost use Rattle.dt_run.specs.Exports.{HasPut, ChangesFolder, PutsPart};
 ghost use Rattle.dt_engine.specs.Completed.{reported, Finishes};
-ghost use Rattle.dt_run.specs.inner.Exporting.{told_with_blobs, PutsTree, IsPutFault, IsExportFault, FailsExport};
+ghost use Rattle.dt_run.specs.inner.Exporting.{told_with_blobs, PutsTree, PutsBlobs, IsPutFault, FailsPut, FailsExport};
 
 use crate::failure::Failure;
 use crate::top::run_image;
@@ -24,11 +23,12 @@ use dt_options::ExportOptions;
 use dt_tree::Tree;
 use std::alloc::Global;
 use std::thread::Threads;
+use std::time::Clock;
 
-/// Makes the run that the options ask for on an image, and puts its last file tree into the folder that they name, which
-/// has no index yet. The answer is the run's status.
+/// Makes the run that the options ask for on an image, and puts its last file tree into the folder that they name. The
+/// answer is the run's status.
 pub fn run_export<
-    R: AllocGlobal + Threads + Sync,
+    R: AllocGlobal + Clock + Threads + Sync,
     S: Store,
     H: Host + Send,
     O: Sink + Send,
@@ -53,6 +53,10 @@ pub fn run_export<
         let run = run_of image.now options.now.run.command options.now.run.seed options.now.run.budget in
         FailsExport f (exported options.now.to run) (O.told out.old) (O.told out.new)) }
     ensures keeps { ChangesFolder options.now.to (S.told store.old) (S.told store.new) }
+    ensures begun { OnErr result ((S.told store.new ≡ S.told store.old)
+        ⊎ (let run = run_of image.now options.now.run.command options.now.run.seed options.now.run.budget in
+        PutsPart (O.told out.old) (O.told out.new) (S.told store.old) (S.told store.new)
+        (exported options.now.to run))) }
     ensures output_stays { result ≡ Err Failure.Output → S.told store.new ≡ S.told store.old }
     ensures refused_stays { (r : Refusal) → result ≡ Err (Failure.Export r) → S.told store.new ≡ S.told store.old }
     ensures store { HasCause (S.count store.old) (S.count store.new) (IsErrOf result Failure.Store) }
@@ -82,10 +86,8 @@ fn put_tree<H: Host, S: Store>(
     requires { Stands tree.now (H.view host.old).forest }
     ensures put { OnOk result
         (PutsTree (tree_of tree.now (H.view host.old).forest) folder.now (S.told store.old) (S.told store.new)) }
-    ensures refused { (r : Refusal) → result ≡ Err (Failure.Export r)
-        → (exported_text VERSION (tree_of tree.now (H.view host.old).forest) ≡ Err r)
-        × (S.told store.new ≡ S.told store.old) }
-    ensures fault { IfErr result IsExportFault }
+    ensures failed { IfErr result (λ f.
+        FailsPut f (tree_of tree.now (H.view host.old).forest) folder.now (S.told store.old) (S.told store.new)) }
     ensures keeps { ChangesFolder folder.now (S.told store.old) (S.told store.new) }
     ensures stays { H.view host.new ≡ H.view host.old }
     ensures host { HasCause (H.count host.old) (H.count host.new) (IsErrOf result Failure.Host) }
@@ -110,6 +112,8 @@ fn put_blobs<H: Host, S: Store>(
     requires files { All (IsFile (shape_of tree.now (H.view host.old).forest)) inodes.now }
     ensures put { OnOk result (S.told store.new ≡ told_with_blobs (S.told store.old) folder.now
         (tree_of tree.now (H.view host.old).forest) inodes.now) }
+    ensures part { OnErr result (PutsBlobs (tree_of tree.now (H.view host.old).forest) folder.now inodes.now
+        (S.told store.old) (S.told store.new)) }
     ensures fault { IfErr result IsPutFault }
     ensures keeps { ChangesFolder folder.now (S.told store.old) (S.told store.new) }
     ensures stays { H.view host.new ≡ H.view host.old }
@@ -136,6 +140,8 @@ fn put_blob<H: Host, S: Store>(
     requires file { IsFile (shape_of tree.now (H.view host.old).forest) inode }
     ensures put { OnOk result (let blob = blob_at (tree_of tree.now (H.view host.old).forest) inode in
         S.told store.new ≡ told_with (S.told store.old) (name_below folder.now blob.0) blob.1) }
+    ensures part { OnErr result (let blob = blob_at (tree_of tree.now (H.view host.old).forest) inode in
+        StoresPart (S.told store.old) (S.told store.new) (name_below folder.now blob.0) blob.1) }
     ensures fault { IfErr result IsPutFault }
     ensures keeps { ChangesFolder folder.now (S.told store.old) (S.told store.new) }
     ensures stays { H.view host.new ≡ H.view host.old }
@@ -158,6 +164,8 @@ fn put_index<S: Store>(
 ) -> Result<(), StoreErr>
     ensures put { OnOk result
         (S.told store.new ≡ told_with (S.told store.old) (name_below folder.now (codes "image.json")) text.now) }
+    ensures part { OnErr result (StoresPart (S.told store.old) (S.told store.new)
+        (name_below folder.now (codes "image.json")) text.now) }
     ensures keeps { ChangesFolder folder.now (S.told store.old) (S.told store.new) }
     ensures cause { HasCause (S.count store.old) (S.count store.new) (IsErrOf result StoreErr.Failed) }
 {

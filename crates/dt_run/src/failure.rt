@@ -12,16 +12,17 @@ use dt_engine::RunErr;
 use dt_export::{ExportErr, ExportRefusal};
 use dt_host::{HostErr, StoreErr};
 use dt_options::UsageErr;
+use dt_steps::StepsErr;
 use std::alloc::AllocError;
 
-/// Why there is no whole report, or no export after it.
+/// Why there is no whole report, no export after it, or no image between two steps.
 #[derive(Clone, Copy, Debug, PartialEq, Eq)]
 pub enum Failure {
     /// The words of the command line are refused.
     Usage,
     /// The image is refused.
     Image(Refusal),
-    /// The export is refused.
+    /// The export is refused, or between two steps the image of the tree.
     Export(ExportRefusal),
     /// The store failed.
     Store,
@@ -146,6 +147,20 @@ impl From<ExportErr> for Failure {
             ExportErr::Refused(refusal) => Failure::Export(refusal),
             ExportErr::Host => Failure::Host,
             ExportErr::NoMemory => Failure::NoMemory,
+        }
+    }
+}
+
+impl From<StepsErr> for Failure {
+    ghost use Rattle.dt_run.specs.inner.Failures.{failure_of_steps};
+
+    ghost from_gives = { λ e f. f ≡ failure_of_steps e };
+
+    fn from(e: StepsErr) -> Self {
+        match e {
+            StepsErr::Run(e) => Failure::from(e),
+            StepsErr::LongPath => Failure::Export(ExportRefusal::LongPath),
+            StepsErr::TooMany => Failure::Export(ExportRefusal::TooMany),
         }
     }
 }

@@ -7,6 +7,7 @@
 mod demo;
 mod export;
 mod failure;
+mod listed;
 mod run;
 pub mod status;
 mod top;

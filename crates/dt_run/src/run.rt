@@ -10,6 +10,7 @@ use dt_base::{Command, Image};
 use dt_engine::{RunErr, run_to_end};
 use dt_host::{Gate, Host, Sink};
 use std::thread::Threads;
+use std::time::Clock;
 
 /// Runs a command on an image at a host that holds nothing, and writes the run's report to `out`, what each turn
 /// shows before the next one. The answer is the status.
@@ -17,7 +18,7 @@ use std::thread::Threads;
 /// `budget` is counted in steps. Where several processes compute, `workers` run their segments side by side, on threads of
 /// `rt`, and pass the gate before each. The report does not depend on either.
 pub fn run_container<
-    R: AllocGlobal + Threads + Sync,
+    R: AllocGlobal + Clock + Threads + Sync,
     H: Host + Send,
     O: Sink + Send,
     G: Gate + Sync,

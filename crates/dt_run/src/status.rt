@@ -20,5 +20,5 @@ pub const OUTPUT_FAULT: u8 = 6;
 /// Memory ran out.
 pub const OUT_OF_MEMORY: u8 = 7;
 
-/// The export is refused, and nothing was put.
+/// The export is refused, and nothing was put; or between two steps the tree has no image.
 pub const EXPORT_REFUSED: u8 = 8;

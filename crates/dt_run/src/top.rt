@@ -1,6 +1,6 @@
 // The call that the program makes.
-ghost use Rattle.std.specs.Prelude.{◌≡◌, ◌≢◌, ◌≤◌, ◌⊎◌, Some, Err, map, string_bytes, IsTrue, IfSome, IfOk};
-ghost use Rattle.std.specs.Prelude.{IfErr, IsErrOf};
+ghost use Rattle.std.specs.Prelude.{◌≡◌, ◌≢◌, ◌≤◌, ◌⊎◌, false, Some, Err, map, string_bytes, IsTrue, IfSome, IfOk};
+ghost use Rattle.std.specs.Prelude.{IfErr, OnErr, IsErrOf};
 ghost use Rattle.dt_host.specs.Asks.{Asks};
 ghost use Rattle.dt_host.specs.Cause.{HasCause};
 ghost use Rattle.dt_host.specs.Sink.{AddsPart};
@@ -11,12 +11,12 @@ ghost use Rattle.dt_calls.specs.Sound.{IsSoundContainer};
 ghost use Rattle.dt_run.specs.declared.status.TheConstants.{WORDS_REFUSED, IMAGE_REFUSED, STORE_FAULT, HOST_FAULT};
 ghost use Rattle.dt_run.specs.declared.status.TheConstants.{OUTPUT_FAULT, OUT_OF_MEMORY, EXPORT_REFUSED};
 ghost use Rattle.dt_engine.specs.Run.{run_of, report_of};
-ghost use Rattle.dt_engine.specs.Completed.{Completes, Finishes};
+ghost use Rattle.dt_engine.specs.Completed.{Completes};
 ghost use Rattle.dt_run.specs.Failure.{failure_status, failure_line};
-ghost use Rattle.dt_run.specs.Outcome.{status_of_outcome};
-ghost use Rattle.dt_run.specs.Wanted.{wanted, ReadsStore};
+ghost use Rattle.dt_run.specs.Outcome.{status_of_outcome, IsCompleted};
+ghost use Rattle.dt_run.specs.Wanted.{wanted, ReadsStore, AsksExport};
 ghost use Rattle.dt_run.specs.SomeRun.{SomeRun, AddsTextPart, AddsExportText};
-ghost use Rattle.dt_run.specs.Exports.{HasPut, MayPut};
+ghost use Rattle.dt_run.specs.Exports.{HasPut, PutsPart, MayPut};
 ghost use Rattle.dt_run.specs.Statuses.{is_status, is_run_status, precedes_run, precedes_export, fails_run, Stayed};
 ghost use Rattle.dt_run.specs.Statuses.{RefusesImage, RefusesFolder, status_line, AddsLine};
 ghost use Rattle.dt_run.specs.Statuses.{AddsSomeLine, AddsRefusal, AddsExportRefusal};
@@ -25,20 +25,23 @@ ghost use Rattle.dt_run.specs.inner.Fails.{HasFailureCause};
 use crate::demo::demonstrate;
 use crate::export::run_export;
 use crate::failure::Failure;
+use crate::listed::run_listed;
 use dt_base::Image;
 use dt_engine::{Ended, RunErr, run_to_end};
-use dt_export::{ExportRefusal, has_index};
+use dt_export::{ExportRefusal, has_index, read_steps};
 use dt_host::{Gate, Host, HostErr, Sink, SinkErr, Store, sink_all};
 use dt_image::read_image;
 use dt_options::{Options, RunOptions, read_options};
 use std::thread::Threads;
+use std::time::Clock;
 
 /// Runs what the words ask for, on the image that the store holds, at a host that holds nothing.
 /// Writes the report to `out`, and why there is no whole report or no export to `err`; the answer is the status.
 /// A demonstration has an image of its own, and a summary of its report is written in the report's place. After the report
-/// of an export the image of the last file tree is put into the store.
+/// of an export the image of the last file tree is put into the store. Steps are the commands that a file lists, each run on
+/// the image of the tree that the one before left.
 pub fn dettrace<
-    R: AllocGlobal + Threads + Sync,
+    R: AllocGlobal + Clock + Threads + Sync,
     S: Store,
     H: Host + Send,
     O: Sink + Send,
@@ -49,14 +52,16 @@ pub fn dettrace<
 
     // At 0, 1 and 10 a run that the words ask for was completed: on the store's image where its files are known, and on
     // some image where they are not. Its report was added, or of a demonstration the summary, the status is its own, the
-    // host holds its last tree, and its export was put, where one is asked for.
+    // host holds its last tree, and its export was put, where one is asked for. Or steps were completed: the reports of those
+    // that ran were added, the status is theirs, and the host holds nothing.
     ensures statuses { IsTrue (is_status result) }
     ensures some_image { IsTrue (is_run_status result) → SomeRun (S.told store.old) (map string_bytes words.now)
-        (λ outcome. Finishes outcome.written result (O.told out.old) (O.told out.new) (H.view host.new)
+        (λ outcome. IsCompleted outcome result (O.told out.old) (O.told out.new) (H.view host.new)
         × HasPut outcome (S.told store.old) (S.told store.new)) }
 
-    // At 5 and 6 a prefix of such a run's report or summary was added, at 7 such a prefix or nothing, at 2 and 3 nothing,
-    // and at 4 nothing, or after the report of an export that report. What was added at 8 stands with its line below.
+    // At 5 and 6 a prefix of what is written of such a run or of steps was added, at 7 such a prefix or nothing, at 2 and 3
+    // nothing, and at 4 nothing, or after the report of an export that report. What was added at 8 stands with its line
+    // below.
     ensures part { IsTrue (fails_run result)
         → AddsTextPart (S.told store.old) (map string_bytes words.now) (O.told out.old) (O.told out.new) }
     ensures memory { result ≡ OUT_OF_MEMORY
@@ -93,16 +98,30 @@ pub fn dettrace<
     ensures line { result ≢ IMAGE_REFUSED → result ≢ EXPORT_REFUSED → result ≢ OUT_OF_MEMORY
         → AddsLine (status_line result) (E.told err.old) (E.told err.new) (E.count err.old) (E.count err.new) }
     ensures image_line { result ≡ IMAGE_REFUSED
-        → AddsRefusal (wanted (S.told store.old) (map string_bytes words.now))
+        → AddsRefusal (S.told store.old) (map string_bytes words.now)
         (E.told err.old) (E.told err.new) (E.count err.old) (E.count err.new) }
     ensures export_line { result ≡ EXPORT_REFUSED
         → AddsExportRefusal (S.told store.old) (map string_bytes words.now) (O.told out.old) (O.told out.new)
         (E.told err.old) (E.told err.new) (E.count err.old) (E.count err.new) }
     ensures memory_line { result ≡ OUT_OF_MEMORY → AddsSomeLine (E.told err.old) (E.told err.new) }
 
-    // The store is only read, but that an export may put an index and blobs into its folder, unless it is refused.
+    // The store is only read, but that an export may put an index and blobs into its folder, unless it is refused. Where no
+    // run was completed it holds what it held, or after the report of an export the first files of that export.
     ensures keeps { MayPut (form_of (map string_bytes words.now)) (S.told store.old) (S.told store.new) }
     ensures untouched { IsTrue (precedes_export result) → S.told store.new ≡ S.told store.old }
+    ensures begun { is_run_status result ≡ false → (S.told store.new ≡ S.told store.old)
+        ⊎ SomeRun (S.told store.old) (map string_bytes words.now)
+        (PutsPart (O.told out.old) (O.told out.new) (S.told store.old) (S.told store.new)) }
+
+    // The host is not asked where words, image, file of steps or folder are refused, nor where the store could not be read.
+    // The store is asked only where the words ask for a run, an export or steps.
+    ensures unasked { IsTrue (precedes_run result)
+        → (H.view host.new ≡ H.view host.old) × (H.count host.new ≡ H.count host.old) }
+    ensures refused_unasked { IfSome (wanted (S.told store.old) (map string_bytes words.now)) (λ found. IfErr found
+        (λ _. (H.view host.new ≡ H.view host.old) × (H.count host.new ≡ H.count host.old))) }
+    ensures unread_unasked { result ≡ STORE_FAULT → AsksExport (map string_bytes words.now)
+        ⊎ ((H.view host.new ≡ H.view host.old) × (H.count host.new ≡ H.count host.old)) }
+    ensures unread { (ReadsStore (map string_bytes words.now) → ⊥) → S.count store.new ≡ S.count store.old }
 {
     match run_words(rt, words, store, host, out, gate) {
         Ok(status) => status,
@@ -124,9 +143,9 @@ pub fn write_failure<E: Sink>(failure: Failure, err: &mut E) -> u8
     }
 }
 
-// The run, the export or the demonstration that the words ask for, or the first failure.
+// The run, the export, the demonstration or the steps that the words ask for, or the first failure.
 fn run_words<
-    R: AllocGlobal + Threads + Sync,
+    R: AllocGlobal + Clock + Threads + Sync,
     S: Store,
     H: Host + Send,
     O: Sink + Send,
@@ -141,13 +160,23 @@ fn run_words<
 ) -> Result<u8, Failure>
     requires { IsEmptyStart (H.view host.old) }
     ensures completed { IfOk result (λ status. SomeRun (S.told store.old) (map string_bytes words.now)
-        (λ outcome. Finishes outcome.written status (O.told out.old) (O.told out.new) (H.view host.new)
+        (λ outcome. IsCompleted outcome status (O.told out.old) (O.told out.new) (H.view host.new)
         × HasPut outcome (S.told store.old) (S.told store.new))) }
     ensures failed { IfErr result
         (λ f. HasFailureCause f (S.told store.old) (map string_bytes words.now) (O.told out.old) (O.told out.new)) }
     ensures keeps { MayPut (form_of (map string_bytes words.now)) (S.told store.old) (S.told store.new) }
     ensures untouched { IfErr result
         (λ f. IsTrue (precedes_export (failure_status f)) → S.told store.new ≡ S.told store.old) }
+    ensures begun { OnErr result ((S.told store.new ≡ S.told store.old)
+        ⊎ SomeRun (S.told store.old) (map string_bytes words.now)
+        (PutsPart (O.told out.old) (O.told out.new) (S.told store.old) (S.told store.new))) }
+    ensures unasked { IfErr result (λ f. IsTrue (precedes_run (failure_status f))
+        → (H.view host.new ≡ H.view host.old) × (H.count host.new ≡ H.count host.old)) }
+    ensures refused_unasked { IfSome (wanted (S.told store.old) (map string_bytes words.now)) (λ found. IfErr found
+        (λ _. (H.view host.new ≡ H.view host.old) × (H.count host.new ≡ H.count host.old))) }
+    ensures unread_unasked { result ≡ Err Failure.Store → AsksExport (map string_bytes words.now)
+        ⊎ ((H.view host.new ≡ H.view host.old) × (H.count host.new ≡ H.count host.old)) }
+    ensures unread { (ReadsStore (map string_bytes words.now) → ⊥) → S.count store.new ≡ S.count store.old }
     ensures store { HasCause (S.count store.old) (S.count store.new) (IsErrOf result Failure.Store) }
     ensures host { HasCause (H.count host.old) (H.count host.new) (IsErrOf result Failure.Host) }
     ensures output { HasCause (O.count out.old) (O.count out.new) (IsErrOf result Failure.Output) }
@@ -166,11 +195,22 @@ fn run_words<
             run_export(rt, &options, &image, store, host, out, gate)
         }
         Options::Demo(options) => Ok(demonstrate(rt, &options, host, out, gate)?),
+        Options::Steps(options) => {
+            let image = read_image(alloc, store, options.image.as_str())?;
+            let folder = options.image.as_str();
+            let commands = read_steps(alloc, store, folder, options.file.as_str())?;
+            run_listed(rt, &options, &image, &commands, host, out, gate)
+        }
     }
 }
 
 /// The run that the options ask for on an image.
-pub fn run_image<R: AllocGlobal + Threads + Sync, H: Host + Send, O: Sink + Send, G: Gate + Sync>(
+pub fn run_image<
+    R: AllocGlobal + Clock + Threads + Sync,
+    H: Host + Send,
+    O: Sink + Send,
+    G: Gate + Sync,
+>(
     rt: &R,
     options: &RunOptions,
     image: &Image,

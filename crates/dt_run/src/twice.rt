@@ -12,6 +12,7 @@ ghost use Rattle.dt_run.specs.Agree.{AskTheSame, is_decided, AddAlike, AddLineAl
 use crate::top::dettrace;
 use dt_host::{Gate, Host, Sink, Store};
 use std::thread::Threads;
+use std::time::Clock;
 
 /// What a run meets outside: the store of its image, the host that keeps its nodes, and the streams for the report and
 /// for the error line.
@@ -27,10 +28,11 @@ pub struct Outside<S, H, O, E> {
 /// are the two statuses. Each run has words of its own, which may differ in the number of workers and in the number that
 /// disturbs the host.
 ///
-/// The contract says only in what two runs agree, in words that need no machine, no call and no schedule. What a run
-/// does is the contract of `dettrace`: a body that ran nothing and answered 0 twice would meet this one.
+/// The contract says only in what two runs agree, in words that need no machine, no call and no schedule, but for the
+/// report of an export whose store failed. What a run does is the contract of `dettrace`: a body that ran nothing and
+/// answered 0 twice would meet this one.
 pub fn run_twice<
-    R: AllocGlobal + Threads + Sync,
+    R: AllocGlobal + Clock + Threads + Sync,
     S: Store,
     T: Store,
     H: Host + Send,

@@ -2,6 +2,8 @@
 // answers.
 ghost use Rattle.std.specs.Prelude.{IfOk};
 ghost use Rattle.dt_host.specs.World.{IsEmptyStart};
+ghost use Rattle.dt_calls.specs.Sound.{IsSoundContainer};
+ghost use Rattle.dt_engine.specs.InPlay.{playing_of, IsFull, IsInPlay};
 
 use crate::copies::{image, run_options};
 use crate::expect::same_at;
@@ -88,6 +90,18 @@ impl Given {
         requires { IsEmptyStart (H.view host.old) }
     {
         let happenings = happenings(self.alloc, list)?;
+        self.play_all(host, out, budget, &happenings)
+    }
+
+    fn play_all<H: Host>(
+        &self,
+        host: &mut H,
+        out: &mut MemSink,
+        budget: u64,
+        happenings: &[Happening],
+    ) -> Result<Played, RunErr>
+        requires { IsEmptyStart (H.view host.old) }
+    {
         let mut engine = Engine::begin(
             self.alloc,
             host,
@@ -97,17 +111,32 @@ impl Given {
             0,
             budget,
         )?;
-        let count = engine.play(host, out, &happenings)?;
-        let owing = copied(self.alloc, engine.owing())?;
-        let shown = out.bytes().len();
-        let next = engine.admit(host, out)?;
-        Ok(Played {
-            count,
-            owing,
-            shown,
-            next,
-        })
+        go_on(self.alloc, &mut engine, host, out, happenings)
     }
+}
+
+// Plays a list of happenings, and then an admission.
+fn go_on<H: Host>(
+    alloc: Global,
+    engine: &mut Engine,
+    host: &mut H,
+    out: &mut MemSink,
+    happenings: &[Happening],
+) -> Result<Played, RunErr>
+    requires whole { IsInPlay engine.old }
+    requires sound { IsSoundContainer engine.old.state.container (H.view host.old) }
+    requires full { let e = playing_of engine.old (H.view host.old) in IsFull e.state }
+{
+    let count = engine.play(host, out, happenings)?;
+    let owing = copied(alloc, engine.owing())?;
+    let shown = out.bytes().len();
+    let next = engine.admit(host, out)?;
+    Ok(Played {
+        count,
+        owing,
+        shown,
+        next,
+    })
 }
 
 fn sink(alloc: Global, room: Option<u64>) -> Result<MemSink, NoMemory> {

@@ -10,6 +10,7 @@ use crate::steps::trial::{add_wrong, is_report, readable, tree};
 use crate::text::{bytes, split_word, unreadable};
 use std::alloc::Global;
 use std::thread::Threads;
+use std::time::Clock;
 
 /// A case, as far as its lines were read.
 #[derive(Drop)]
@@ -80,7 +81,7 @@ impl Case {
     }
 
     /// Makes its runs, one under each host, and counts them.
-    pub fn run<R: AllocGlobal + Threads + Sync>(
+    pub fn run<R: AllocGlobal + Clock + Threads + Sync>(
         &self,
         rt: &R,
         tally: &mut Tally,
@@ -132,7 +133,11 @@ impl Case {
     }
 
     // What comes of a run.
-    fn came<R: AllocGlobal + Threads + Sync>(&self, rt: &R, host: Words) -> Result<Came, CaseErr> {
+    fn came<R: AllocGlobal + Clock + Threads + Sync>(
+        &self,
+        rt: &R,
+        host: Words,
+    ) -> Result<Came, CaseErr> {
         let files = self.files()?;
         let mut listed = Vec::new(self.alloc);
         for file in &files {

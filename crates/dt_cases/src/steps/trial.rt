@@ -8,6 +8,7 @@ use crate::text::{split_word, unreadable};
 use sha2::{Digest, Sha256};
 use std::alloc::{AllocError, Global};
 use std::thread::Threads;
+use std::time::Clock;
 
 // More calls of the host than a run makes.
 const FAULT_LIMIT: u64 = 10_000;
@@ -55,7 +56,7 @@ impl<'a> Trial<'a> {
     }
 
     /// Makes all runs of the case, and counts them.
-    pub fn run<R: AllocGlobal + Threads + Sync>(
+    pub fn run<R: AllocGlobal + Clock + Threads + Sync>(
         &self,
         rt: &R,
         tally: &mut Tally,
@@ -98,7 +99,7 @@ impl<'a> Trial<'a> {
 
     // A turn for which the budget lacks one instruction shows nothing, and the run is over; so it is where the budget
     // is spent by the turns before it. Where it covers all turns the run ends as it has to.
-    fn with_budgets<R: AllocGlobal + Threads + Sync>(
+    fn with_budgets<R: AllocGlobal + Clock + Threads + Sync>(
         &self,
         rt: &R,
         tally: &mut Tally,
@@ -123,7 +124,7 @@ impl<'a> Trial<'a> {
 
     // Each call of the host fails once, until none is left that fails: a report is cut short, and the run ends with a
     // fault. The run at which none fails is as it has to be.
-    fn with_faults<R: AllocGlobal + Threads + Sync>(
+    fn with_faults<R: AllocGlobal + Clock + Threads + Sync>(
         &self,
         rt: &R,
         tally: &mut Tally,
@@ -159,7 +160,7 @@ impl<'a> Trial<'a> {
     }
 
     // Runs it under each host, and adds what comes otherwise.
-    fn under_hosts<R: AllocGlobal + Threads + Sync>(
+    fn under_hosts<R: AllocGlobal + Clock + Threads + Sync>(
         &self,
         rt: &R,
         tally: &mut Tally,
@@ -189,7 +190,7 @@ impl<'a> Trial<'a> {
     }
 
     // What comes of a run.
-    fn came<R: AllocGlobal + Threads + Sync>(
+    fn came<R: AllocGlobal + Clock + Threads + Sync>(
         &self,
         rt: &R,
         words: &[String],

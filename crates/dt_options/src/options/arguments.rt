@@ -1,11 +1,11 @@
-// The words that clap reads: the arguments of `run`, `export` and `demo`.
+// The words that clap reads: the arguments of `run`, `export`, `demo` and `steps`.
 ghost use Rattle.std.specs.Prelude.{◌≡◌, Option, false, map, string_bytes, codes, IfOk, option_and_then, unwrap_or};
 ghost use Rattle.clap.specs.Words.{FailsBy, app_of, fault_of, found_of, one_of, rows_of, rule_of, shape_of};
 ghost use Rattle.clap.specs.Words.{subcommand_of, subcommand_rows_of};
 ghost use Rattle.clap.specs.declared.builder.command.Command.TheViews.{out-Command as fields_of};
 ghost use Rattle.dt_options.specs.Arguments.{operand_rule, demo_rule, number_rule, budget_rule, workers_rule};
-ghost use Rattle.dt_options.specs.Arguments.{run_shape, export_shape, demo_shape};
-ghost use Rattle.dt_options.specs.Arguments.{run_app, export_app, demo_app, app_with};
+ghost use Rattle.dt_options.specs.Arguments.{run_shape, export_shape, demo_shape, steps_shape};
+ghost use Rattle.dt_options.specs.Arguments.{run_app, export_app, demo_app, steps_app, app_with};
 ghost use Rattle.dt_options.specs.Arguments.{operand_in, number_in, default_seed, default_budget, default_workers};
 
 use super::WORKERS_LIMIT;
@@ -50,6 +50,15 @@ pub fn read_demo_arguments<'a>(alloc: Global, words: &'a [String]) -> Result<Arg
     program(alloc, demo_command(alloc)?)?.try_get_matches_from(words)
 }
 
+/// What clap makes of the words of steps.
+pub fn read_steps_arguments<'a>(alloc: Global, words: &'a [String]) -> Result<ArgMatches<'a>, Error>
+    ensures refused { FailsBy (fault_of steps_app (map string_bytes words.entry.now)) result }
+    ensures exact { IfOk result (λ m.
+        subcommand_rows_of m ≡ subcommand_of steps_app (map string_bytes words.entry.now)) }
+{
+    program(alloc, steps_command(alloc)?)?.try_get_matches_from(words)
+}
+
 // The program with one subcommand.
 fn program<'a>(alloc: Global, command: Command<'a>) -> Result<Command<'a>, AllocError>
     requires { (fields_of command).has_globals ≡ false }
@@ -92,6 +101,19 @@ fn demo_command<'a>(alloc: Global) -> Result<Command<'a>, AllocError>
 {
     Command::new(alloc, "demo")
         .arg(demo_arg(alloc))?
+        .arg(workers_arg(alloc))?
+        .arg(number_arg(alloc, "host"))
+}
+
+fn steps_command<'a>(alloc: Global) -> Result<Command<'a>, AllocError>
+    ensures shape { IfOk result (λ c. shape_of c ≡ steps_shape) }
+    ensures local { IfOk result (λ c. (fields_of c).has_globals ≡ false) }
+{
+    Command::new(alloc, "steps")
+        .arg(operand_arg(alloc, "image"))?
+        .arg(operand_arg(alloc, "file"))?
+        .arg(number_arg(alloc, "seed"))?
+        .arg(budget_arg(alloc))?
         .arg(workers_arg(alloc))?
         .arg(number_arg(alloc, "host"))
 }

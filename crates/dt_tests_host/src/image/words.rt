@@ -1,6 +1,8 @@
 // The words of the command line.
 use crate::expect::{same, same_at};
-use dt_options::{DemoOptions, ExportOptions, Options, RunOptions, UsageErr, read_options};
+use dt_options::{
+    DemoOptions, ExportOptions, Options, RunOptions, StepsOptions, UsageErr, read_options,
+};
 use std::alloc::{AllocError, Global};
 use std::process::Abort;
 
@@ -60,7 +62,18 @@ const LINES: &[(&str, bool)] = &[
     ("export img to --workers 65 -- /p", false),
     ("--seed 1 export img to -- /p", false),
     ("-- export img to", false),
-    ("steps img file", false),
+    (
+        "steps img file --seed 1 --budget=7 --workers 64 --host 0",
+        true,
+    ),
+    ("steps --host 5 img image.json", true),
+    ("steps img", false),
+    ("steps img file more", false),
+    ("steps img file --budget 0", false),
+    ("steps img file --workers 65", false),
+    ("steps img file --", false),
+    ("steps img file -- /p", false),
+    ("step img file", false),
     ("Run img -- /p", false),
 ];
 
@@ -100,6 +113,14 @@ fn run_options(alloc: Global, line: &str) -> Result<Option<RunOptions>, UsageErr
 fn export_options(alloc: Global, line: &str) -> Result<Option<ExportOptions>, UsageErr> {
     match read_options(alloc, &words(alloc, line)?)? {
         Options::Export(options) => Ok(Some(options)),
+        _ => Ok(None),
+    }
+}
+
+// What the words of a line ask of steps, if they do.
+fn steps_options(alloc: Global, line: &str) -> Result<Option<StepsOptions>, UsageErr> {
+    match read_options(alloc, &words(alloc, line)?)? {
+        Options::Steps(options) => Ok(Some(options)),
         _ => Ok(None),
     }
 }
@@ -167,5 +188,17 @@ fn words_of_an_export_are_read(rt: HostRuntime) -> Result<(), UsageErr> {
     same(&rt, options.to.as_str(), "to");
     same(&rt, options.run.command.args().len(), 2);
     same(&rt, options.run.command.env().len(), 1);
+    Ok(())
+}
+
+#[test]
+fn words_of_steps_are_read(rt: HostRuntime) -> Result<(), UsageErr> {
+    let Some(options) = steps_options(rt.alloc(), "steps img --seed 7 file --host 9")? else {
+        return Err(UsageErr::Refused);
+    };
+    same(&rt, options.image.as_str(), "img");
+    same(&rt, options.file.as_str(), "file");
+    same(&rt, (options.seed, options.budget), (7, 100_000_000));
+    same(&rt, (options.workers, options.host), (4, Some(9)));
     Ok(())
 }

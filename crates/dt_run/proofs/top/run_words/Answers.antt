@@ -1,16 +1,20 @@
-use Rattle.std.proofs.Common.{◌≡◌, true, false, Some, Err, refl, ap, subst, ◌∙◌}
-use Rattle.std.specs.Prelude.{map, string_bytes}
+use Rattle.std.proofs.Common.{◌≡◌, true, false, Some, None, Err, refl, sym, ap, subst, ◌∙◌, ⊎_elim, inl, inr}
+use Rattle.std.specs.Prelude.{map, string_bytes, IfSome, ⊤}
 use Rattle.dt_base.specs.Image.{IsImage}
-use Rattle.dt_options.specs.Options.{as_form, as_request, as_export_request, as_demo_request}
+use Rattle.dt_options.specs.Options.{as_form, as_request, as_export_request, as_demo_request, as_steps_request}
 use Rattle.dt_engine.specs.Completed.{reported, Finishes}
-use Rattle.dt_run.specs.Outcome.{exported}
+use Rattle.dt_export.specs.Steps.{steps_at, IsListed}
+use Rattle.dt_steps.specs.Steps.{steps_on}
+use Rattle.dt_run.specs.Outcome.{exported, IsCompleted, FinishesSteps}
 use Rattle.dt_run.specs.Wanted.{run_on}
 use Rattle.dt_run.specs.SomeRun.{SomeRun}
-use Rattle.dt_run.specs.Exports.{HasPut}
+use Rattle.dt_run.specs.Exports.{HasPut, PutsPart}
 use Rattle.dt_run.specs.inner.Exporting.{FailsExport}
 use Rattle.dt_run.specs.inner.Fails.{HasFailureCause}
-use Rattle.dt_run.proofs.Putting.{stays-put}
-use Rattle.dt_run.proofs.Wanting.{some_run, some_demo, some_export, on_err, fails_words, fails_image, fails_run_of, fails_export_image, fails_taken, fails_export, index-is, each_ok, each_err}
+use Rattle.dt_run.specs.inner.Listing.{FailsSteps}
+use Rattle.dt_run.proofs.Changes.{if_fail}
+use Rattle.dt_run.proofs.Putting.{stays-put, steps-put}
+use Rattle.dt_run.proofs.Wanting.{some_run, some_demo, some_export, on_err, fails_words, fails_image, fails_run_of, fails_export_image, fails_taken, fails_export, fails_steps_image, fails_file, some_listed, fails_listed, steps-is, run_unasked, index-is, each_ok, each_err}
 use Rattle.dt_run.proofs.top.run_words.Goals as goal
 
 pub returns-in_err-options-clause-failed : goal.returns-in_err-options-clause-failed
@@ -21,7 +25,7 @@ pub returns-in_err-image-in-Run-clause-failed : goal.returns-in_err-image-in-Run
 returns-in_err-image-in-Run-clause-failed g c =
     let asked = c.in_ok-options.ensures.ok ∙ ap (λ options. Some (as_form options)) c.in-Run.is in
     on_err _ _ _ c.from_residual-in_err-image-in-Run.ensures.1
-    (fails_image _ _ _ (as_request c.in-Run.options) _ _ asked c.as_str.ensures (λ r is. c.in_err-image-in-Run.ensures.refused r (ap Err is)))
+    (fails_image _ _ _ (as_request c.in-Run.options) _ _ asked c.as_str.ensures (λ r is. c.in_err-image-in-Run.ensures.refused r (ap Err is)) (λ is. c.in_err-image-in-Run.ensures.no_steps (ap Err is)))
 
 pub returns-in_err-run_image-in-Run-clause-failed : goal.returns-in_err-run_image-in-Run-clause-failed
 returns-in_err-run_image-in-Run-clause-failed g c =
@@ -51,7 +55,7 @@ pub returns-in_err-image-in-Export-clause-failed : goal.returns-in_err-image-in-
 returns-in_err-image-in-Export-clause-failed g c =
     let asked = c.in_ok-options.ensures.ok ∙ ap (λ options. Some (as_form options)) c.in-Export.is in
     on_err _ _ _ c.from_residual-in_err-image-in-Export.ensures.1
-    (fails_export_image _ _ (as_export_request c.in-Export.options) _ asked c.as_str-in-Export.ensures _ _ (λ r is. c.in_err-image-in-Export.ensures.refused r (ap Err is)))
+    (fails_export_image _ _ (as_export_request c.in-Export.options) _ asked c.as_str-in-Export.ensures _ _ (λ r is. c.in_err-image-in-Export.ensures.refused r (ap Err is)) (λ is. c.in_err-image-in-Export.ensures.no_steps (ap Err is)))
 
 pub returns-then-branch-clause-failed : goal.returns-then-branch-clause-failed
 returns-then-branch-clause-failed g c =
@@ -80,10 +84,10 @@ returns-else-branch-clause-completed g c =
     c.read_image-in-Export.ensures.asks.stays c.as_str-in-Export-2.ensures c.in_ok-has_index-in-Export.ensures.ok c.if-branch.false in
     let same : read ≡ told = c.has_index.ensures.asks.stays ∙ c.read_image-in-Export.ensures.asks.stays in
     each_ok c.run_export.result (λ status. Finishes (reported run) status old new world × HasPut (exported options.to run) read now)
-    (λ status. SomeRun told words (λ outcome. Finishes outcome.written status old new world × HasPut outcome told now))
+    (λ status. SomeRun told words (λ outcome. IsCompleted outcome status old new world × HasPut outcome told now))
     c.run_export.ensures.completed
     (λ status ran. some_export told words request _ asked c.as_str-in-Export.ensures image c.in_ok-image-in-Export.ensures.ok
-    (λ outcome. Finishes outcome.written status old new world × HasPut outcome told now)
+    (λ outcome. IsCompleted outcome status old new world × HasPut outcome told now)
     (subst IsImage c.image-in-Export.view_is c.image-in-Export.invariant) free
     (ran.0, subst (λ told. HasPut (exported options.to run) told now) same ran.1))
 
@@ -103,3 +107,141 @@ returns-else-branch-clause-failed g c =
     c.run_export.ensures.failed
     (λ f fails. fails_export told words request _ asked c.as_str-in-Export.ensures image c.in_ok-image-in-Export.ensures.ok f old new
     (subst IsImage c.image-in-Export.view_is c.image-in-Export.invariant) free fails)
+
+pub returns-else-branch-clause-begun : goal.returns-else-branch-clause-begun
+returns-else-branch-clause-begun g c =
+    let options = c.in-Export.options in
+    let request = as_export_request options in
+    let words = map string_bytes c.args.words.now in
+    let told = g.S.Store.told c.args.store.now in
+    let read = g.S.Store.told c.has_index.new.store in
+    let now = g.S.Store.told c.run_export.new.store in
+    let old = g.O.Sink.told c.args.out.now in
+    let new = g.O.Sink.told c.run_export.new.out in
+    let image = c.in_ok-image-in-Export.image in
+    let run = run_on request.run image in
+    let asked = c.in_ok-options.ensures.ok ∙ ap (λ options. Some (as_form options)) c.in-Export.is in
+    let free = index-is told (g.S.Store.told c.read_image-in-Export.new.store) c.as_str-in-Export-2.result.now options.to c.in_ok-has_index-in-Export.field-0 false
+    c.read_image-in-Export.ensures.asks.stays c.as_str-in-Export-2.ensures c.in_ok-has_index-in-Export.ensures.ok c.if-branch.false in
+    let good = subst IsImage c.image-in-Export.view_is c.image-in-Export.invariant in
+    let same : read ≡ told = c.has_index.ensures.asks.stays ∙ c.read_image-in-Export.ensures.asks.stays in
+    if_fail c.run_export.result _ _ c.run_export.ensures.begun
+    (⊎_elim (λ stays. inl (stays ∙ same))
+    (λ part. inr (some_export told words request _ asked c.as_str-in-Export.ensures image c.in_ok-image-in-Export.ensures.ok (PutsPart old new told now) good free
+    (subst (λ told. PutsPart old new told now (exported options.to run)) same part))))
+
+pub returns-else-branch-clause-refused_unasked : goal.returns-else-branch-clause-refused_unasked
+returns-else-branch-clause-refused_unasked g c =
+    let options = c.in-Export.options in
+    let request = as_export_request options in
+    let words = map string_bytes c.args.words.now in
+    let told = g.S.Store.told c.args.store.now in
+    let image = c.in_ok-image-in-Export.image in
+    let asked = c.in_ok-options.ensures.ok ∙ ap (λ options. Some (as_form options)) c.in-Export.is in
+    let free = index-is told (g.S.Store.told c.read_image-in-Export.new.store) c.as_str-in-Export-2.result.now options.to c.in_ok-has_index-in-Export.field-0 false
+    c.read_image-in-Export.ensures.asks.stays c.as_str-in-Export-2.ensures c.in_ok-has_index-in-Export.ensures.ok c.if-branch.false in
+    let good = subst IsImage c.image-in-Export.view_is c.image-in-Export.invariant in
+    run_unasked _ told words (some_export told words request _ asked c.as_str-in-Export.ensures image c.in_ok-image-in-Export.ensures.ok (λ outcome. ⊤) good free tt)
+
+pub returns-in_err-run_image-in-Run-clause-refused_unasked : goal.returns-in_err-run_image-in-Run-clause-refused_unasked
+returns-in_err-run_image-in-Run-clause-refused_unasked g c =
+    let asked = c.in_ok-options.ensures.ok ∙ ap (λ options. Some (as_form options)) c.in-Run.is in
+    run_unasked _ _ _ (some_run _ _ (as_request c.in-Run.options) _ _ (λ outcome. ⊤) asked c.as_str.ensures (subst IsImage c.image.view_is c.image.invariant) c.in_ok-image-in-Run.ensures.ok tt)
+
+pub returns-in_ok-run_image-in-Run-clause-refused_unasked : goal.returns-in_ok-run_image-in-Run-clause-refused_unasked
+returns-in_ok-run_image-in-Run-clause-refused_unasked g c =
+    let asked = c.in_ok-options.ensures.ok ∙ ap (λ options. Some (as_form options)) c.in-Run.is in
+    run_unasked _ _ _ (some_run _ _ (as_request c.in-Run.options) _ _ (λ outcome. ⊤) asked c.as_str.ensures (subst IsImage c.image.view_is c.image.invariant) c.in_ok-image-in-Run.ensures.ok tt)
+
+pub returns-in_err-demonstrate-in-Demo-clause-refused_unasked : goal.returns-in_err-demonstrate-in-Demo-clause-refused_unasked
+returns-in_err-demonstrate-in-Demo-clause-refused_unasked g c =
+    let asked = c.in_ok-options.ensures.ok ∙ ap (λ options. Some (as_form options)) c.in-Demo.is in
+    run_unasked _ _ _ (some_demo _ _ (as_demo_request c.in-Demo.options) (λ outcome. ⊤) asked tt)
+
+pub returns-in_ok-demonstrate-in-Demo-clause-refused_unasked : goal.returns-in_ok-demonstrate-in-Demo-clause-refused_unasked
+returns-in_ok-demonstrate-in-Demo-clause-refused_unasked g c =
+    let asked = c.in_ok-options.ensures.ok ∙ ap (λ options. Some (as_form options)) c.in-Demo.is in
+    run_unasked _ _ _ (some_demo _ _ (as_demo_request c.in-Demo.options) (λ outcome. ⊤) asked tt)
+
+-- ---- steps
+
+pub returns-in_err-image-in-Steps-clause-failed : goal.returns-in_err-image-in-Steps-clause-failed
+returns-in_err-image-in-Steps-clause-failed g c =
+    let asked = c.in_ok-options.ensures.ok ∙ ap (λ options. Some (as_form options)) c.in-Steps.is in
+    on_err _ _ _ c.from_residual-in_err-image-in-Steps.ensures.1
+    (fails_steps_image _ _ (as_steps_request c.in-Steps.options) _ asked c.as_str-in-Steps.ensures _ _ (λ r is. c.in_err-image-in-Steps.ensures.refused r (ap Err is)))
+
+pub returns-in_err-commands-in-Steps-clause-failed : goal.returns-in_err-commands-in-Steps-clause-failed
+returns-in_err-commands-in-Steps-clause-failed g c =
+    let options = c.in-Steps.options in
+    let request = as_steps_request options in
+    let words = map string_bytes c.args.words.now in
+    let told = g.S.Store.told c.args.store.now in
+    let asked = c.in_ok-options.ensures.ok ∙ ap (λ options. Some (as_form options)) c.in-Steps.is in
+    let image = c.in_ok-image-in-Steps.image in
+    on_err _ _ _ c.from_residual-in_err-commands-in-Steps.ensures.1
+    (fails_file told words request _ asked c.as_str-in-Steps.ensures image c.in_ok-image-in-Steps.ensures.ok _ _
+    (λ r is.
+    let why = c.in_err-commands-in-Steps.ensures.refused r (ap Err is) in
+    (why.0, steps-is told _ _ _ _ _ None c.read_image-in-Steps.ensures.asks.stays c.as_str-folder.ensures c.as_str-in-Steps-2.ensures why.1)))
+
+pub returns-in_ok-commands-in-Steps-clause-completed : goal.returns-in_ok-commands-in-Steps-clause-completed
+returns-in_ok-commands-in-Steps-clause-completed g c =
+    let options = c.in-Steps.options in
+    let request = as_steps_request options in
+    let words = map string_bytes c.args.words.now in
+    let told = g.S.Store.told c.args.store.now in
+    let asked = c.in_ok-options.ensures.ok ∙ ap (λ options. Some (as_form options)) c.in-Steps.is in
+    let image = c.in_ok-image-in-Steps.image in
+    let commands = c.deref.result.now in
+    let good = subst IsImage c.image-in-Steps.view_is c.image-in-Steps.invariant in
+    let is_listed = subst IsListed (sym c.deref.ensures.value) c.in_ok-commands-in-Steps.ensures.listed in
+    let listed = subst (λ found. IfSome told (λ files. steps_at files request.image request.file ≡ Some found)) (sym c.deref.ensures.value)
+    (steps-is told _ _ _ _ _ _ c.read_image-in-Steps.ensures.asks.stays c.as_str-folder.ensures c.as_str-in-Steps-2.ensures c.in_ok-commands-in-Steps.ensures.ok) in
+    let old = g.O.Sink.told c.args.out.now in
+    let new = g.O.Sink.told c.run_listed.new.out in
+    let steps = steps_on image commands request.seed request.budget in
+    let now = g.S.Store.told c.read_steps.new.store in
+    let world = g.H.Host.view c.run_listed.new.host in
+    let same : now ≡ told = c.read_steps.ensures.asks.stays ∙ c.read_image-in-Steps.ensures.asks.stays in
+    each_ok c.run_listed.result (λ status. FinishesSteps steps status old new world)
+    (λ status. SomeRun told words (λ outcome. IsCompleted outcome status old new world × HasPut outcome told now))
+    c.run_listed.ensures.completed
+    (λ status done. some_listed told words request _ asked c.as_str-in-Steps.ensures image c.in_ok-image-in-Steps.ensures.ok good commands is_listed listed
+    (λ outcome. IsCompleted outcome status old new world × HasPut outcome told now) (done, steps-put steps told now same))
+
+pub returns-in_ok-commands-in-Steps-clause-failed : goal.returns-in_ok-commands-in-Steps-clause-failed
+returns-in_ok-commands-in-Steps-clause-failed g c =
+    let options = c.in-Steps.options in
+    let request = as_steps_request options in
+    let words = map string_bytes c.args.words.now in
+    let told = g.S.Store.told c.args.store.now in
+    let asked = c.in_ok-options.ensures.ok ∙ ap (λ options. Some (as_form options)) c.in-Steps.is in
+    let image = c.in_ok-image-in-Steps.image in
+    let commands = c.deref.result.now in
+    let good = subst IsImage c.image-in-Steps.view_is c.image-in-Steps.invariant in
+    let is_listed = subst IsListed (sym c.deref.ensures.value) c.in_ok-commands-in-Steps.ensures.listed in
+    let listed = subst (λ found. IfSome told (λ files. steps_at files request.image request.file ≡ Some found)) (sym c.deref.ensures.value)
+    (steps-is told _ _ _ _ _ _ c.read_image-in-Steps.ensures.asks.stays c.as_str-folder.ensures c.as_str-in-Steps-2.ensures c.in_ok-commands-in-Steps.ensures.ok) in
+    let old = g.O.Sink.told c.args.out.now in
+    let new = g.O.Sink.told c.run_listed.new.out in
+    let steps = steps_on image commands request.seed request.budget in
+    each_err c.run_listed.result (λ f. FailsSteps f steps old new) (λ f. HasFailureCause f told words old new)
+    c.run_listed.ensures.failed
+    (λ f fails. fails_listed told words request _ asked c.as_str-in-Steps.ensures image c.in_ok-image-in-Steps.ensures.ok good commands is_listed listed f old new fails)
+
+pub returns-in_ok-commands-in-Steps-clause-refused_unasked : goal.returns-in_ok-commands-in-Steps-clause-refused_unasked
+returns-in_ok-commands-in-Steps-clause-refused_unasked g c =
+    let options = c.in-Steps.options in
+    let request = as_steps_request options in
+    let words = map string_bytes c.args.words.now in
+    let told = g.S.Store.told c.args.store.now in
+    let asked = c.in_ok-options.ensures.ok ∙ ap (λ options. Some (as_form options)) c.in-Steps.is in
+    let image = c.in_ok-image-in-Steps.image in
+    let commands = c.deref.result.now in
+    let good = subst IsImage c.image-in-Steps.view_is c.image-in-Steps.invariant in
+    let is_listed = subst IsListed (sym c.deref.ensures.value) c.in_ok-commands-in-Steps.ensures.listed in
+    let listed = subst (λ found. IfSome told (λ files. steps_at files request.image request.file ≡ Some found)) (sym c.deref.ensures.value)
+    (steps-is told _ _ _ _ _ _ c.read_image-in-Steps.ensures.asks.stays c.as_str-folder.ensures c.as_str-in-Steps-2.ensures c.in_ok-commands-in-Steps.ensures.ok) in
+    run_unasked _ told words
+    (some_listed told words request _ asked c.as_str-in-Steps.ensures image c.in_ok-image-in-Steps.ensures.ok good commands is_listed listed (λ outcome. ⊤) tt)

@@ -1,0 +1,4 @@
+pub mod Same
+pub mod Ran
+pub mod Kept
+pub mod Gone

@@ -1,0 +1,4 @@
+pub mod Steps
+pub mod Cache
+pub mod Answered
+pub mod inner
