@@ -14,7 +14,7 @@ from pathlib import Path
 from program import TOP
 
 SECONDS = 100
-BOUNDS = ("R: AllocGlobal + Threads + Sync", "H: Host + Send", "O: Sink + Send", "G: Gate + Sync")
+BOUNDS = ("R: AllocGlobal + Clock + Threads + Sync", "H: Host + Send", "O: Sink + Send", "G: Gate + Sync")
 UNMET = "error[unsatisfied-bound]: the trait bound `{}` is not satisfied"
 
 
@@ -55,9 +55,10 @@ class BoundsTest(unittest.TestCase):
                 self.expect_refusal("dt_run", "src/twice.rt", f"    {bound},\n", bound)
 
     def test_the_run_of_a_container(self) -> None:
+        head = "fn run_image<\n" + "".join(f"    {bound},\n" for bound in BOUNDS)
         for bound in BOUNDS:
             with self.subTest(bound):
-                self.expect_refusal("dt_run", "src/top.rt", f"fn run_image<{', '.join(BOUNDS)}>(", bound)
+                self.expect_refusal("dt_run", "src/top.rt", head, bound)
 
 
 if __name__ == "__main__":

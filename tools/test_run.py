@@ -271,9 +271,11 @@ class Stops(RunCase):
         self.stand_in(HELLO)
         for number in range(64):
             self.write(f"large{number}", os.urandom(2**20) * 4)
-        for wait in (0.2, 0.4, 0.6):
+        for wait in (0, 0.05, 0.1):
             with self.subTest(wait):
                 with self.start("tree", "--", "/x") as running:
+                    while not self.images() and running.poll() is None:
+                        time.sleep(0.005)
                     time.sleep(wait)
                     running.send_signal(signal.SIGTERM)
                     out, err = running.communicate(timeout=SECONDS)
