@@ -50,6 +50,7 @@ bench: has_sources has_program
 	python3 bench/processes/run.py $(program)
 	python3 bench/pipes/run.py $(program)
 	python3 bench/signals/run.py $(program)
+	python3 bench/timers/run.py $(program)
 	python3 bench/workers/run.py $(program)
 
 # Random images, executables, words and guests, from a seed that is printed: HOSTILE='--seed N --tries N'. docs/SECURITY.md

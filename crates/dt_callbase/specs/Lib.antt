@@ -4,4 +4,5 @@ pub mod Start
 pub mod Places
 pub mod Modes
 pub mod Filling
+pub mod Timespec
 pub mod Sound

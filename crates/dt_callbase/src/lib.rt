@@ -6,6 +6,7 @@ mod fs;
 mod modes;
 mod places;
 mod start;
+mod timespec;
 pub mod wall_time;
 
 pub use filling::fill;
@@ -13,3 +14,4 @@ pub use fs::Fs;
 pub use modes::masked_mode;
 pub use places::{LastLink, place_at, walk_from};
 pub use start::start_of;
+pub use timespec::Timespec;

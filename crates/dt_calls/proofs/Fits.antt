@@ -13,6 +13,9 @@ use Rattle.dt_callbase.specs.Arguments.{has_only}
 use Rattle.dt_callbase.specs.Scene.{Reply}
 use Rattle.dt_exec.specs.declared.program.Program.{Program}
 use Rattle.dt_exec.specs.Program.{execve_program}
+use Rattle.dt_late.specs.declared.numbers.TheConstants.{SETITIMER, GETITIMER, PPOLL}
+use Rattle.dt_late.specs.Itimer.{setitimer_of, getitimer_of}
+use Rattle.dt_late.specs.Poll.{PollResult, ppoll_of}
 use Rattle.dt_mcalls.specs.Called.{MemoryCallResult}
 use Rattle.dt_mcalls.specs.Mmap.{mmap_of}
 use Rattle.dt_mcalls.specs.Munmap.{munmap_of}
@@ -24,9 +27,9 @@ use Rattle.dt_rv64.specs.declared.machine.Machine.{Machine}
 use Rattle.dt_rv64.specs.declared.segments.Stop.{Stop}
 use Rattle.dt_rv64.specs.declared.segments.Stop.TheVariants.{Call, Counter, Slice, Fault}
 use Rattle.dt_rv64.specs.Effects.{register}
-use Rattle.dt_sigcalls.specs.Called.{SignalCallResult}
 use Rattle.dt_sigcalls.specs.Sigaction.{sigaction_of}
 use Rattle.dt_sigcalls.specs.Sigprocmask.{sigprocmask_of}
+use Rattle.dt_signals.specs.Called.{SignalCallResult}
 use Rattle.dt_signals.specs.Delivery.{delivery_of}
 use Rattle.dt_signals.specs.declared.delivery.Delivery.{Delivery}
 use Rattle.dt_signals.specs.declared.delivery.Delivery.TheVariants as delivery
@@ -48,9 +51,11 @@ use Rattle.dt_calls.specs.Execve.{execve_call, effect_of_program}
 use Rattle.dt_calls.specs.FileCalls.{arguments, scene_of, with_scene, row_of, task_after_row, effect_of_row, file_call}
 use Rattle.dt_calls.specs.Identity.{getpid_call, getppid_call, set_robust_list_call, uname_call, done_with_pages, utsname}
 use Rattle.dt_calls.specs.Kill.{is_below_one, is_unsupported_signal, has_member, kill_call, tkill_call, tgkill_call, send_effect_to}
+use Rattle.dt_calls.specs.LateCalls.{setitimer_call, getitimer_call, with_polling, events_of, effect_of_poll, ppoll_call, late_call}
 use Rattle.dt_calls.specs.MemoryCalls.{effect_of_memory_call, brk_call, munmap_call, mmap_call, mprotect_call}
 use Rattle.dt_calls.specs.Settle.{ProcessTurn, machine_after, turn_of_machine}
 use Rattle.dt_calls.specs.SignalCalls.{AfterSigreturn, after_sigreturn, with_signals_of, effect_of_signal_call, sigaction_call, sigprocmask_call, sigreturn_call, effect_of_sigreturn}
+use Rattle.dt_calls.specs.Timers.{effect_after_timers}
 use Rattle.dt_calls.specs.Wait.{is_group, which_child, status_bytes, usage_bytes, wait4_call, effect_of_reaped, reap_effect}
 
 -- a process that lives on has a machine, and one that ended has none
@@ -193,12 +198,35 @@ module _ (next : ℕ) where
   unfolding sigreturn_call
   sigreturn-fits c p m = returned-fits c p (after_sigreturn (task_at c p).signals m)
 
+  setitimer-fits : (c : Shared) (p : ℕ) (m : Machine) → Born next (setitimer_call c p m)
+  unfolding setitimer_call
+  setitimer-fits c p m = handled-fits c p m SETITIMER
+      (setitimer_of (task_at c p).signals m.space c.clock (register m A0) (register m A1) (register m A2))
+
+  getitimer-fits : (c : Shared) (p : ℕ) (m : Machine) → Born next (getitimer_call c p m)
+  unfolding getitimer_call
+  getitimer-fits c p m = handled-fits c p m GETITIMER
+      (getitimer_of (task_at c p).signals m.space c.clock (register m A0) (register m A1))
+
+  polled-fits : (c : Shared) (p : ℕ) (m : Machine) (r : PollResult) → Born next (effect_of_poll c p m r)
+  polled-fits c p m r = answer-fits (with_task c p (with_polling (task_at c p) r.polling)) (record m { space = r.pages }) PPOLL r.answer
+
+  ppoll-fits : (c : Shared) (p : ℕ) (m : Machine) → Born next (ppoll_call c p m)
+  unfolding ppoll_call
+  ppoll-fits c p m = polled-fits c p m (ppoll_of (events_of c p) c.clock (task_at c p).polling m.space (arguments m))
+
+  late-fits : (number : ℕ) (c : Shared) (p : ℕ) (m : Machine) → Born next (late_call number c p m)
+  unfolding late_call
+  late-fits number c p m =
+      either (number == SETITIMER) _ _ (setitimer-fits c p m) (either (number == GETITIMER) _ _ (getitimer-fits c p m)
+      (either (number == PPOLL) _ _ (ppoll-fits c p m) (file-fits number c p m)))
+
   signal-fits : (number : ℕ) (c : Shared) (p : ℕ) (m : Machine) → Born next (signal_call number c p m)
   unfolding signal_call
   signal-fits number c p m =
       either (number == KILL) _ _ (kill-fits c m) (either (number == TKILL) _ _ (tkill-fits c m) (either (number == TGKILL) _ _ (tgkill-fits c m)
       (either (number == RT_SIGACTION) _ _ (sigaction-fits c p m) (either (number == RT_SIGPROCMASK) _ _ (sigprocmask-fits c p m)
-      (either (number == RT_SIGRETURN) _ _ (sigreturn-fits c p m) (file-fits number c p m))))))
+      (either (number == RT_SIGRETURN) _ _ (sigreturn-fits c p m) (late-fits number c p m))))))
 
   list-fits : (c : Shared) (m : Machine) → Born next (set_robust_list_call c m)
   unfolding set_robust_list_call
@@ -311,6 +339,9 @@ module _ (next : ℕ) where
   stop-fits c p m (Fault signal) = record { fits = tt }
   stop-fits c p m Slice = record { fits = tt }
 
+  timers-fits : (r : Effect) → Born next r → Born next (effect_after_timers r)
+  timers-fits r fits = record { fits = fits.fits }
+
   handler-fits : (served : Served) (child : Option Machine) → FitsChild next served child → FitsChild next (served_at_handler served) child
   handler-fits Done child fits = tt
   handler-fits (Child vpid) child fits = fits
@@ -339,5 +370,6 @@ pub served-fits : (c : Shared) (next p : ℕ) (stop : Stop) (m : Machine) → Fi
 unfolding turn_of_machine
 served-fits c next p stop m = record {
   own = own-fits _ _;
-  child = let born = delivered-fits next (forced_signal stop) p (effect_of_stop c next p m stop) (stop-fits next c p m stop) in born.fits;
+  child = let born = delivered-fits next (forced_signal stop) p (effect_after_timers (effect_of_stop c next p m stop))
+      (timers-fits next (effect_of_stop c next p m stop) (stop-fits next c p m stop)) in born.fits;
 }

@@ -139,7 +139,7 @@ module _ (c : Shared) (p : ℕ) (w : World) (sound : IsSound c w) (lives : IsSom
       rest
 
 -- the time alone changes
-keeps-clock : (c : Shared) (w : World) → IsSound c w → (clock : ℕ) → KeepsSound c (record c { fs = record c.fs { clock = clock } }) w
+pub keeps-clock : (c : Shared) (w : World) → IsSound c w → (clock : ℕ) → KeepsSound c (record c { fs = record c.fs { clock = clock } }) w
 keeps-clock c w sound clock = record {
   sound = record {
     stands = sound.stands;

@@ -1,5 +1,6 @@
 pub mod Tasks
 pub mod Held
+pub mod Fired
 pub mod Done
 pub mod Homes
 pub mod AtHome

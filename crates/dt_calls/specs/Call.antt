@@ -11,7 +11,6 @@ use Rattle.dt_rv64.specs.Effects.{register}
 use Rattle.dt_calls.specs.declared.container.Served.TheVariants.{Done}
 use Rattle.dt_calls.specs.Container.{Shared}
 use Rattle.dt_calls.specs.Effect.{Effect, quiet_effect, done_effect, refused_effect, counter_effect}
-use Rattle.dt_calls.specs.FileCalls.{file_call}
 use Rattle.dt_calls.specs.MemoryCalls.{brk_call, munmap_call, mmap_call, mprotect_call}
 use Rattle.dt_calls.specs.Identity.{getpid_call, getppid_call, set_robust_list_call, uname_call}
 use Rattle.dt_calls.specs.Clone.{clone_call}
@@ -20,6 +19,7 @@ use Rattle.dt_calls.specs.Execve.{execve_call}
 use Rattle.dt_calls.specs.Wait.{wait4_call}
 use Rattle.dt_calls.specs.Kill.{kill_call, tkill_call, tgkill_call}
 use Rattle.dt_calls.specs.SignalCalls.{sigaction_call, sigprocmask_call, sigreturn_call}
+use Rattle.dt_calls.specs.LateCalls.{late_call}
 
 -- exit(2) and exit_group(2): the process ends with a code
 unfoldable pub exit_call : Shared → ℕ → Machine → Effect
@@ -35,7 +35,7 @@ abbrev pub is_missing_call : ℕ → Bool
 is_missing_call number =
     (number == MREMAP) || (number == MADVISE) || (number == PRLIMIT64) || (number == STATX) || (number == RSEQ)
 
--- the calls on signals; any other is one on files, time or random bytes
+-- the calls on signals; any other is one that looks ahead in time, or one on files, time or random bytes
 unfoldable pub signal_call : ℕ → Shared → ℕ → Machine → Effect
 signal_call number c p m =
     if number == KILL then kill_call c m
@@ -44,7 +44,7 @@ signal_call number c p m =
     else if number == RT_SIGACTION then sigaction_call c p m
     else if number == RT_SIGPROCMASK then sigprocmask_call c p m
     else if number == RT_SIGRETURN then sigreturn_call c p m
-    else file_call number c p m
+    else late_call number c p m
 
 -- the calls that tell a process who it is, and those that do nothing; any other is one on signals or one of those above
 unfoldable pub identity_call : ℕ → Shared → ℕ → Machine → Effect

@@ -7,6 +7,7 @@ use Rattle.dt_fds.specs.Descriptions.{Descriptions, first_files}
 use Rattle.dt_fds.specs.Pipes.{PipesView}
 use Rattle.dt_pipes.specs.declared.pipe.TheConstants.{FIRST_PIPE}
 use Rattle.dt_rv64.specs.declared.machine.Machine.{Machine}
+use Rattle.dt_late.specs.declared.poll.Polling.TheVariants.{Idle}
 use Rattle.dt_procs.specs.declared.member.Member.{Member}
 use Rattle.dt_base.specs.declared.limits.TheConstants.{FIRST_PID}
 use Rattle.dt_procs.specs.Members.{first_members}
@@ -51,6 +52,7 @@ blank_task vpid = record {
   caller = record { vpid = vpid; cwd = ROOT; umask = FIRST_UMASK; done = 0 };
   program_break = record { start = 0; end = 0 };
   signals = no_signals;
+  polling = Idle;
 }
 
 -- the task of a process that lives

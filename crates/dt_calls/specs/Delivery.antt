@@ -3,8 +3,10 @@ use Rattle.std.specs.Prelude.{ℕ, Bool, true, false, Option, None, Some, if◌t
 use Rattle.dt_base.specs.declared.event.End.TheVariants.{Signal}
 use Rattle.dt_rv64.specs.declared.segments.Stop.{Stop}
 use Rattle.dt_rv64.specs.declared.segments.Stop.TheVariants.{Call, Counter, Slice, Fault}
+use Rattle.dt_late.specs.declared.poll.Polling.{Polling}
+use Rattle.dt_late.specs.declared.poll.Polling.TheVariants.{Idle, Until, Forever}
 use Rattle.dt_signals.specs.declared.delivery.CallState.{CallState}
-use Rattle.dt_signals.specs.declared.delivery.CallState.TheVariants.{Plain, Waits}
+use Rattle.dt_signals.specs.declared.delivery.CallState.TheVariants.{Plain, Waits, Polls}
 use Rattle.dt_signals.specs.declared.delivery.Delivery.{Delivery}
 use Rattle.dt_signals.specs.declared.delivery.Delivery.TheVariants as delivery
 use Rattle.dt_signals.specs.Delivery.{DeliveryResult, delivery_of}
@@ -32,20 +34,26 @@ takes_signals Progress = true
 takes_signals Ended = false
 takes_signals (Unsupported number) = false
 
--- a process's call, as delivery sees it: one that waits or goes on has moved so many bytes
+-- a call that waits, as delivery sees it: it has moved so many bytes, or is a ppoll(2)
+abbrev pub waiting_state : Polling → ℕ → CallState
+waiting_state Idle done = Waits done
+waiting_state (Until due) done = Polls
+waiting_state Forever done = Polls
+
+-- a process's call, as delivery sees it: one that goes on has moved so many bytes
 abbrev pub call_state : Task → Served → CallState
 call_state t Done = Plain
 call_state t (Child v) = Plain
 call_state t (LastChild v) = Plain
-call_state t Blocked = Waits t.caller.done
+call_state t Blocked = waiting_state t.polling t.caller.done
 call_state t Progress = Waits t.caller.done
 call_state t Ended = Plain
 call_state t (Unsupported number) = Plain
 
--- a task after a delivery: where a handler is to be run, no call goes on, and the count of its bytes is 0
+-- a task after a delivery: where a handler is to be run, no call waits or goes on, and the count of its bytes is 0
 abbrev pub task_after_delivery : Delivery → Task → Task
 task_after_delivery delivery.Nothing t = t
-task_after_delivery delivery.Handler t = record t { caller = record t.caller { done = 0 } }
+task_after_delivery delivery.Handler t = record t { caller = record t.caller { done = 0 }; polling = Idle }
 task_after_delivery (delivery.Ends signal) t = t
 
 -- what became of a process whose handler is to be run: a call that waited is over

@@ -7,9 +7,10 @@ use Rattle.dt_base.specs.declared.event.Event.{Event}
 use Rattle.dt_rv64.specs.declared.machine.Machine.{Machine}
 use Rattle.dt_fds.specs.OpenFiles.{pipes_at}
 use Rattle.dt_host.specs.World.{World}
+use Rattle.dt_late.specs.Poll.{PollResult}
 use Rattle.dt_mcalls.specs.Brk.{BrkResult}
 use Rattle.dt_procs.specs.Table.{members_of}
-use Rattle.dt_sigcalls.specs.Called.{SignalCallResult}
+use Rattle.dt_signals.specs.Called.{SignalCallResult}
 use Rattle.dt_signals.specs.declared.delivery.Delivery.{Delivery}
 use Rattle.dt_signals.specs.Delivery.{DeliveryResult}
 use Rattle.dt_tree.specs.Table.{tree_of}
@@ -21,6 +22,7 @@ use Rattle.dt_calls.specs.Container.{Shared, Container, Machines, Tasks, task_in
 use Rattle.dt_calls.specs.Effect.{Effect}
 use Rattle.dt_calls.specs.Delivery.{task_after_delivery}
 use Rattle.dt_calls.specs.Ends.{has_ended}
+use Rattle.dt_calls.specs.LateCalls.{with_polling}
 use Rattle.dt_calls.specs.SignalCalls.{AfterSigreturn}
 use Rattle.dt_calls.specs.Launch.{ContainerLaunch}
 use Rattle.dt_calls.specs.Settle.{ContainerTurn, is_end_of_all, with_own}
@@ -85,6 +87,12 @@ effect_as c m r = record { shared = c; machine = m; child = r.child; events = r.
 -- a call left the signal state of a process and its machine so, and gave its answer
 pub record CalledAt (r : SignalCallResult) (p : ℕ) (before after : Tasks) (old new : Machine) (given : Answer) : Type 0 where
   pub tasks : after ≡ insert before p (with_signals (task_in before p) r.signals)
+  pub machine : new ≡ record old { space = r.pages }
+  pub answer : given ≡ r.answer
+
+-- a try of ppoll(2) left the task of a process and its machine so, and gave its answer
+pub record PolledAt (r : PollResult) (p : ℕ) (before after : Tasks) (old new : Machine) (given : Answer) : Type 0 where
+  pub tasks : after ≡ insert before p (with_polling (task_in before p) r.polling)
   pub machine : new ≡ record old { space = r.pages }
   pub answer : given ≡ r.answer
 

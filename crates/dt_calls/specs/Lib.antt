@@ -9,7 +9,9 @@ pub mod Wait
 pub mod Ends
 pub mod Kill
 pub mod SignalCalls
+pub mod LateCalls
 pub mod Call
+pub mod Timers
 pub mod Delivery
 pub mod Settle
 pub mod Launch

@@ -12,6 +12,7 @@ use Rattle.dt_calls.specs.Container.{Shared, Container, Machines}
 use Rattle.dt_calls.specs.Effect.{Effect}
 use Rattle.dt_calls.specs.Ends.{has_ended}
 use Rattle.dt_calls.specs.Call.{effect_of_stop}
+use Rattle.dt_calls.specs.Timers.{earliest_of, shared_after_jump, effect_after_timers}
 use Rattle.dt_calls.specs.Delivery.{effect_after_delivery, forced_signal}
 
 -- what is shared after a turn of a process, its machine if it lives on, the machine of a child that it made, what the turn
@@ -37,9 +38,11 @@ process_turn r = record {
   served = r.served;
 }
 
--- a stop of a process with this machine is served, and then a signal is delivered to the process, if one is to be
+-- a stop of a process with this machine is served, the timers fire that are due, and then a signal is delivered to the process, if
+-- one is to be
 abbrev pub effect_of_turn : Shared → ℕ → ℕ → Machine → Stop → Effect
-effect_of_turn c next p m stop = effect_after_delivery (forced_signal stop) p (effect_of_stop c next p m stop)
+effect_of_turn c next p m stop =
+    effect_after_delivery (forced_signal stop) p (effect_after_timers (effect_of_stop c next p m stop))
 
 -- a turn of a process with this machine; a call that waits or goes on is served again
 unfoldable pub turn_of_machine : Shared → ℕ → ℕ → Stop → Machine → ProcessTurn
@@ -91,6 +94,15 @@ with_process_turn c p s = record {
   };
   served = s.served;
 }
+
+-- what is shared, with the time at the earliest point that a live process waits for, if one does
+abbrev pub shared_after_waiting : Shared → Option ℕ → Shared
+shared_after_waiting c None = c
+shared_after_waiting c (Some due) = shared_after_jump due c
+
+-- a container after the time has come to that point
+abbrev pub container_after_jump : Container → Container
+container_after_jump c = record c { shared = shared_after_waiting c.shared (earliest_of c.shared) }
 
 -- a stop is served of a process whose machine is at home
 unfoldable pub turn_of_container : Container → ℕ → Stop → Option ContainerTurn

@@ -5,9 +5,9 @@ use Rattle.dt_base.specs.declared.event.End.TheVariants.{Signal}
 use Rattle.dt_rv64.specs.declared.machine.Machine.{Machine}
 use Rattle.dt_rv64.specs.Effects.{register}
 use Rattle.dt_space.specs.declared.access.Miss.{Miss}
-use Rattle.dt_sigcalls.specs.Called.{SignalCallResult}
 use Rattle.dt_sigcalls.specs.Sigaction.{sigaction_of}
 use Rattle.dt_sigcalls.specs.Sigprocmask.{sigprocmask_of}
+use Rattle.dt_signals.specs.Called.{SignalCallResult}
 use Rattle.dt_signals.specs.declared.signals.Sig.{Sig}
 use Rattle.dt_signals.specs.Return.{SigreturnState, sigreturn_of}
 use Rattle.dt_calls.specs.declared.container.Served.TheVariants.{Done}

@@ -5,6 +5,8 @@ ghost use Rattle.dt_rv64.specs.Effects.{register};
 ghost use Rattle.dt_calls.specs.Call.{effect_of_stop, call_of, memory_call, identity_call, signal_call};
 ghost use Rattle.dt_calls.specs.Settle.{effect_of_turn};
 ghost use Rattle.dt_calls.specs.InCode.{shared_of};
+ghost use Rattle.dt_calls.specs.LateCalls.{late_call};
+ghost use Rattle.dt_calls.specs.Timers.{effect_after_timers};
 ghost use Rattle.dt_calls.specs.Sound.{IsSound, HasEffect, left};
 
 mod clone;
@@ -14,6 +16,7 @@ mod exit;
 mod files;
 mod identity;
 mod kill;
+mod late;
 mod memory;
 mod newborn;
 mod signals;
@@ -30,13 +33,15 @@ use dt_base::abi::{
 };
 use dt_base::{End, Errno};
 use dt_host::{Host, HostErr};
+use dt_late::numbers::{GETITIMER, PPOLL, SETITIMER};
 use dt_rv64::{Machine, Stop};
 use dt_signals::Delivery;
 pub use effect::Effect;
 pub use newborn::Newborn;
 use std::alloc::Global;
 
-/// Serves a stop, and delivers a signal to the process where there is one: that of a fault, or a pending one.
+/// Serves a stop, lets the timers fire that are due, and delivers a signal to the process where there is one: that of a
+/// fault, or a pending one.
 pub fn serve_and_deliver<H: Host>(
     alloc: Global,
     host: &mut H,
@@ -52,7 +57,7 @@ pub fn serve_and_deliver<H: Host>(
         shared.old (left shared.new (H.view host.new) machine.new) result
         (H.count host.old) (H.count host.new) }
 {
-    let mut effect = serve_stop(alloc, host, shared, vpid, machine, stop)?;
+    let mut effect = serve_and_fire(alloc, host, shared, vpid, machine, stop)?;
     if !effect.served.takes_signals() {
         return Ok(effect);
     }
@@ -68,6 +73,27 @@ pub fn serve_and_deliver<H: Host>(
             Ok(effect)
         }
     }
+}
+
+// Serves a stop, and lets the timers fire that are due.
+fn serve_and_fire<H: Host>(
+    alloc: Global,
+    host: &mut H,
+    shared: &mut Shared,
+    vpid: u32,
+    machine: &mut Machine,
+    stop: Stop,
+) -> Result<Effect, HostErr>
+    requires sound { IsSound shared.old (H.view host.old) }
+    requires lives { IsSome (get shared.old.tasks vpid) }
+    ensures { HasEffect vpid (effect_after_timers (effect_of_stop
+        (shared_of shared.old (H.view host.old)) shared.old.pids.next vpid machine.old stop))
+        shared.old (left shared.new (H.view host.new) machine.new) result
+        (H.count host.old) (H.count host.new) }
+{
+    let effect = serve_stop(alloc, host, shared, vpid, machine, stop)?;
+    shared.fire();
+    Ok(effect)
 }
 
 // Serves a stop: a call by its number, a counter by the logical time, a fault and the end of a slice by nothing.
@@ -178,7 +204,7 @@ fn identity_call<H: Host>(
     }
 }
 
-// Serves a call on signals, or one on files, time or random bytes.
+// Serves a call on signals, or another one.
 #[tactic(auto, unfolding(crate::specs::Call::signal_call))]
 fn signal_call<H: Host>(
     alloc: Global,
@@ -202,6 +228,31 @@ fn signal_call<H: Host>(
         RT_SIGACTION => Ok(signals::rt_sigaction(alloc, shared, vpid, machine)?),
         RT_SIGPROCMASK => Ok(signals::rt_sigprocmask(alloc, shared, vpid, machine)?),
         RT_SIGRETURN => signals::rt_sigreturn(alloc, host, shared, vpid, machine),
+        _ => late_call(alloc, host, shared, vpid, machine, number),
+    }
+}
+
+// Serves a call that looks ahead in time, or one on files, time or random bytes.
+#[tactic(auto, unfolding(crate::specs::LateCalls::late_call))]
+fn late_call<H: Host>(
+    alloc: Global,
+    host: &mut H,
+    shared: &mut Shared,
+    vpid: u32,
+    machine: &mut Machine,
+    number: u64,
+) -> Result<Effect, HostErr>
+    requires sound { IsSound shared.old (H.view host.old) }
+    requires lives { IsSome (get shared.old.tasks vpid) }
+    ensures { HasEffect vpid (late_call number (shared_of shared.old (H.view host.old)) vpid machine.old)
+        shared.old (left shared.new (H.view host.new) machine.new) result
+        (H.count host.old) (H.count host.new) }
+{
+    let _before = host.faults();
+    match number {
+        SETITIMER => Ok(late::setitimer(alloc, shared, vpid, machine)?),
+        GETITIMER => Ok(late::getitimer(alloc, shared, vpid, machine)?),
+        PPOLL => Ok(late::ppoll(alloc, shared, vpid, machine)?),
         _ => files::call(alloc, host, shared, vpid, machine, number),
     }
 }

@@ -1,8 +1,8 @@
 // A container as a whole: its start, the launch of its program, and the turns of its processes.
-ghost use Rattle.std.specs.Prelude.{◌≡◌, [], None, Some, IsSome, IfOk, OnOk, IsErrOf};
+ghost use Rattle.std.specs.Prelude.{◌≡◌, ℕ, [], None, Some, IsSome, IfOk, OnOk, IsErrOf};
 ghost use Rattle.std.specs.FinMap.{get, insert, remove};
 ghost use Rattle.dt_host.specs.Cause.{HasCause};
-ghost use Rattle.dt_host.specs.World.{IsEmptyStart};
+ghost use Rattle.dt_host.specs.World.{World, IsEmptyStart};
 ghost use Rattle.dt_procs.specs.Table.{members_of};
 ghost use Rattle.dt_procs.specs.Members.{end_of};
 ghost use Rattle.dt_rv64.specs.declared.segments.Stop.TheVariants.{Call as a_call};
@@ -10,9 +10,10 @@ ghost use Rattle.dt_tree.specs.ImageTree.{image_tree};
 ghost use Rattle.dt_calls.specs.AtHome.{RunsAt, KeepPlaces};
 ghost use Rattle.dt_calls.specs.Container.{first_container};
 ghost use Rattle.dt_calls.specs.Launch.{launch};
-ghost use Rattle.dt_calls.specs.Settle.{turn_of_container};
+ghost use Rattle.dt_calls.specs.Settle.{turn_of_container, container_after_jump};
 ghost use Rattle.dt_calls.specs.InCode.{Lives, machines_at_home, container_of, container_launch_as, container_turn_as};
 ghost use Rattle.dt_calls.specs.Sound.{IsSoundContainer};
+ghost use Rattle.dt_calls.specs.Timers.{earliest_in};
 
 use crate::at_home::{run_at, serve_at};
 use crate::shared::Shared;
@@ -204,6 +205,30 @@ impl Container {
         ensures cause { HasCause (H.count host.old) (H.count host.new) (IsErrOf result HostErr.Failed) }
     {
         self.serve(host, vpid, Stop::Call)
+    }
+
+    /// The earliest point of time that a live process waits for: its timer is due then, or a ppoll(2) of it is over.
+    /// None exactly where no live process waits for one.
+    pub fn earliest(&self) -> Option<u64>
+        ensures { result ≡ earliest_in self.now.shared }
+    {
+        self.shared.earliest()
+    }
+
+    /// Lets the time come to the earliest point that a live process waits for, and the timers fire that are due then.
+    pub fn jump(&mut self)
+        requires { IsSome (earliest_in self.old.shared) }
+        ensures jumped { (w : World) → container_of self.new w
+            ≡ container_after_jump (container_of self.old w) }
+        ensures rest { self.new ≡ record self.old { shared = self.new.shared } }
+        ensures pids { self.new.shared.pids ≡ self.old.shared.pids }
+        ensures sound { (w : World) → IsSoundContainer self.old w → IsSoundContainer self.new w }
+        ensures lives { (w : World) → IsSoundContainer self.old w → (p : ℕ) → Lives self.old p → Lives self.new p }
+    {
+        let Some(due) = self.shared.earliest() else {
+            unreachable!()
+        };
+        self.shared.jump(due);
     }
 
     /// What the last turn showed.

@@ -3,12 +3,13 @@ ghost use Rattle.std.specs.Prelude.{◌≡◌, IsSome, IfOk};
 ghost use Rattle.std.specs.FinMap.{get};
 ghost use Rattle.dt_signals.specs.Delivery.{delivery_of, delivery_result};
 ghost use Rattle.dt_calls.specs.Container.{task_in, with_signals};
-ghost use Rattle.dt_calls.specs.Delivery.{forced_signal, call_state, task_after_delivery};
+ghost use Rattle.dt_calls.specs.Delivery.{forced_signal, waiting_state, call_state, task_after_delivery};
 ghost use Rattle.dt_calls.specs.InCode.{DeliveredAt};
 
 use crate::container::Served;
 use crate::task::Task;
 use dt_base::NoMemory;
+use dt_late::Polling;
 use dt_rv64::{Machine, Stop};
 use dt_signals::{CallState, Delivery, deliver};
 use dt_tables::Numbered;
@@ -50,6 +51,7 @@ fn deliver_to(
         Delivery::Nothing => Ok(Delivery::Nothing),
         Delivery::Handler => {
             task.caller.done = 0;
+            task.polling = Polling::Idle;
             Ok(Delivery::Handler)
         }
         Delivery::Ends(signal) => Ok(Delivery::Ends(signal)),
@@ -61,12 +63,23 @@ fn call_state(task: &Task, served: Served) -> CallState
     ensures { result ≡ call_state task.now served }
 {
     match served {
-        Served::Blocked | Served::Progress => CallState::Waits(task.caller.done),
+        Served::Blocked => waiting_state(task.polling, task.caller.done),
+        Served::Progress => CallState::Waits(task.caller.done),
         Served::Done
         | Served::Child(_)
         | Served::LastChild(_)
         | Served::Ended
         | Served::Unsupported(_) => CallState::Plain,
+    }
+}
+
+// A call that waits, as delivery sees it.
+fn waiting_state(polling: Polling, done: u64) -> CallState
+    ensures { result ≡ waiting_state polling done }
+{
+    match polling {
+        Polling::Idle => CallState::Waits(done),
+        Polling::Until(_) | Polling::Forever => CallState::Polls,
     }
 }
 

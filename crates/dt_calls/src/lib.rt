@@ -11,5 +11,6 @@ pub mod numbers;
 mod settling;
 mod shared;
 mod task;
+mod timers;
 
 pub use container::{Container, Launch, Served};

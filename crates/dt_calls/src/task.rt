@@ -10,6 +10,7 @@ ghost use Rattle.dt_calls.specs.FileCalls.{task_after_answer};
 use crate::numbers::FIRST_UMASK;
 use dt_base::abi::SIGPIPE;
 use dt_base::{Answer, Caller, FIRST_PID};
+use dt_late::Polling;
 use dt_mcalls::Break;
 use dt_signals::Sig;
 use dt_tables::Numbered;
@@ -22,8 +23,10 @@ pub struct Task {
     pub caller: Caller,
     /// The address behind its data, and the least that this may be.
     pub program_break: Break,
-    /// What it does about signals, which are masked, and which are pending.
+    /// What it does about signals, which are masked, which are pending, and its timer.
     pub signals: Sig,
+    /// What is known of its ppoll(2), if that waits.
+    pub polling: Polling,
 }
 
 impl Task {
@@ -41,6 +44,7 @@ impl Task {
             },
             program_break: Break { start: 0, end: 0 },
             signals: Sig::new(),
+            polling: Polling::Idle,
         }
     }
 
@@ -55,6 +59,7 @@ impl Task {
             },
             program_break: self.program_break,
             signals: self.signals.fork(),
+            polling: self.polling,
         }
     }
 

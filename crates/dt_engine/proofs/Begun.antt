@@ -1,5 +1,5 @@
 -- A run in play before its first turn.
-use Rattle.std.proofs.Common.{◌≡◌, ℕ, List, [], Option, Some, None, refl, sym, ap, subst, ◌∙◌}
+use Rattle.std.proofs.Common.{◌≡◌, ℕ, List, [], Some, refl, sym, ap, subst, ◌∙◌}
 use Rattle.std.specs.FinMap.{empty}
 use Rattle.dt_base.specs.declared.errno.Errno.{Errno}
 use Rattle.dt_base.specs.declared.event.Verdict.{Verdict}
@@ -9,16 +9,15 @@ use Rattle.dt_base.specs.Command.{Words}
 use Rattle.dt_host.specs.World.{World}
 use Rattle.dt_sched.specs.Core.{over_core}
 use Rattle.dt_tree.specs.ImageTree.{image_tree}
-use Rattle.dt_calls.specs.declared.container.Launch.TheVariants.{Started, NoStart}
+use Rattle.dt_calls.specs.declared.container.Launch.TheVariants.{NoStart}
 use Rattle.dt_calls.specs.Container.{Container, first_container}
 use Rattle.dt_calls.specs.InCode.{ContainerView, container_of, machines_at_home}
 use Rattle.dt_calls.specs.Launch.{ContainerLaunch, launch}
 use Rattle.dt_engine.specs.declared.state.State.{State as StateInCode}
-use Rattle.dt_engine.specs.Turn.{State}
 use Rattle.dt_engine.specs.Run.{first_state}
 use Rattle.dt_engine.specs.Playing.{Playing, without_turns, playing_from, playing_in, first_playing}
-use Rattle.dt_engine.specs.InPlay.{IsKept, IsFull}
-use Rattle.dt_engine.specs.inner.InCode.{Stops, phase_in, works_in, state_of}
+use Rattle.dt_engine.specs.InPlay.{IsKept, IsAwake, IsFull}
+use Rattle.dt_engine.specs.inner.InCode.{Stops, phase_in, state_of}
 use Rattle.dt_engine.proofs.Works.{works_in-owing}
 
 -- a run before its first turn, by what its parts gave
@@ -48,6 +47,10 @@ over-playing c w budget errno s is =
 pub over-kept : (c : ContainerView) (budget : ℕ) (v : Verdict) (s : StateInCode)
     → s ≡ record { container = c; core = over_core budget v; stops = empty } → IsKept s
 over-kept c budget v s is = subst IsKept (sym is) (record { kept = tt })
+
+pub over-awake : (c : ContainerView) (budget : ℕ) (v : Verdict) (s : StateInCode)
+    → s ≡ record { container = c; core = over_core budget v; stops = empty } → IsAwake s.core
+over-awake c budget v s is = subst (λ (s : StateInCode). IsAwake s.core) (sym is) (λ running. cc)
 
 -- nobody is in its queue
 pub over-full : (c : ContainerView) (w : World) (budget : ℕ) (v : Verdict) (s : StateInCode)

@@ -1,7 +1,6 @@
 -- Turns that are taken beside machines that are lent.
-use Rattle.std.proofs.Common.{◌≡◌, ◌≢◌, ℕ, ◌<◌, ◌≤◌, Bool, true, false, cond, List, [], ◌∷◌, length, Option, Some, None, refl, sym, ap, subst, ◌∙◌, arith}
-use Rattle.std.specs.Prelude.{IsSome, IsTrue}
-use Rattle.std.specs.List.{AllByRecursion, list_any}
+use Rattle.std.proofs.Common.{◌≡◌, ◌≢◌, ℕ, ◌<◌, true, cond, List, [], ◌∷◌, Option, Some, None, refl, sym, ap, subst, ◌∙◌, arith}
+use Rattle.std.specs.Prelude.{IsTrue}
 use Rattle.std.specs.FinMap.{get}
 use Rattle.dt_base.specs.declared.event.Verdict.{Verdict}
 use Rattle.dt_host.specs.Sink.{added, AddsPart}
@@ -11,14 +10,11 @@ use Rattle.dt_sched.specs.declared.process.Process.{Process}
 use Rattle.dt_sched.specs.Core.{is_distinct, is_queued}
 use Rattle.dt_workers.specs.declared.slot.Slot.{Slot}
 use Rattle.dt_engine.specs.Turn.{State, Turn, head_pid, is_ended_verdict, turn}
-use Rattle.dt_engine.specs.Run.{Run}
 use Rattle.dt_engine.specs.Ahead.{Away, IsAway, HasHead, state_with_works, turn_with_works}
 use Rattle.dt_engine.specs.Happenings.{is_live}
 use Rattle.dt_engine.specs.Playing.{Playing, playing_after_turn}
-use Rattle.dt_engine.specs.Admission.{Admission, admission, admission_by, admission_of_turn, awaited}
-use Rattle.dt_engine.specs.InPlay.{IsFull}
-use Rattle.dt_engine.specs.Onward.{left_of}
-use Rattle.dt_engine.specs.inner.Going.{left_with, Goes}
+use Rattle.dt_engine.specs.Admission.{admission, admission_by, awaited}
+use Rattle.dt_engine.specs.inner.Going.{left_with}
 use Rattle.dt_engine.specs.inner.Round.{slot_vpids, slot_works, IsBeside, GoesBeside}
 use Rattle.dt_engine.proofs.Aways.{turn-away}
 use Rattle.dt_engine.proofs.Going.{has-head, goes-part, goes-admitted, part-admitted}

@@ -1,5 +1,5 @@
 -- A machine that comes back from its slot with its segment run, and the end of a round.
-use Rattle.std.proofs.Common.{◌≡◌, ◌≢◌, ℕ, ◌<◌, ◌≤◌, Bool, true, false, cond, List, [], ◌∷◌, length, get_or, remove, Option, Some, None, refl, sym, ap, subst, ◌∙◌, arith}
+use Rattle.std.proofs.Common.{◌≡◌, ◌≢◌, ℕ, ◌<◌, Bool, true, false, cond, List, [], ◌∷◌, length, get_or, remove, Option, Some, None, refl, sym, ap, subst, ◌∙◌, arith}
 use Rattle.std.specs.Prelude.{IsSome, IsTrue, Result, Ok, Err}
 use Rattle.std.specs.List.{AllByRecursion, AllZip}
 use Rattle.std.specs.Cmp.{nat_cmp_total}
@@ -26,10 +26,10 @@ use Rattle.dt_engine.specs.Ahead.{Away, with_works, works_with_segment, with_seg
 use Rattle.dt_engine.specs.Happenings.{is_live}
 use Rattle.dt_engine.specs.Playing.{Playing, rest_of}
 use Rattle.dt_engine.specs.Lent.{returned_work, state_with_work, playing_with_work}
-use Rattle.dt_engine.specs.InPlay.{EngineView, playing_of, IsFull, IsInPlay, steps_left}
-use Rattle.dt_engine.specs.Onward.{left_of, IsAtRest}
+use Rattle.dt_engine.specs.InPlay.{EngineView, playing_of, IsFull, IsInPlay}
+use Rattle.dt_engine.specs.Onward.{IsAtRest}
 use Rattle.dt_engine.specs.inner.Going.{left_with, Goes}
-use Rattle.dt_engine.specs.inner.Round.{slot_vpids, slot_works, IsAbsent, IsOnce, IsBeside, IsRound, TakesOn}
+use Rattle.dt_engine.specs.inner.Round.{slot_vpids, slot_works, IsAbsent, IsOnce, IsBeside, IsRound}
 use Rattle.dt_engine.proofs.Aheads.{ran-ahead}
 use Rattle.dt_engine.proofs.Arriving.{run-counts}
 use Rattle.dt_engine.proofs.Engines.{with-work-live}

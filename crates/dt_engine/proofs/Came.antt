@@ -33,7 +33,7 @@ use Rattle.dt_sched.specs.Order.{verdict_after, schedule_after_turn, verdict_of_
 use Rattle.dt_engine.specs.declared.state.State.{State as StateInCode}
 use Rattle.dt_engine.specs.Work.{Work, Prepared, prepared_of}
 use Rattle.dt_engine.specs.Turn.{State, Turn, settled_of, act, turn_of_act, paid_act, unpaid_act, act_of_turn, works_after_act, is_ended_verdict, turn_of_work, turn_of_head, head_pid, turn}
-use Rattle.dt_engine.specs.inner.InCode.{work_in, works_in, phase_in, with_stop, noted_stop, due_stop, schedule_of, state_of, turn_as, stops_after}
+use Rattle.dt_engine.specs.inner.InCode.{work_in, works_in, phase_in, with_stop, noted_stop, due_stop, schedule_of, state_of, turn_as, turn_after_waiting, stops_after}
 use Rattle.dt_engine.specs.inner.Good.{IsPlaced, IsPlacedIn, IsGood, steps_left}
 use Rattle.dt_engine.specs.InPlay.{IsKeptProcess, IsKeptIn, IsKept}
 use Rattle.dt_engine.proofs.Works.{get-works_in}
@@ -42,6 +42,7 @@ use Rattle.dt_engine.proofs.Noted.{the_work, works_with, works-after}
 use Rattle.dt_engine.proofs.Standings.{phase-first}
 use Rattle.dt_engine.proofs.Queued.{pids, IsHead, IsSpent, ready-head, schedule-settled, verdict-settled}
 use Rattle.dt_engine.proofs.Placed.{once-apart, queue-placed}
+use Rattle.dt_engine.proofs.Waited.{turn-waits}
 use Rattle.dt_engine.proofs.Kept.{unqueued, queue-kept, finds-room}
 
 -- a turn of a head by what it brings, and which the budget pays for
@@ -114,19 +115,14 @@ first-ended : (b : Bool) → is_ended_verdict (cond b (Some verdict.Ended) None)
 first-ended true = refl
 first-ended false = refl
 
-dead-goes-on : (b : Bool) → is_ended_verdict (cond b (Some verdict.Deadlock) None) ≡ false
-dead-goes-on true = refl
-dead-goes-on false = refl
-
-ended-alike : (p blocked count : ℕ) (served : Served)
-    → is_ended_verdict (verdict_after p blocked count (settled_of served)) ≡ calls.is_end_of_all p served
-ended-alike p blocked count Done = refl
-ended-alike p blocked count (Child vpid) = refl
-ended-alike p blocked count (LastChild vpid) = first-ended (p == 1)
-ended-alike p blocked count Blocked = dead-goes-on (blocked == count)
-ended-alike p blocked count Progress = refl
-ended-alike p blocked count Ended = first-ended (p == 1)
-ended-alike p blocked count (Unsupported number) = refl
+ended-alike : (p : ℕ) (served : Served) → is_ended_verdict (verdict_after p (settled_of served)) ≡ calls.is_end_of_all p served
+ended-alike p Done = refl
+ended-alike p (Child vpid) = refl
+ended-alike p (LastChild vpid) = first-ended (p == 1)
+ended-alike p Blocked = refl
+ended-alike p Progress = refl
+ended-alike p Ended = first-ended (p == 1)
+ended-alike p (Unsupported number) = refl
 
 -- a process's machine is at home
 pub the-machine : (found : Option Machine) → IsSome found → (m : Machine) × (found ≡ Some m)
@@ -255,10 +251,10 @@ acted-seen s w x rest m r is fits apart new given =
     let to = schedule_after_turn (record (schedule_of s.core) { left = s.core.left - sched.cost_of x.phase }) x.vpid t in
     let core = sched.core_after_turn s.core t in
     let schedules : to ≡ schedule_of core = schedule-settled s.core x rest t is in
-    let verdicts : verdict_of_turn to x.vpid t ≡ core.verdict = verdict-settled s.core x rest t to is schedules in
+    let verdicts : verdict_of_turn x.vpid t ≡ core.verdict = verdict-settled s.core x rest t is in
     let works = ap (λ b. cond b empty
     (works_with (works_in machines (phase_in s.core.queue s.stops)) next x.vpid (the_work s.stops x m) r))
-    (ended-alike x.vpid to.blocked (length to.order) r.served)
+    (ended-alike x.vpid r.served)
     ∙ works-seen s x rest m r is fits apart new given in
     λ i. record {
       next = record { shared = r.shared; works = works i; schedule = schedules i; next = next_after next r.child };
@@ -273,9 +269,9 @@ module _ (s : StateInCode) (w : World) (p : ℕ) (to : ContainerView) (now : Wor
       let head = head-kept s p c.head c.kept in
       unqueued s.container.places s.stops s.container.shared.pids.next c.head.rest head.1
 
-  -- the turn is the one that is defined
+  -- the turn is the one that is defined, but for what follows where all wait then
   pub turn-came : let new = turned_state s to c.head.first.vpid served in turn (state_of s w)
-      ≡ turn_as (state_of new now) to.events new.core.verdict
+      ≡ turn_after_waiting (turn_as (state_of new now) to.events new.core.verdict)
   unfolding paid_act
   turn-came =
       let x = c.head.first in
@@ -283,9 +279,11 @@ module _ (s : StateInCode) (w : World) (p : ℕ) (to : ContainerView) (now : Wor
       (ready c.machine x.phase (noted_stop (get s.stops x.vpid))) (ap pids c.head.queue)
       (head-work s x c.head.rest c.machine c.head.queue c.home)
       (prepared-ready c.machine x.phase (noted_stop (get s.stops x.vpid)) c.head.arrived c.counted) c.head.pays
-      ∙ acted-seen s w x c.head.rest c.machine (the_settled s w x c.machine) c.head.queue
+      ∙ turn-waits (state_of s w) x.vpid
+      (act_of_turn (record (schedule_of s.core) { left = s.core.left - sched.cost_of x.phase }) x.vpid (the_work s.stops x c.machine) (the_settled s w x c.machine))
+      ∙ ap turn_after_waiting (acted-seen s w x c.head.rest c.machine (the_settled s w x c.machine) c.head.queue
       (served-fits _ _ x.vpid _ c.machine) c.apart no-next c.given
-      ∙ ap (seen s x.vpid) c.is
+      ∙ ap (seen s x.vpid) c.is)
 
   abbrev was : ProcessTurn
   was = the_settled s w c.head.first c.machine
@@ -363,10 +361,10 @@ module _ (s : StateInCode) (w : World) (p : ℕ) (to : ContainerView) (now : Wor
   same = same_state s p c.head.first.vpid to served new c.head.vpid h
 
   pub turn-has : (events : List Event) → events ≡ to.events
-      → turn (state_of s w) ≡ turn_as (state_of new now) events new.core.verdict
+      → turn (state_of s w) ≡ turn_after_waiting (turn_as (state_of new now) events new.core.verdict)
   turn-has events is =
       turn-came s w p to now served c
-      ∙ (λ i. let new = sym same i in turn_as (state_of new now) (sym is i) new.core.verdict)
+      ∙ (λ i. let new = sym same i in turn_after_waiting (turn_as (state_of new now) (sym is i) new.core.verdict))
 
   pub good-has : IsGood s → IsGood new
   good-has good = subst IsGood (sym same) (good-came s w p to now served c good)

@@ -17,7 +17,7 @@ use Rattle.dt_calls.specs.Container.{Shared}
 use Rattle.dt_calls.specs.InCode.{shared_of}
 use Rattle.dt_calls.specs.Sound.{IsSoundContainer}
 use Rattle.dt_engine.specs.HoldsTree.{HoldsTree}
-use Rattle.dt_engine.specs.Run.{Run, run_of, status_by, status_of_run, report_of}
+use Rattle.dt_engine.specs.Run.{Run, run_of, status_by, report_of}
 use Rattle.dt_engine.specs.Completed.{Completes}
 use Rattle.dt_engine.specs.Playing.{Playing, first_playing, last_text}
 use Rattle.dt_engine.specs.InPlay.{EngineView}

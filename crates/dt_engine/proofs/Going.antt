@@ -1,5 +1,5 @@
 -- A run goes on by admissions and by segments, and what was written of it so far is a part of its report.
-use Rattle.std.proofs.Common.{◌≡◌, ℕ, ◌<◌, Bool, true, false, cond, List, [], ◌∷◌, ◌++◌, length, Option, Some, None, Result, Ok, Err, refl, sym, ap, subst, ◌∙◌, arith, append-nil, append_assoc}
+use Rattle.std.proofs.Common.{◌≡◌, ℕ, ◌<◌, Bool, true, false, cond, List, [], ◌∷◌, ◌++◌, length, Option, Some, None, Result, Ok, Err, refl, sym, ap, subst, ◌∙◌, arith, append-nil}
 use Rattle.std.specs.Prelude.{IsSome, IfOk, OnOk}
 use Rattle.std.specs.FinMap.{get}
 use Rattle.std.proofs.lemmas.List.Concat.{flat_map-append}
@@ -13,14 +13,13 @@ use Rattle.dt_sched.specs.Core.{is_owing, owing_vpids}
 use Rattle.dt_sched.specs.declared.process.Process.{Process}
 use Rattle.dt_calls.specs.InCode.{shared_of, machines_at_home}
 use Rattle.dt_engine.specs.declared.state.State.{State as StateInCode}
-use Rattle.dt_engine.specs.declared.happening.Admitted.{Admitted}
 use Rattle.dt_engine.specs.declared.happening.Admitted.TheVariants as admitted
 use Rattle.dt_engine.specs.Work.{Work}
 use Rattle.dt_engine.specs.Turn.{State, Turn, head_pid, is_ended_verdict, turn}
 use Rattle.dt_engine.specs.Run.{Run, run_of_turns, run_after_turn, after_events}
 use Rattle.dt_engine.specs.Ahead.{Away, IsAway, HasHead, state_with_works, turn_with_works, with_all_segments}
-use Rattle.dt_engine.specs.Playing.{Playing, rest_of, playing_after_turn, playing_with_all_segments}
-use Rattle.dt_engine.specs.Admission.{Admission, admission, admission_by, admission_of_turn, answer_of_turn, awaited, awaited_of, is_ready_work}
+use Rattle.dt_engine.specs.Playing.{Playing, rest_of, playing_with_all_segments}
+use Rattle.dt_engine.specs.Admission.{admission, admission_by, answer_of_turn, awaited, awaited_of, is_ready_work}
 use Rattle.dt_engine.specs.InPlay.{EngineView, playing_of, IsKept, IsInPlay}
 use Rattle.dt_engine.specs.inner.InCode.{phase_in, works_in, state_of}
 use Rattle.dt_engine.specs.Onward.{left_of, IsDone}

@@ -12,8 +12,8 @@ use Rattle.dt_engine.specs.Turn.{State, Turn, is_ended_verdict, turn}
 use Rattle.dt_engine.specs.Run.{run_of_turns, run_after_turn, after_events}
 use Rattle.dt_engine.specs.Ahead.{Away, IsAway, with_works, with_segment_of, with_all_segments, state_with_works}
 use Rattle.dt_engine.specs.Playing.{Playing, rest_of}
-use Rattle.dt_engine.specs.Happenings.{Step, no_step, may_happen, step_of, step_of_turn}
-use Rattle.dt_engine.specs.Played.{Played, none_played, played_then, played}
+use Rattle.dt_engine.specs.Happenings.{may_happen, step_of, step_of_turn}
+use Rattle.dt_engine.specs.Played.{none_played, played_then, played}
 use Rattle.dt_engine.specs.Left.{ReportByParts, HappeningsLeave, AdmissionLeaves, AwayStays, LendLeaves, ReturnLeaves}
 use Rattle.dt_engine.proofs.Turns.{run-by-turns, after-after}
 use Rattle.dt_engine.proofs.Aheads.{ran-ahead}

@@ -1,10 +1,10 @@
 -- The machines of those that owe a segment are lent one after the other; with them at home the run is as it was.
-use Rattle.std.proofs.Common.{◌≡◌, ℕ, ◌+◌, ◌<◌, true, List, [], ◌∷◌, ◌++◌, length, get_or, take, drop, append-nil, arith, Option, Some, None, refl, sym, ap, subst, ◌∙◌}
-use Rattle.std.specs.Prelude.{IsSome, IsTrue, option_map}
+use Rattle.std.proofs.Common.{◌≡◌, ℕ, ◌+◌, ◌<◌, true, List, [], ◌∷◌, ◌++◌, length, get_or, take, drop, append-nil, arith, Some, None, refl, sym, ap, subst, ◌∙◌}
+use Rattle.std.specs.Prelude.{IsTrue}
 use Rattle.std.specs.Cmp.{nat_cmp_total}
 use Rattle.std.specs.FinMap.{empty, get, remove, nat_cmp-IsAntisymmetric}
 use Rattle.std.specs.FinSet as set
-use Rattle.std.specs.List.{AllByRecursion, Contains, list_any}
+use Rattle.std.specs.List.{AllByRecursion}
 use Rattle.std.proofs.lemmas.List.{map-append, take_more, drop_all, take_all}
 use Rattle.std.proofs.lemmas.List.Elements.{Contains-get_or}
 use Rattle.dt_host.specs.World.{World}
@@ -13,14 +13,13 @@ use Rattle.dt_sched.specs.Core.{is_distinct, is_owing, owing_vpids}
 use Rattle.dt_calls.specs.InCode.{machines_at_home}
 use Rattle.dt_workers.specs.declared.slot.Slot.{Slot}
 use Rattle.dt_engine.specs.declared.state.State.{State as StateInCode}
-use Rattle.dt_engine.specs.Work.{Works, owing_work}
-use Rattle.dt_engine.specs.Turn.{State}
+use Rattle.dt_engine.specs.Work.{owing_work}
 use Rattle.dt_engine.specs.Ahead.{with_works, state_with_works}
 use Rattle.dt_engine.specs.Happenings.{is_owing_work, is_live}
 use Rattle.dt_engine.specs.Playing.{Playing, rest_of}
 use Rattle.dt_engine.specs.Lent.{playing_without_work}
 use Rattle.dt_engine.specs.InPlay.{EngineView, playing_of, works_of, with_places, IsFull}
-use Rattle.dt_engine.specs.inner.InCode.{noted_stop, phase_in, works_in, work_in, state_of}
+use Rattle.dt_engine.specs.inner.InCode.{noted_stop, phase_in, works_in, state_of}
 use Rattle.dt_engine.specs.inner.Good.{IsGood}
 use Rattle.dt_engine.specs.Onward.{left_of}
 use Rattle.dt_engine.specs.inner.Going.{left_with}

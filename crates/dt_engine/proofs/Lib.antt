@@ -9,6 +9,7 @@ pub mod Noted
 pub mod Queued
 pub mod Placed
 pub mod Kept
+pub mod Waited
 pub mod Came
 pub mod Arriving
 pub mod Rounds

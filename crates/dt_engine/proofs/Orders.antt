@@ -4,22 +4,25 @@ use Rattle.std.specs.Prelude.{⊤, IsSome, IsTrue, option_map}
 use Rattle.std.proofs.lemmas.Bool.Decides.{nat_tests}
 use Rattle.std.specs.List.{AllByRecursion, list_any}
 use Rattle.std.specs.Cmp.{nat_cmp_total}
-use Rattle.std.specs.FinMap.{empty, get, insert, nat_cmp-IsAntisymmetric}
+use Rattle.std.specs.FinMap.{empty, get, nat_cmp-IsAntisymmetric}
 use Rattle.dt_tables.proofs.Maps.{at_insert, at_remove, get-insert_same}
 use Rattle.dt_base.specs.declared.event.Verdict.{Verdict}
 use Rattle.dt_rv64.specs.declared.machine.Machine.{Machine}
 use Rattle.dt_calls.specs.declared.container.Served.{Served}
 use Rattle.dt_calls.specs.declared.container.Served.TheVariants.{Done, Child, LastChild, Blocked, Progress, Ended, Unsupported}
 use Rattle.dt_calls.specs.Settle.{ProcessTurn, is_end_of_all, turn_of_machine, with_own}
+use Rattle.dt_calls.specs.Timers.{earliest_of}
 use Rattle.dt_calls.proofs.Fits.{Fits, served-fits}
-use Rattle.dt_sched.specs.Order.{Schedule, order_after_turn, verdict_after, schedule_after_turn, verdict_of_turn}
+use Rattle.dt_sched.specs.Order.{Schedule, order_after_turn, verdict_after, schedule_after_turn, verdict_of_turn, is_all_waiting, schedule_after_wake}
 use Rattle.dt_engine.specs.Work.{Work, Works, Prepared, owing_work, prepared_of}
-use Rattle.dt_engine.specs.Turn.{State, Turn, settled_of, own_work_after, act_of_turn, paid_act, unpaid_act, act, is_ended_verdict, with_child_work, works_after_act, turn_of_act, turn_of_work, turn_of_head, head_pid, turn}
+use Rattle.dt_engine.specs.Turn.{State, Turn, Act, settled_of, own_work_after, act_of_turn, act_after_waiting, paid_act, unpaid_act, act, is_ended_verdict, with_child_work, works_after_act, turn_of_act, turn_of_work, turn_of_head, head_pid, turn}
 use Rattle.dt_engine.specs.Happenings.{is_live}
 use Rattle.dt_engine.specs.InPlay.{IsFull}
+use Rattle.dt_engine.specs.inner.InCode.{turn_by_earliest, turn_unless_over, turn_after_waiting}
 use Rattle.dt_engine.proofs.Kept.{own-lives, child-is}
 use Rattle.dt_engine.proofs.Noted.{fits-next}
 use Rattle.dt_engine.proofs.Placed.{born-child}
+use Rattle.dt_engine.proofs.Waited.{turn-waits}
 use Rattle.dt_engine.proofs.Standings.{GoesOn, IsNext, makes_child}
 
 all-append : (P : ℕ → Type 0) (xs ys : List ℕ) → AllByRecursion P xs → AllByRecursion P ys → AllByRecursion P (xs ++ ys)
@@ -89,14 +92,14 @@ ends-by : (b : Bool) (v : Verdict) → cond b (Some v) None ≡ None → b ≡ f
 ends-by true v is = cc
 ends-by false v is = refl
 
-goes-on : (p blocked count : ℕ) (served : Served) → verdict_after p blocked count (settled_of served) ≡ None → is_end_of_all p served ≡ false
-goes-on p blocked count Done is = refl
-goes-on p blocked count (Child vpid) is = refl
-goes-on p blocked count (LastChild vpid) is = ends-by (p == 1) _ is
-goes-on p blocked count Blocked is = refl
-goes-on p blocked count Progress is = refl
-goes-on p blocked count Ended is = ends-by (p == 1) _ is
-goes-on p blocked count (Unsupported number) is = refl
+goes-on : (p : ℕ) (served : Served) → verdict_after p (settled_of served) ≡ None → is_end_of_all p served ≡ false
+goes-on p Done is = refl
+goes-on p (Child vpid) is = refl
+goes-on p (LastChild vpid) is = ends-by (p == 1) _ is
+goes-on p Blocked is = refl
+goes-on p Progress is = refl
+goes-on p Ended is = ends-by (p == 1) _ is
+goes-on p (Unsupported number) is = refl
 
 -- works after a turn
 own-there : (works : Works) (p : ℕ) (own : Option Work) (q : ℕ) → q ≢ p → IsSome (get works q) → IsSome (get (with_own works p own) q)
@@ -128,6 +131,30 @@ pub record TurnsOn (s n : State) : Type 0 where
   pub full : IsFull n
   pub live : (q : ℕ) → head_pid s.schedule.order ≢ Some q → is_live q s ≡ true → is_live q n ≡ true
 
+-- it leaves this also with what follows where all wait
+module _ (s : State) (t : Turn) (on : t.verdict ≡ None → TurnsOn s t.next) where
+  later-on : (due : Option ℕ) → t.verdict ≡ None → (let u = turn_by_earliest t due in u.verdict ≡ None → TurnsOn s u.next)
+  unfolding schedule_after_wake
+  later-on None running none = absurd cc
+  later-on (Some due) running none = let kept = on running in record { full = kept.full; live = kept.live }
+
+  all-on : (all : Bool) (due : Option ℕ) → t.verdict ≡ None → (let u : Turn = cond all (turn_by_earliest t due) t in u.verdict ≡ None → TurnsOn s u.next)
+  all-on true due running none = later-on due running none
+  all-on false due running none = on running
+
+  over-on : (v : Option Verdict) → t.verdict ≡ v → (let u = turn_unless_over t v in u.verdict ≡ None → TurnsOn s u.next)
+  over-on None is none = all-on (is_all_waiting t.next.schedule) (earliest_of t.next.shared) is none
+  over-on (Some v) is none = on none
+
+  waited-on : (let u = turn_after_waiting t in u.verdict ≡ None → TurnsOn s u.next)
+  unfolding turn_after_waiting
+  waited-on none = over-on t.verdict refl none
+
+waits-on : (s : State) (p : ℕ) (a : Act) → (a.verdict ≡ None → TurnsOn s (let t = turn_of_act s p a in t.next))
+    → (let u = turn_of_act s p (act_after_waiting a) in u.verdict ≡ None → TurnsOn s u.next)
+waits-on s p a on =
+    subst (λ (u : Turn). u.verdict ≡ None → TurnsOn s u.next) (sym (turn-waits s p a)) (waited-on s (turn_of_act s p a) on)
+
 -- the head stands once in the order
 abbrev pub IsHeadOnce : List ℕ → Type 0
 IsHeadOnce [] = ⊤
@@ -153,7 +180,7 @@ module _ (s : State) (p : ℕ) (rest : List ℕ) (order : s.schedule.order ≡ p
       let t = settled_of r.served in
       let own = own_work_after w t r.own in
       let works = with_child_work (with_own s.works p own) s.next r.child in
-      let on = goes-on p _ _ r.served none in
+      let on = goes-on p r.served none in
       let after = order-after (λ x. IsSome (get s.works x)) (λ x. IsSome (get works x)) p
       (λ x apart some. child-there _ s.next r.child x (own-there s.works p own x apart some))
       rest r.served
@@ -172,8 +199,10 @@ module _ (s : State) (p : ℕ) (rest : List ℕ) (order : s.schedule.order ≡ p
       → (let a = cond pays (paid_act s.shared (record s.schedule { left = s.schedule.left - d.cost }) s.next p d) (unpaid_act s.shared s.schedule d.work) in
       a.verdict ≡ None → TurnsOn s (let t = turn_of_act s p a in t.next))
   unfolding paid_act
-  act-on d true none = paid-on (record s.schedule { left = s.schedule.left - d.cost }) d.work
-      (turn_of_machine s.shared s.next p d.stop d.work.machine) order (served-fits s.shared s.next p d.stop d.work.machine) none
+  act-on d true none =
+      let q = record s.schedule { left = s.schedule.left - d.cost } in
+      let r = turn_of_machine s.shared s.next p d.stop d.work.machine in
+      waits-on s p (act_of_turn q p d.work r) (paid-on q d.work r order (served-fits s.shared s.next p d.stop d.work.machine)) none
   act-on d false none = absurd cc
 
   work-on : (found : Option Work) → IsSome found → (let t = turn_of_work s p found in t.verdict ≡ None → TurnsOn s t.next)

@@ -1,17 +1,18 @@
 -- The queue as the definitions see it: its head, and what a turn or an arrival makes of it.
 use Rattle.std.proofs.Common.{◌≡◌, ℕ, ◌-◌, ◌<◌, ◌==◌, Bool, true, false, cond, List, [], ◌∷◌, ◌++◌, map, drop, length, Option, Some, None, refl, sym, ap, subst, ◌∙◌, arith, nat_le, inl, inr}
 use Rattle.std.specs.Prelude.{IsTrue, ◌⊎◌}
-use Rattle.std.proofs.lemmas.List.{map-append, length-map}
+use Rattle.std.proofs.lemmas.List.{map-append}
 use Rattle.dt_base.specs.declared.event.Verdict.{Verdict}
 use Rattle.dt_base.specs.declared.event.Verdict.TheVariants as verdict
 use Rattle.dt_sched.specs.declared.process.Process.{Process}
 use Rattle.dt_sched.specs.declared.process.Phase.TheVariants as as_queued
-use Rattle.dt_sched.specs.declared.settled.Head.TheVariants.{NotArrived, Ready, Over}
+use Rattle.dt_sched.specs.declared.settled.Head.{Head}
+use Rattle.dt_sched.specs.declared.settled.Head.TheVariants.{NotArrived, Ready, AllWait, Over}
 use Rattle.dt_sched.specs.declared.settled.Settled.{Settled}
 use Rattle.dt_sched.specs.declared.settled.Settled.TheVariants.{Again, Child, LastChild, Waits as Blocked, Moved, Gone, Stopped}
 use Rattle.dt_sched.specs.Core as sched
-use Rattle.dt_sched.specs.Core.{CoreView, IsCore, head, head_unless_over, owing_process, owing_vpids, is_owing, core_after_arrival, process_after_arrival, core_after_turn, core_after_turn_of}
-use Rattle.dt_sched.specs.Order.{Schedule, order_after_turn, blocked_after, verdict_after, schedule_after_turn, verdict_of_turn}
+use Rattle.dt_sched.specs.Core.{CoreView, IsCore, head, head_unless_over, queue_head, owing_process, owing_vpids, is_owing, core_after_arrival, process_after_arrival, core_after_turn, core_after_turn_of}
+use Rattle.dt_sched.specs.Order.{order_after_turn, blocked_after, schedule_after_turn, verdict_of_turn}
 use Rattle.dt_engine.specs.inner.InCode.{schedule_of}
 
 -- the pids of processes
@@ -28,6 +29,19 @@ pub record IsHead (core : CoreView) (p : ℕ) : Type 0 where
   pub pays : nat_le (sched.cost_of first.phase) core.left ≡ true
   pub running : core.verdict ≡ None
 
+-- unless all wait the head is that of the queue
+unless-waits-ready : (all : Bool) (p : ℕ) (h : Head) → (let head : Head = cond all AllWait h in head) ≡ Ready p → h ≡ Ready p
+unless-waits-ready true p h is = cc
+unless-waits-ready false p h is = is
+
+pub unless-waits-late : (all : Bool) (p : ℕ) (h : Head) → (let head : Head = cond all AllWait h in head) ≡ NotArrived p → h ≡ NotArrived p
+unless-waits-late true p h is = cc
+unless-waits-late false p h is = is
+
+unless-waits-over : (all : Bool) (v : Verdict) (h : Head) → (let head : Head = cond all AllWait h in head) ≡ Over v → h ≡ Over v
+unless-waits-over true v h is = cc
+unless-waits-over false v h is = is
+
 ready-tests : (x : Process) (p : ℕ) (a b : Bool)
     → cond a (NotArrived x.vpid) (cond b (Ready x.vpid) (Over verdict.Budget)) ≡ Ready p
     → (a ≡ false) × ((b ≡ true) × (x.vpid ≡ p))
@@ -36,11 +50,12 @@ ready-tests x p false true is = (refl, (refl, cc))
 ready-tests x p false false is = cc
 
 ready-by : (core : CoreView) (p : ℕ) (v : Option Verdict) (queue : List Process) → core.verdict ≡ v → core.queue ≡ queue
-    → head_unless_over v core.left queue ≡ Ready p → IsHead core p
+    → head_unless_over v core.blocked core.left queue ≡ Ready p → IsHead core p
 ready-by core p (Some v) queue running is ready = cc
-ready-by core p None [] running is ready = cc
+ready-by core p None [] running is ready = let head = unless-waits-ready (core.blocked == 0) p (Over verdict.Ended) ready in cc
 ready-by core p None (x ∷ rest) running is ready =
-    let tests = ready-tests x p (is_owing x.phase) (nat_le (sched.cost_of x.phase) core.left) ready in
+    let head = unless-waits-ready (core.blocked == length (x ∷ rest)) p (queue_head core.left (x ∷ rest)) ready in
+    let tests = ready-tests x p (is_owing x.phase) (nat_le (sched.cost_of x.phase) core.left) head in
     record { first = x; rest = rest; queue = is; vpid = tests.1.1; arrived = tests.0; pays = tests.1.0; running = running }
 
 pub ready-head : (core : CoreView) (p : ℕ) → head core ≡ Ready p → IsHead core p
@@ -55,11 +70,12 @@ owed-tests x rest p false true owed is = cc
 owed-tests x rest p false false owed is = cc
 
 owed-by : (core : CoreView) (p : ℕ) (v : Option Verdict) (queue : List Process)
-    → head_unless_over v core.left queue ≡ NotArrived p → (v ≡ None) × (0 < length (owing_vpids queue))
+    → head_unless_over v core.blocked core.left queue ≡ NotArrived p → (v ≡ None) × (0 < length (owing_vpids queue))
 owed-by core p (Some v) queue is = cc
-owed-by core p None [] is = cc
+owed-by core p None [] is = let head = unless-waits-late (core.blocked == 0) p (Over verdict.Ended) is in cc
 owed-by core p None (x ∷ rest) is =
-    (refl, owed-tests x rest p (is_owing x.phase) (nat_le (sched.cost_of x.phase) core.left) refl is)
+    let head = unless-waits-late (core.blocked == length (x ∷ rest)) p (queue_head core.left (x ∷ rest)) is in
+    (refl, owed-tests x rest p (is_owing x.phase) (nat_le (sched.cost_of x.phase) core.left) refl head)
 
 pub owed-head : (core : CoreView) (p : ℕ) → head core ≡ NotArrived p
     → (core.verdict ≡ None) × (0 < length (owing_vpids core.queue))
@@ -86,12 +102,13 @@ over-tests x v false false is = (refl, (refl, cc))
 
 over-by : (core : CoreView) (w : Verdict) (v : Option Verdict) (queue : List Process) → core.verdict ≡ v
     → core.queue ≡ queue → (core.verdict ≡ None → IsTrue (sched.is_queued 1 core.queue))
-    → head_unless_over v core.left queue ≡ Over w → IsOver core w
+    → head_unless_over v core.blocked core.left queue ≡ Over w → IsOver core w
 over-by core w (Some v) queue running is first over = inl (let same : v ≡ w = cc in running ∙ ap Some same)
 over-by core w None [] running is first over = absurd
     (let held = first running in let bad = subst (λ l. IsTrue (sched.is_queued 1 l)) is held in cc)
 over-by core w None (x ∷ rest) running is first over =
-    let tests = over-tests x w (is_owing x.phase) (nat_le (sched.cost_of x.phase) core.left) over in
+    let head = unless-waits-over (core.blocked == length (x ∷ rest)) w (queue_head core.left (x ∷ rest)) over in
+    let tests = over-tests x w (is_owing x.phase) (nat_le (sched.cost_of x.phase) core.left) head in
     inr (running, (tests.1.1, record { first = x; rest = rest; queue = is; arrived = tests.0; spent = tests.1.0 }))
 
 pub over-head : (core : CoreView) (w : Verdict) → IsCore core → head core ≡ Over w → IsOver core w
@@ -134,16 +151,10 @@ schedule-settled core q rest t is =
     ∙ ap (λ l. schedule_of (core_after_turn_of core l t)) (sym is)
 
 -- its verdict
-pub verdict-settled : (core : CoreView) (q : Process) (rest : List Process) (t : Settled) (to : Schedule)
-    → core.queue ≡ q ∷ rest → to ≡ schedule_of (core_after_turn core t)
-    → let new = core_after_turn core t in verdict_of_turn to q.vpid t ≡ new.verdict
+pub verdict-settled : (core : CoreView) (q : Process) (rest : List Process) (t : Settled) → core.queue ≡ q ∷ rest
+    → let new = core_after_turn core t in verdict_of_turn q.vpid t ≡ new.verdict
 unfolding verdict_of_turn
-verdict-settled core q rest t to is same =
-    ap (λ (to : Schedule). verdict_after q.vpid to.blocked (length to.order) t) same
-    ∙ ap (λ l. let new = core_after_turn_of core l t in verdict_after q.vpid new.blocked (length (pids new.queue)) t) is
-    ∙ ap (λ n. verdict_after q.vpid (blocked_after core.blocked t) n t)
-    (length-map (sched.processes_after_turn q rest t) (λ (p : Process). p.vpid))
-    ∙ ap (λ l. let new = core_after_turn_of core l t in new.verdict) (sym is)
+verdict-settled core q rest t is = ap (λ l. let new = core_after_turn_of core l t in new.verdict) (sym is)
 
 -- an arrival moves no process
 same-pid : (b : Bool) (p q : Process) → q.vpid ≡ p.vpid → (let x : Process = cond b q p in x.vpid) ≡ p.vpid

@@ -1,5 +1,5 @@
 -- The queue of a run in play: who is awaited, and who owes.
-use Rattle.std.proofs.Common.{◌≡◌, ◌≢◌, ℕ, suc, ◌==◌, ◌&&◌, ◌||◌, not, Bool, true, false, cond, List, [], ◌∷◌, Option, Some, None, refl, sym, ap, subst, ◌∙◌, arith, nat_le}
+use Rattle.std.proofs.Common.{◌≡◌, ◌≢◌, ℕ, suc, ◌==◌, ◌&&◌, ◌||◌, not, Bool, true, false, cond, List, [], ◌∷◌, length, Option, Some, None, refl, sym, ap, subst, ◌∙◌, arith, nat_le}
 use Rattle.std.specs.Prelude.{IsSome, IsTrue, option_map}
 use Rattle.std.proofs.lemmas.Bool.Decides.{nat_tests}
 use Rattle.std.specs.List.{AllByRecursion, Contains, filter, list_any}
@@ -15,7 +15,7 @@ use Rattle.dt_sched.specs.declared.process.Phase.{Phase}
 use Rattle.dt_sched.specs.declared.process.Phase.TheVariants.{Owes, Ran, Waits}
 use Rattle.dt_sched.specs.declared.settled.Head.TheVariants.{NotArrived, Ready, Over}
 use Rattle.dt_sched.specs.Core as sched
-use Rattle.dt_sched.specs.Core.{CoreView, IsCore, head, head_unless_over, is_distinct, is_owing, is_queued, owing_vpids}
+use Rattle.dt_sched.specs.Core.{CoreView, IsCore, head, head_unless_over, queue_head, is_distinct, is_owing, is_queued, owing_vpids}
 use Rattle.dt_calls.specs.InCode.{machines_at_home}
 use Rattle.dt_engine.specs.declared.state.State.{State as StateInCode}
 use Rattle.dt_engine.specs.Turn.{head_pid}
@@ -25,7 +25,7 @@ use Rattle.dt_engine.specs.InPlay.{IsKeptIn, IsKept, IsFull, owing_of}
 use Rattle.dt_engine.specs.inner.InCode.{phase_at, noted_stop, with_stop, phase_in, work_in, works_in, state_of}
 use Rattle.dt_engine.specs.inner.Good.{IsPlacedIn, IsGood}
 use Rattle.dt_engine.proofs.Works.{get-works_in}
-use Rattle.dt_engine.proofs.Queued.{pids, IsSpent, ready-head}
+use Rattle.dt_engine.proofs.Queued.{pids, IsSpent, unless-waits-late, ready-head}
 use Rattle.dt_engine.proofs.Standings.{phase-first, phase-other}
 use Rattle.dt_engine.proofs.Placed.{once-apart, held-other}
 use Rattle.dt_engine.proofs.Kept.{all-weaker, good-kept}
@@ -78,11 +78,12 @@ late-tests x p false true is = cc
 late-tests x p false false is = cc
 
 late-by : (core : CoreView) (p : ℕ) (v : Option Verdict) (queue : List Process) → core.queue ≡ queue
-    → head_unless_over v core.left queue ≡ NotArrived p → IsLate core p
+    → head_unless_over v core.blocked core.left queue ≡ NotArrived p → IsLate core p
 late-by core p (Some v) queue is late = cc
-late-by core p None [] is late = cc
+late-by core p None [] is late = let head = unless-waits-late (core.blocked == 0) p (Over verdict.Ended) late in cc
 late-by core p None (x ∷ rest) is late =
-    let tests = late-tests x p (is_owing x.phase) (nat_le (sched.cost_of x.phase) core.left) late in
+    let head = unless-waits-late (core.blocked == length (x ∷ rest)) p (queue_head core.left (x ∷ rest)) late in
+    let tests = late-tests x p (is_owing x.phase) (nat_le (sched.cost_of x.phase) core.left) head in
     record { first = x; rest = rest; queue = is; vpid = tests.1; owes = tests.0 }
 
 pub awaited-late : (s : StateInCode) (w : World) (p : ℕ) → IsKept s → head s.core ≡ NotArrived p → awaited (state_of s w) ≡ Some p

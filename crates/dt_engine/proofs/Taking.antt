@@ -1,22 +1,16 @@
 -- A run is taken on, step by step or round by round, until a verdict stands.
-use Rattle.std.proofs.Common.{◌≡◌, ℕ, ◌+◌, ◌<◌, List, [], ◌++◌, length, Option, Some, None, refl, sym, ap, subst, ◌∙◌, arith, append_assoc}
-use Rattle.std.specs.Prelude.{Bool, true, false, is_some, IsSome, IfOk, OnOk}
+use Rattle.std.proofs.Common.{◌≡◌, ℕ, ◌+◌, ◌<◌, List, [], ◌++◌, Option, Some, None, refl, sym, ap, subst, ◌∙◌, arith}
+use Rattle.std.specs.Prelude.{Bool, true, false, is_some, IsSome}
 use Rattle.dt_base.specs.declared.event.Verdict.{Verdict}
-use Rattle.dt_base.specs.declared.event.Event.{Event}
 use Rattle.dt_host.specs.Sink.{added, AddsPart}
 use Rattle.dt_host.specs.World.{World}
 use Rattle.dt_host.proofs.Growth.{added-added}
 use Rattle.dt_image.specs.Report.{events_text}
-use Rattle.dt_calls.specs.Sound.{IsSoundContainer}
-use Rattle.dt_sched.specs.Core.{owing_vpids}
-use Rattle.dt_engine.specs.declared.happening.Admitted.{Admitted}
-use Rattle.dt_engine.specs.declared.happening.Admitted.TheVariants as admitted
 use Rattle.dt_engine.specs.Run.{Run, after_events}
 use Rattle.dt_engine.specs.Ahead.{Away, state_with_works}
 use Rattle.dt_engine.specs.Playing.{Playing}
-use Rattle.dt_engine.specs.Admission.{Admission, admission, admission_by, awaited}
-use Rattle.dt_engine.specs.InPlay.{EngineView, playing_of, IsFull, IsInPlay, steps_left}
-use Rattle.dt_engine.specs.Onward.{left_of, IsAtRest}
+use Rattle.dt_engine.specs.InPlay.{EngineView, steps_left}
+use Rattle.dt_engine.specs.Onward.{left_of}
 use Rattle.dt_engine.specs.inner.Going.{left_with, Goes}
 use Rattle.dt_engine.specs.inner.Round.{TakesOn}
 use Rattle.dt_engine.proofs.Going.{texts-append}

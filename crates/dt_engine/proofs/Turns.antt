@@ -9,12 +9,13 @@ use Rattle.dt_base.specs.declared.event.Verdict.TheVariants.{Budget}
 use Rattle.dt_sched.specs.declared.settled.Settled.{Settled as Told}
 use Rattle.dt_calls.specs.Container.{Shared}
 use Rattle.dt_calls.specs.Settle.{ProcessTurn, turn_of_machine}
+use Rattle.dt_calls.specs.Timers.{earliest_of}
 use Rattle.dt_rv64.specs.declared.segments.Seg.{Seg}
 use Rattle.dt_sched.specs.declared.process.Phase.{Phase}
 use Rattle.dt_sched.specs.declared.process.Phase.TheVariants.{Owes, Ran, Waits}
-use Rattle.dt_sched.specs.Order.{Schedule, schedule_after_turn}
+use Rattle.dt_sched.specs.Order.{Schedule, schedule_after_turn, is_all_waiting, schedule_after_wake}
 use Rattle.dt_engine.specs.Work.{Work, Prepared, prepared_in, prepared_of}
-use Rattle.dt_engine.specs.Turn.{State, Turn, Act, settled_of, act, paid_act, unpaid_act, act_of_turn, turn_of_work, turn_of_head, head_pid, turn}
+use Rattle.dt_engine.specs.Turn.{State, Turn, Act, settled_of, act, paid_act, unpaid_act, act_by_earliest, act_unless_over, act_after_waiting, act_of_turn, turn_of_work, turn_of_head, head_pid, turn}
 use Rattle.dt_engine.specs.Run.{Run, RunByTurns, run_of_turns, run_at_most, run_after_turn, after_events}
 use Rattle.dt_engine.specs.Ahead.{with_all_segments, turn_with_all_segments, RunsAlike}
 use Rattle.dt_engine.proofs.Aheads.{turn-same}
@@ -36,6 +37,23 @@ prepared-costs : (w : Work) → let d = prepared_of w in 1 ≤ d.cost
 unfolding prepared_of
 prepared-costs w = cost-least w w.phase
 
+-- where all wait then no more is left
+waits-cheaper : (bound : ℕ) (a : Act) → IsCheaper bound a → IsCheaper bound (act_after_waiting a)
+unfolding act_after_waiting schedule_after_wake
+waits-cheaper bound a cheaper = by_verdict a.verdict refl
+  where
+    by_earliest : (due : Option ℕ) → a.verdict ≡ None → IsCheaper bound (act_by_earliest a due)
+    by_earliest None running = λ e. cc
+    by_earliest (Some due) running = λ e. cheaper running
+
+    by_all : (all : Bool) → a.verdict ≡ None → IsCheaper bound (cond all (act_by_earliest a (earliest_of a.shared)) a)
+    by_all true running = by_earliest (earliest_of a.shared) running
+    by_all false running = cheaper
+
+    by_verdict : (v : Option Verdict) → a.verdict ≡ v → IsCheaper bound (act_unless_over a v)
+    by_verdict None is = by_all (is_all_waiting a.schedule) is
+    by_verdict (Some v) is = cheaper
+
 -- what becomes of the process costs no more
 after-left : (q : Schedule) (p : ℕ) (t : Told) → let to = schedule_after_turn q p t in to.left ≡ q.left
 unfolding schedule_after_turn
@@ -50,8 +68,9 @@ billed-cheaper : (c : Shared) (q : Schedule) (next p : ℕ) (d : Prepared) (b : 
     → IsCheaper q.left (cond b (paid_act c (record q { left = q.left - d.cost }) next p d) (unpaid_act c q d.work))
 unfolding paid_act
 billed-cheaper c q next p d true least e =
-    settled-cheaper (record q { left = q.left - d.cost }) p q.left d.work
-    (turn_of_machine c next p d.stop d.work.machine) (grind (arith, nat_tests, least))
+    let r = turn_of_machine c next p d.stop d.work.machine in
+    waits-cheaper q.left (act_of_turn (record q { left = q.left - d.cost }) p d.work r)
+    (settled-cheaper (record q { left = q.left - d.cost }) p q.left d.work r (grind (arith, nat_tests, least)))
 billed-cheaper c q next p d false least e = λ e. cc
 
 act-cheaper : (c : Shared) (q : Schedule) (next p : ℕ) (d : Prepared) → 1 ≤ d.cost → IsCheaper q.left (act c q next p d)

@@ -57,10 +57,15 @@ IsKeptIn s p = IsKeptProcess s.container.places s.stops s.container.shared.pids.
 pub record IsKept (s : StateInCode) : Type 0 where
   pub kept : AllByRecursion (IsKeptIn s) s.core.queue
 
--- likewise of an engine, in which a verdict that a turn gave stands
+-- unless a verdict stands some process does not wait: fewer turns in a row were blocked than there are live processes
+abbrev pub IsAwake : CoreView → Type 0
+IsAwake core = core.verdict ≡ None → core.blocked < length core.queue
+
+-- likewise of an engine, in which a verdict that a turn gave stands, and else not all processes wait
 pub record IsInPlay (e : EngineView) : Type 0 where
   pub kept : IsKept e.state
   pub running : e.verdict ≡ None → e.state.core.verdict ≡ None
+  pub awake : IsAwake e.state.core
 
 -- how far a run is from its end, at most: each turn takes one from the budget, after which as many processes may owe as
 -- the queue holds, at most 64

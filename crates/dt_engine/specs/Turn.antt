@@ -9,10 +9,11 @@ use Rattle.dt_calls.specs.declared.container.Served.{Served}
 use Rattle.dt_calls.specs.declared.container.Served.TheVariants.{Done, Child, LastChild, Blocked, Progress, Ended, Unsupported}
 use Rattle.dt_calls.specs.Container.{Shared}
 use Rattle.dt_calls.specs.Settle.{ProcessTurn, turn_of_machine, next_after, with_own}
+use Rattle.dt_calls.specs.Timers.{earliest_of, shared_after_jump}
 use Rattle.dt_sched.specs.declared.settled.Settled.{Settled}
 use Rattle.dt_sched.specs.declared.settled.Settled.TheVariants as settled
 use Rattle.dt_sched.specs.Core.{phase_after_turn}
-use Rattle.dt_sched.specs.Order.{Schedule, schedule_after_turn, verdict_of_turn}
+use Rattle.dt_sched.specs.Order.{Schedule, schedule_after_turn, verdict_of_turn, is_all_waiting, schedule_after_wake}
 use Rattle.dt_engine.specs.Work.{Work, Works, Prepared, owing_work, prepared_of}
 
 -- a run between two turns: what processes share, each one's work, the schedule, and the pid that the next child gets
@@ -56,19 +57,33 @@ own_work_after w turn machine = option_map (λ m. record { machine = m; phase = 
 unfoldable pub act_of_turn : Schedule → ℕ → Work → ProcessTurn → Act
 act_of_turn q p w r =
     let t = settled_of r.served in
-    let to = schedule_after_turn q p t in
     record {
       shared = r.shared;
-      schedule = to;
+      schedule = schedule_after_turn q p t;
       own = own_work_after w t r.own;
       child = r.child;
       events = r.events;
-      verdict = verdict_of_turn to p t;
+      verdict = verdict_of_turn p t;
     }
 
--- a turn that was paid for: the stop is served, or a waiting call again
+-- all wait after a turn: the time comes to the earliest point that a live process waits for, and the timers fire that are due
+-- then; where there is none nothing can happen any more, and the run is over
+abbrev pub act_by_earliest : Act → Option ℕ → Act
+act_by_earliest a None = record a { verdict = Some verdict.Deadlock }
+act_by_earliest a (Some due) = record a { shared = shared_after_jump due a.shared; schedule = schedule_after_wake a.schedule }
+
+-- the same where all wait, unless the run is over by this verdict
+abbrev pub act_unless_over : Act → Option Verdict → Act
+act_unless_over a None = if is_all_waiting a.schedule then act_by_earliest a (earliest_of a.shared) else a
+act_unless_over a (Some verdict) = a
+
+-- what a turn comes to, with what follows where all wait
+unfoldable pub act_after_waiting : Act → Act
+act_after_waiting a = act_unless_over a a.verdict
+
+-- a turn that was paid for: the stop is served, or a waiting call again, and where all wait then the time passes
 unfoldable pub paid_act : Shared → Schedule → ℕ → ℕ → Prepared → Act
-paid_act c q next p d = act_of_turn q p d.work (turn_of_machine c next p d.stop d.work.machine)
+paid_act c q next p d = act_after_waiting (act_of_turn q p d.work (turn_of_machine c next p d.stop d.work.machine))
 
 -- the budget doesn't pay for the turn, and nothing of it happens
 abbrev pub unpaid_act : Shared → Schedule → Work → Act

@@ -163,6 +163,7 @@ impl Engine {
             None => match self.state.core.head() {
                 Head::NotArrived(vpid) => Ok(Admitted::NotArrived(vpid)),
                 Head::Ready(vpid) => self.take_turn(host, out, vpid),
+                Head::AllWait => unreachable!(),
                 Head::Over(verdict) => {
                     self.verdict = Some(verdict);
                     Ok(Admitted::Over(verdict))

@@ -9,6 +9,7 @@ ghost use Rattle.dt_rv64.specs.declared.segments.Stop.TheVariants.{Slice};
 ghost use Rattle.dt_sched.specs.Core.{first_core, owing_vpids, IsCore};
 ghost use Rattle.dt_calls.specs.Sound.{IsSoundContainer};
 ghost use Rattle.dt_engine.specs.Ahead.{with_all_segments, with_segment_of};
+ghost use Rattle.dt_engine.specs.InPlay.{IsAwake};
 ghost use Rattle.dt_engine.specs.inner.InCode.{state_of};
 ghost use Rattle.dt_engine.specs.inner.Good.{IsGood, steps_left};
 
@@ -74,6 +75,7 @@ impl State {
         ensures sound { IsSoundContainer self.old.container (H.view host.old)
             → OnOk result (IsSoundContainer self.new.container (H.view host.new)) }
         ensures verdict { OnOk result (self.new.core.verdict ≡ self.old.core.verdict) }
+        ensures awake { IsAwake self.old.core → OnOk result (IsAwake self.new.core) }
         ensures smaller { OnOk result (steps_left self.new.core < steps_left self.old.core) }
         ensures cause { HasCause (H.count host.old) (H.count host.new) (IsErrOf result HostErr.Failed) }
     {
@@ -96,6 +98,7 @@ impl State {
         ensures sound { (w : World) → IsSoundContainer self.old.container w
             → OnOk result (IsSoundContainer self.new.container w) }
         ensures verdict { OnOk result (self.new.core.verdict ≡ self.old.core.verdict) }
+        ensures awake { IsAwake self.old.core → OnOk result (IsAwake self.new.core) }
         ensures smaller { OnOk result (steps_left self.new.core < steps_left self.old.core) }
     {
         let seg = self.container.run_segment(vpid, hints)?;

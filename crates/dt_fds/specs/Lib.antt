@@ -4,4 +4,5 @@ pub mod Holding
 pub mod OpenFiles
 pub mod Ends
 pub mod Backs
+pub mod Ready
 pub mod inner

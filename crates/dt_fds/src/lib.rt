@@ -10,6 +10,7 @@ mod files;
 mod first;
 mod flow;
 mod pipes;
+pub mod poll;
 
 pub use desc::{DESCRIPTOR_LIMIT, Desc, DescKind, Slot, Spot};
 pub use descriptors::Descriptors;

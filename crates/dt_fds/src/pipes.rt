@@ -300,7 +300,7 @@ impl Files {
     }
 
     // Whether somebody reads from a pipe.
-    fn is_read(&self, q: u32) -> bool
+    pub(crate) fn is_read(&self, q: u32) -> bool
         ensures { result ≡ is_read (get self.now.ends q) }
     {
         match self.ends.get(u64::from(q)) {
@@ -310,7 +310,7 @@ impl Files {
     }
 
     // Whether somebody writes to a pipe.
-    fn is_written(&self, q: u32) -> bool
+    pub(crate) fn is_written(&self, q: u32) -> bool
         ensures { result ≡ is_written (get self.now.ends q) }
     {
         match self.ends.get(u64::from(q)) {

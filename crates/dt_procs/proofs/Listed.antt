@@ -1,10 +1,12 @@
 -- Lists of processes with their pids at the host, and the processes alone.
-use Rattle.std.proofs.Common.{◌≡◌, ◌∙◌, ℕ, ◌||◌, Bool, true, false, cond, List, [], ◌∷◌, map, Option, Some, None, refl, sym, ap}
-use Rattle.std.specs.Prelude.{option_map}
+use Rattle.std.proofs.Common.{◌≡◌, ◌∙◌, ℕ, ◌<◌, ◌||◌, Bool, true, false, cond, List, [], ◌∷◌, map, length, Option, Some, None, refl, sym, ap, subst}
+use Rattle.std.proofs.Math.ListN.{get_or}
+use Rattle.std.proofs.lemmas.List.{length-map, get_or-map}
+use Rattle.std.specs.Prelude.{option_map, slice_index}
 use Rattle.std.specs.List.{find, filter, list_any}
 use Rattle.dt_procs.specs.declared.member.Member.{Member}
 use Rattle.dt_procs.specs.declared.row.MemberRow.{MemberRow}
-use Rattle.dt_procs.specs.Members.{has_pid, member_at}
+use Rattle.dt_procs.specs.Members.{has_pid, member_at, vpids_of}
 use Rattle.dt_procs.specs.Table.{member_of}
 use Rattle.dt_procs.specs.inner.Rows.{row_at}
 
@@ -48,3 +50,13 @@ member_at-none rows vpid is = find-rows (has_pid vpid) rows ∙ ap (option_map m
 pub row_seen : (rows seen : List MemberRow) (vpid : ℕ) (found what : Option MemberRow) → seen ≡ rows → found ≡ row_at seen vpid
     → found ≡ what → row_at rows vpid ≡ what
 row_seen rows seen vpid found what same is there = ap (λ (l : List MemberRow). row_at l vpid) (sym same) ∙ sym is ∙ there
+
+-- the pid of a process is that of its row
+pub vpid-at : (rows : List MemberRow) (k : ℕ) (row : MemberRow) → k < length (vpids_of (map member_of rows)) → row ≡ get_or rows k row → slice_index (vpids_of (map member_of rows)) k ≡ row.member.vpid
+vpid-at rows k row within is =
+    let vpid = λ (m : Member). m.vpid in
+    let members = length-map (map member_of rows) vpid in
+    let count = length-map rows member_of in
+    get_or-map vpid (map member_of rows) k row.member 0 (subst (λ n. k < n) members within)
+    ∙ ap vpid (get_or-map member_of rows k row row.member (subst (λ n. k < n) (members ∙ count) within))
+    ∙ ap (λ (r : MemberRow). r.member.vpid) (sym is)

@@ -22,6 +22,10 @@ first_members = newborn FIRST_PID 0 ∷ []
 abbrev pub has_pid : ℕ → Member → Bool
 has_pid vpid m = m.vpid == vpid
 
+-- the pids of processes, those of zombies too
+abbrev pub vpids_of : List Member → List ℕ
+vpids_of members = map (λ m. m.vpid) members
+
 -- the process of a pid, a zombie too
 abbrev pub member_at : List Member → ℕ → Option Member
 member_at members vpid = find (has_pid vpid) members

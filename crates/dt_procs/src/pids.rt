@@ -1,12 +1,12 @@
 // The table of the processes.
-ghost use Rattle.std.specs.Prelude.{◌≡◌, ◌+◌, ◌<◌, ◌≤◌, ◌↔◌, IsTrue, IsSome, IfOk, OnOk, IsErrOf, false, true};
+ghost use Rattle.std.specs.Prelude.{◌≡◌, ◌+◌, ◌<◌, ◌≤◌, ◌↔◌, IsTrue, IsSome, IfOk, OnOk, IsErrOf, false, true, length, slice_index};
 ghost use Rattle.std.specs.FinSet.{empty};
 ghost use Rattle.dt_host.specs.Cause.{HasCause};
 ghost use Rattle.dt_host.specs.World.{OnlyPids, HostPids};
 ghost use Rattle.dt_procs.specs.declared.error.ProcErr.TheVariants.{Full, Host as host_failed};
 ghost use Rattle.dt_procs.specs.Members.{first_members, with_child, is_full, members_after_end, look_for};
 ghost use Rattle.dt_procs.specs.Members.{members_after_reap, without_member};
-ghost use Rattle.dt_procs.specs.Members.{is_got};
+ghost use Rattle.dt_procs.specs.Members.{is_got, vpids_of};
 ghost use Rattle.dt_procs.specs.Members.{member_at, parent_pid, end_of, has_live};
 ghost use Rattle.dt_procs.specs.Table.{members_of, table_of, Stands, IsTable};
 ghost use Rattle.dt_base.specs.declared.limits.TheConstants.{FIRST_PID as FIRST};
@@ -222,6 +222,21 @@ impl Pids {
         ensures { result ≡ is_full (members_of self.now) }
     {
         self.rows.len() >= PROCESS_LIMIT
+    }
+
+    /// How many processes are there, zombies included.
+    pub fn count(&self) -> usize
+        ensures { result ≡ length (vpids_of (members_of self.now)) }
+    {
+        self.rows.len()
+    }
+
+    /// The pid of a process, a zombie's too, by its index in the order of their pids.
+    pub fn vpid_at(&self, index: usize) -> u32
+        requires { index < length (vpids_of (members_of self.now)) }
+        ensures { result ≡ slice_index (vpids_of (members_of self.now)) index }
+    {
+        self.rows[index].member.vpid
     }
 
     /// The pid that the next child gets.

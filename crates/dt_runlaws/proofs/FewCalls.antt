@@ -23,13 +23,16 @@ use Rattle.dt_exec.specs.Program.{execve_program}
 use Rattle.dt_iocalls.specs.Calls.{is_io}
 use Rattle.dt_namecalls.specs.Calls.{is_naming}
 use Rattle.dt_timecalls.specs.Calls.{is_time_call}
+use Rattle.dt_late.specs.declared.numbers.TheConstants as late
+use Rattle.dt_late.specs.Itimer.{setitimer_of, getitimer_of}
+use Rattle.dt_late.specs.Poll.{PollResult, ppoll_of}
 use Rattle.dt_mcalls.specs.Called.{MemoryCallResult}
 use Rattle.dt_mcalls.specs.Mmap.{mmap_of}
 use Rattle.dt_mcalls.specs.Munmap.{munmap_of}
 use Rattle.dt_mcalls.specs.Mprotect.{mprotect_of}
 use Rattle.dt_procs.specs.declared.member.Reaped.{Reaped}
 use Rattle.dt_procs.specs.declared.member.Reaped.TheVariants.{Got, NoneReady, NoChild}
-use Rattle.dt_procs.specs.Members.{has_live, is_full, look_for, with_child, without_member}
+use Rattle.dt_procs.specs.Members.{has_live, is_full, look_for, vpids_of, with_child, without_member}
 use Rattle.dt_rv64.specs.declared.machine.Machine.{Machine}
 use Rattle.dt_rv64.specs.declared.segments.Stop.{Stop}
 use Rattle.dt_rv64.specs.declared.segments.Stop.TheVariants.{Call, Counter, Slice, Fault}
@@ -62,21 +65,24 @@ use Rattle.dt_calls.specs.FileCalls.{arguments, scene_of, with_scene, row_of, ta
 use Rattle.dt_calls.specs.Identity.{getpid_call, getppid_call, set_robust_list_call, uname_call, done_with_pages, utsname}
 use Rattle.dt_calls.specs.Kill.{is_below_one, is_unsupported_signal, has_member, kill_call, tkill_call, tgkill_call, send_effect_to}
 use Rattle.dt_calls.specs.MemoryCalls.{effect_of_memory_call, brk_call, munmap_call, mmap_call, mprotect_call}
-use Rattle.dt_calls.specs.Settle.{next_after, turn_of_machine}
+use Rattle.dt_calls.specs.LateCalls.{setitimer_call, getitimer_call, with_polling, events_of, effect_of_poll, ppoll_call, late_call}
+use Rattle.dt_calls.specs.Settle.{next_after, effect_of_turn, turn_of_machine}
 use Rattle.dt_calls.specs.SignalCalls.{AfterSigreturn, after_sigreturn, with_signals_of, effect_of_signal_call, sigaction_call, sigprocmask_call, sigreturn_call, effect_of_sigreturn}
+use Rattle.dt_calls.specs.Timers.{tasks_after_timers, shared_after_timers, effect_after_timers}
 use Rattle.dt_calls.specs.Wait.{is_group, which_child, status_bytes, usage_bytes, wait4_call, effect_of_reaped, reap_effect}
 use Rattle.dt_calls.proofs.Delivering.{takes-lives}
 use Rattle.dt_calls.specs.Sound.{LivesOn, IsLeftAfter}
+use Rattle.dt_calls.proofs.Fired.{still-timers}
 use Rattle.dt_calls.proofs.Tasks.{still-insert, still-raised, task-here}
 use Rattle.dt_runlaws.specs.Few.{outputs, output_of, ShowsFew, HasFewProcesses, ProcessTurnsShowFew}
-use Rattle.dt_runlaws.proofs.FewEnds.{live-put, live-raised, end-few, end-kept, end-outputs, end-events}
+use Rattle.dt_runlaws.proofs.FewEnds.{live-put, live-raised, live-timers, end-few, end-kept, end-outputs, end-events}
 use Rattle.dt_runlaws.proofs.FewMembers.{few-child, lives-beside, child-lives, few-reaped, lives-on}
 use Rattle.dt_runlaws.proofs.FewFiles.{io-short}
 use Rattle.dt_runlaws.proofs.FewNames.{name-short}
 use Rattle.dt_runlaws.proofs.FewPaths.{file-short}
 use Rattle.dt_runlaws.proofs.FewReplies as replies
 use Rattle.dt_runlaws.proofs.FewReplies.{IsShort, Short}
-use Rattle.dt_runlaws.proofs.FewSelf.{mmap-short, munmap-short, mprotect-short, sigaction-short, sigprocmask-short}
+use Rattle.dt_runlaws.proofs.FewSelf.{mmap-short, munmap-short, mprotect-short, sigaction-short, sigprocmask-short, setitimer-short, getitimer-short, ppoll-short}
 use Rattle.dt_runlaws.proofs.FewTimes.{timed-short}
 
 -- nothing shows
@@ -312,12 +318,41 @@ module _ (next p : ℕ) (c : Shared) (start : HasFewProcesses c next) (here : Is
   unfolding sigreturn_call
   sigreturn m = returned (after_sigreturn (task_at c p).signals m)
 
+  setitimer : (m : Machine) → Comes (setitimer_call c p m)
+  unfolding setitimer_call
+  setitimer m =
+      let short = setitimer-short (task_at c p).signals m.space c.clock (register m A0) (register m A1) (register m A2) in
+      handled m late.SETITIMER (setitimer_of (task_at c p).signals m.space c.clock (register m A0) (register m A1) (register m A2)) short.short
+
+  getitimer : (m : Machine) → Comes (getitimer_call c p m)
+  unfolding getitimer_call
+  getitimer m =
+      let short = getitimer-short (task_at c p).signals m.space c.clock (register m A0) (register m A1) in
+      handled m late.GETITIMER (getitimer_of (task_at c p).signals m.space c.clock (register m A0) (register m A1)) short.short
+
+  polled : (m : Machine) (r : PollResult) → IsShort r.answer → Comes (effect_of_poll c p m r)
+  polled m r short =
+      let t = with_polling (task_at c p) r.polling in
+      by_answer (with_task c p t) (record m { space = r.pages }) late.PPOLL r.answer (sees-task c t same) short
+
+  ppoll : (m : Machine) → Comes (ppoll_call c p m)
+  unfolding ppoll_call
+  ppoll m =
+      let short = ppoll-short (events_of c p) c.clock (task_at c p).polling m.space (arguments m) in
+      polled m (ppoll_of (events_of c p) c.clock (task_at c p).polling m.space (arguments m)) short.short
+
+  later : (number : ℕ) (m : Machine) → Comes (late_call number c p m)
+  unfolding late_call
+  later number m =
+      either (number == late.SETITIMER) _ _ (setitimer m) (either (number == late.GETITIMER) _ _ (getitimer m)
+      (either (number == late.PPOLL) _ _ (ppoll m) (file number m)))
+
   signal : (number : ℕ) (m : Machine) → Comes (signal_call number c p m)
   unfolding signal_call
   signal number m =
       either (number == abi.KILL) _ _ (kill m) (either (number == abi.TKILL) _ _ (tkill m) (either (number == abi.TGKILL) _ _ (tgkill m)
       (either (number == abi.RT_SIGACTION) _ _ (sigaction m) (either (number == abi.RT_SIGPROCMASK) _ _ (sigprocmask m)
-      (either (number == abi.RT_SIGRETURN) _ _ (sigreturn m) (file number m))))))
+      (either (number == abi.RT_SIGRETURN) _ _ (sigreturn m) (later number m))))))
 
   robust_list : (m : Machine) → Comes (set_robust_list_call c m)
   unfolding set_robust_list_call
@@ -464,6 +499,25 @@ module _ (next p : ℕ) (c : Shared) (start : HasFewProcesses c next) (here : Is
       by_child None had = tt
       by_child (Some child) had = λ lives_on. still-insert r.shared.tasks p t next (had lives_on)
 
+  -- timers that fire
+  pub fired : (r : Effect) → Comes r → Comes (effect_after_timers r)
+  unfolding shared_after_timers
+  fired r comes = record {
+    shown = comes.shown;
+    few = record {
+      members = comes.few.members;
+      lives = live-timers r.shared.clock (vpids_of r.shared.members) r.shared.tasks r.shared.members comes.few.lives;
+    };
+    kept = λ q lives some. still-timers r.shared.clock (vpids_of r.shared.members) r.shared.tasks q (comes.kept q lives some);
+    child = by_child r.child comes.child;
+    going = comes.going;
+  }
+    where
+      by_child : (child : Option Machine) → IfSome child (λ _. LivesOn p r.served next → IsSome (get r.shared.tasks next))
+          → IfSome child (λ _. LivesOn p r.served next → IsSome (get (tasks_after_timers r.shared.clock (vpids_of r.shared.members) r.shared.tasks) next))
+      by_child None had = tt
+      by_child (Some child) had = λ lives. still-timers r.shared.clock (vpids_of r.shared.members) r.shared.tasks next (had lives)
+
   delivered : (forced : Option ℕ) (r : Effect) → Comes r → Comes (effect_after_delivery forced p r)
   unfolding effect_after_delivery
   delivered forced r comes = by_takes (takes_signals r.served) refl
@@ -478,8 +532,10 @@ module _ (next p : ℕ) (c : Shared) (start : HasFewProcesses c next) (here : Is
       by_takes false is = comes
 
   -- what a turn comes to
-  pub turned : (m : Machine) (stop : Stop) → Comes (effect_after_delivery (forced_signal stop) p (effect_of_stop c next p m stop))
-  turned m stop = delivered (forced_signal stop) (effect_of_stop c next p m stop) (stopped m stop)
+  pub turned : (m : Machine) (stop : Stop) → Comes (effect_of_turn c next p m stop)
+  turned m stop =
+      delivered (forced_signal stop) (effect_after_timers (effect_of_stop c next p m stop))
+      (fired (effect_of_stop c next p m stop) (stopped m stop))
 
 pub turns-show-few : ProcessTurnsShowFew
 unfolding turn_of_machine

@@ -17,6 +17,7 @@ use Rattle.dt_tables.proofs.Maps.{at_insert, at_remove}
 use Rattle.dt_calls.specs.declared.task.Task.{Task}
 use Rattle.dt_calls.specs.Container.{Shared, Tasks, tasks_after_raise, tasks_after_raise_in, with_signals}
 use Rattle.dt_calls.specs.Ends.{shared_after_one_end, shared_after_kills, shared_after_end, kill_events, end_events}
+use Rattle.dt_calls.specs.Timers.{task_at_ticks, tasks_after_timer_in, tasks_after_timer, tasks_after_timers}
 use Rattle.dt_calls.proofs.Ended.{lives-ended, others-kept}
 use Rattle.dt_signals.specs.Signals.{with_pending}
 use Rattle.dt_runlaws.specs.Few.{outputs, HasFewProcesses}
@@ -40,6 +41,16 @@ live-raised tasks ms p signal live = by_found (get tasks p) refl
     by_found : (found : Option Task) → get tasks p ≡ found → AreLive (tasks_after_raise_in p signal tasks found) ms
     by_found None is = live
     by_found (Some t) is = live-put tasks ms p (with_signals t (with_pending signal t.signals)) live (live p (subst (λ found. IsSome found) (sym is) refl))
+
+-- timers that fire
+pub live-timers : (ticks : ℕ) (ps : List ℕ) (tasks : Tasks) (ms : List Member) → AreLive tasks ms → AreLive (tasks_after_timers ticks ps tasks) ms
+unfolding tasks_after_timers
+live-timers ticks [] tasks ms live = live
+live-timers ticks (p ∷ ps) tasks ms live = live-timers ticks ps (tasks_after_timer ticks p tasks) ms (by_found (get tasks p) refl)
+  where
+    by_found : (found : Option Task) → get tasks p ≡ found → AreLive (tasks_after_timer_in ticks p tasks found) ms
+    by_found None is = live
+    by_found (Some t) is = live-put tasks ms p (task_at_ticks ticks t) live (live p (subst (λ found. IsSome found) (sym is) refl))
 
 pub keys-raised : (tasks : Tasks) (p signal : ℕ) → length (keys (tasks_after_raise p signal tasks)) ≡ length (keys tasks)
 keys-raised tasks p signal = by_found (get tasks p) refl

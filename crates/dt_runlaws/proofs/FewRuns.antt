@@ -1,6 +1,6 @@
 -- Each turn of a run shows few events, also while machines are lent.
 use Rattle.std.proofs.Common.{◌≡◌, ℕ, zero, suc, ◌<◌, ◌-◌, List, [], ◌∷◌, drop, Bool, true, false, cond, Option, None, Some, refl, sym, subst}
-use Rattle.std.proofs.lemmas.List.Elements.{All-head}
+use Rattle.std.proofs.lemmas.List.Elements.{All-head, All-weaker}
 use Rattle.std.specs.Prelude.{IsSome, Result, Ok, Err, nat_le}
 use Rattle.std.specs.FinMap.{get}
 use Rattle.dt_base.specs.Command.{Words}
@@ -9,19 +9,24 @@ use Rattle.dt_base.specs.declared.event.Verdict.{Verdict}
 use Rattle.dt_base.specs.declared.limits.TheConstants.{FIRST_PID}
 use Rattle.dt_exec.specs.declared.program.Program.{Program}
 use Rattle.dt_exec.specs.Program.{start_program}
-use Rattle.dt_sched.specs.Order.{Schedule, schedule_after_turn, order_after_turn}
+use Rattle.dt_procs.specs.Members.{vpids_of}
+use Rattle.dt_sched.specs.Order.{Schedule, schedule_after_turn, order_after_turn, is_all_waiting, schedule_after_wake}
 use Rattle.dt_tree.specs.FileTree.{FileTree}
 use Rattle.dt_tree.specs.ImageTree.{image_tree}
+use Rattle.dt_virt.specs.Clock.{ticks_reaching}
 use Rattle.dt_virt.specs.Words.{start_bytes}
 use Rattle.dt_calls.specs.Container.{first_container}
 use Rattle.dt_calls.specs.Effect.{Effect}
 use Rattle.dt_calls.specs.Launch.{launch, launch_of_program}
 use Rattle.dt_calls.specs.Settle.{turn_of_machine, effect_of_turn, process_turn}
+use Rattle.dt_calls.specs.Timers.{tasks_after_timers, shared_after_timers, shared_after_jump, earliest_of}
+use Rattle.dt_calls.proofs.Fired.{still-timers}
 use Rattle.dt_calls.proofs.Fits.{FitsChild, served-fits}
 use Rattle.dt_calls.proofs.Tasks.{task-here}
 use Rattle.dt_engine.specs.declared.happening.Happening.{Happening}
 use Rattle.dt_engine.specs.declared.happening.Happening.TheVariants.{Ran, Admit}
-use Rattle.dt_engine.specs.Turn.{State, turn, turn_of_head, turn_of_work, turn_of_act, stuck_turn, head_pid, act, paid_act, unpaid_act, act_of_turn, settled_of}
+use Rattle.dt_engine.specs.Turn.{State, Turn, Act, turn, turn_of_head, turn_of_work, turn_of_act, stuck_turn, head_pid, act, act_after_waiting, paid_act, unpaid_act, act_of_turn, settled_of}
+use Rattle.dt_engine.specs.inner.InCode.{turn_by_earliest, turn_unless_over, turn_after_waiting}
 use Rattle.dt_engine.specs.Work.{Work, Prepared, prepared_of}
 use Rattle.dt_engine.specs.Ahead.{with_segment_of}
 use Rattle.dt_engine.specs.Playing.{Playing, playing_from, playing_in, first_playing}
@@ -29,10 +34,12 @@ use Rattle.dt_engine.specs.Happenings.{Step, is_live, may_happen, step_of, step_
 use Rattle.dt_engine.specs.Admission.{admission, admission_by, awaited}
 use Rattle.dt_engine.specs.Played.{none_played, played, played_then, turns}
 use Rattle.dt_engine.specs.Lent.{state_with_work}
+use Rattle.dt_engine.proofs.Waited.{turn-waits}
 use Rattle.dt_runlaws.specs.Few.{ShowsFew, HasFewProcesses}
 use Rattle.dt_runlaws.specs.FewRun.{HasFewIn, TurnShowsFew, AdmissionShowsFew, StatesShowFew, FirstStatesHaveFew, AdmissionsShowFew, PlayingsKeepFew, RunsShowFew}
 use Rattle.dt_runlaws.proofs.FewCalls.{Comes, turned, shows-none}
 use Rattle.dt_runlaws.proofs.FewContainers.{containers-begin-few, launches-leave-few}
+use Rattle.dt_runlaws.proofs.FewEnds.{live-timers}
 use Rattle.dt_runlaws.proofs.FewMembers.{lives-below}
 use Rattle.dt_runlaws.proofs.FewOrders.{Stand, stand-none, stand-one, order-after}
 
@@ -68,6 +75,42 @@ module _ (s : State) (p : ℕ) (rest : List ℕ) (order : s.schedule.order ≡ p
         (order-after p s.next rest s.shared.tasks e.shared.tasks first below e.served e.child comes.kept comes.child fits));
   }
 
+  -- also with what follows where all wait
+  later-few : (t : Turn) (due : Option ℕ) → TurnShowsFew t → TurnShowsFew (turn_by_earliest t due)
+  unfolding schedule_after_wake shared_after_jump shared_after_timers
+  later-few t None shows = record { shown = shows.shown; next = shows.next }
+  later-few t (Some due) shows =
+      let c = t.next.shared in
+      let ticks = ticks_reaching c.clock due in
+      record {
+        shown = shows.shown;
+        next = has-few _
+            (record {
+              members = shows.next.processes.members;
+              lives = live-timers ticks (vpids_of c.members) c.tasks c.members shows.next.processes.lives;
+            })
+            (record {
+              once = shows.next.once;
+              live = All-weaker (λ q. IsSome (get c.tasks q)) (λ q. IsSome (get (tasks_after_timers ticks (vpids_of c.members) c.tasks) q))
+                  (still-timers ticks (vpids_of c.members) c.tasks) t.next.schedule.order shows.next.tasks;
+            });
+      }
+
+  waited-few : (t : Turn) → TurnShowsFew t → TurnShowsFew (turn_after_waiting t)
+  unfolding turn_after_waiting
+  waited-few t shows = over-few t.verdict
+    where
+      all-few : (all : Bool) → TurnShowsFew (cond all (turn_by_earliest t (earliest_of t.next.shared)) t)
+      all-few true = later-few t (earliest_of t.next.shared) shows
+      all-few false = shows
+
+      over-few : (v : Option Verdict) → TurnShowsFew (turn_unless_over t v)
+      over-few None = all-few (is_all_waiting t.next.schedule)
+      over-few (Some v) = shows
+
+  waits-few : (a : Act) → TurnShowsFew (turn_of_act s p a) → TurnShowsFew (turn_of_act s p (act_after_waiting a))
+  waits-few a shows = subst TurnShowsFew (sym (turn-waits s p a)) (waited-few (turn_of_act s p a) shows)
+
   -- and one that was not
   unpaid-few : (w : Work) → TurnShowsFew (turn_of_act s p (unpaid_act s.shared s.schedule w))
   unpaid-few w = record { shown = shows-none; next = has-few _ few.processes (stand-few s few) }
@@ -79,8 +122,10 @@ module _ (s : State) (p : ℕ) (rest : List ℕ) (order : s.schedule.order ≡ p
       by_cost : (b : Bool) → TurnShowsFew (turn_of_act s p (cond b (paid_act s.shared (record s.schedule { left = s.schedule.left - d.cost }) s.next p d) (unpaid_act s.shared s.schedule d.work)))
       by_cost true =
           let fits = served-fits s.shared s.next p d.stop d.work.machine in
-          paid-few (record s.schedule { left = s.schedule.left - d.cost }) d.work (effect_of_turn s.shared s.next p d.work.machine d.stop) order
-          fits.child (turned s.next p s.shared few.processes here d.work.machine d.stop)
+          let q = record s.schedule { left = s.schedule.left - d.cost } in
+          let e = effect_of_turn s.shared s.next p d.work.machine d.stop in
+          waits-few (act_of_turn q p d.work (process_turn e))
+          (paid-few q d.work e order fits.child (turned s.next p s.shared few.processes here d.work.machine d.stop))
       by_cost false = unpaid-few d.work
 
   work-few : (found : Option Work) → TurnShowsFew (turn_of_work s p found)

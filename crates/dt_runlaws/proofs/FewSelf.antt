@@ -1,13 +1,18 @@
--- No call on a process's memory or signals answers bytes that go out.
+-- No call on a process's memory, signals or timer, and no ppoll(2), answers bytes that go out.
 use Rattle.std.proofs.Common.{ℕ, List, Bool, true, false, cond}
 use Rattle.std.specs.Prelude.{Option, None, Some, Result, Ok, Err}
 use Rattle.dt_mcalls.specs.Called.{MemoryCallResult}
 use Rattle.dt_mcalls.specs.Mmap.{mmap_at_free, mmap_fixed, mmap_by_gap, mmap_anywhere, mmap_of}
 use Rattle.dt_mcalls.specs.Munmap.{munmap_of}
 use Rattle.dt_mcalls.specs.Mprotect.{mprotect_of}
+use Rattle.dt_late.specs.declared.itimer.Itimerval.{Itimerval}
+use Rattle.dt_late.specs.declared.poll.Polling.{Polling}
+use Rattle.dt_late.specs.Itimer.{setitimer_by_new, setitimer_of, getitimer_of}
+use Rattle.dt_late.specs.Poll.{PollResult, poll_by_entries, poll_by_timeout, ppoll_of}
 use Rattle.dt_sigcalls.specs.Called.{SignalCallResult, signal_call_by_store}
 use Rattle.dt_sigcalls.specs.Sigaction.{sigaction_of, sigaction_by_new}
 use Rattle.dt_sigcalls.specs.Sigprocmask.{sigprocmask_of, sigprocmask_by_set}
+use Rattle.dt_base.specs.declared.errno.Errno.{Errno}
 use Rattle.dt_signals.specs.declared.action.Action.{Action}
 use Rattle.dt_signals.specs.declared.signals.Sig.{Sig}
 use Rattle.dt_space.specs.declared.access.Miss.{Miss}
@@ -78,3 +83,37 @@ set-short g pages how old (Ok (Some set)) = search (either_signals, store-short)
 pub sigprocmask-short : (g : Sig) (pages : List PageView) (how set old size : ℕ) → SignalsShort (sigprocmask_of g pages how set old size)
 unfolding sigprocmask_of
 sigprocmask-short g pages how set old size = search (either_signals, set-short)
+
+timer-short : (g : Sig) (pages : List PageView) (ticks old : ℕ) (new : Result Itimerval Errno) → SignalsShort (setitimer_by_new g pages ticks old new)
+timer-short g pages ticks old (Err errno) = record { short = tt }
+timer-short g pages ticks old (Ok new) = search either_signals
+
+pub setitimer-short : (g : Sig) (pages : List PageView) (ticks which new old : ℕ) → SignalsShort (setitimer_of g pages ticks which new old)
+unfolding setitimer_of
+setitimer-short g pages ticks which new old = search (either_signals, timer-short)
+
+pub getitimer-short : (g : Sig) (pages : List PageView) (ticks which buffer : ℕ) → SignalsShort (getitimer_of g pages ticks which buffer)
+unfolding getitimer_of
+getitimer-short g pages ticks which buffer = search either_signals depth 8
+
+-- the answer of a try of ppoll(2) is short
+pub record PollShort (r : PollResult) : Type 0 where
+  pub short : IsShort r.answer
+
+either_poll : (b : Bool) (x y : PollResult) → PollShort x → PollShort y → PollShort (cond b x y)
+either_poll true x y first second = first
+either_poll false x y first second = second
+
+entries-short : (found : ℕ → ℕ → ℕ) (ticks : ℕ) (pages : List PageView) (address count : ℕ) (due : Option ℕ) (entries : Result (List ℕ) Errno)
+    → PollShort (poll_by_entries found ticks pages address count due entries)
+entries-short found ticks pages address count due (Err errno) = record { short = tt }
+entries-short found ticks pages address count due (Ok entries) = search either_poll
+
+timeout-short : (found : ℕ → ℕ → ℕ) (ticks : ℕ) (polling : Polling) (pages : List PageView) (address count : ℕ) (timeout : Result (Option ℕ) Errno)
+    → PollShort (poll_by_timeout found ticks polling pages address count timeout)
+timeout-short found ticks polling pages address count (Err errno) = record { short = tt }
+timeout-short found ticks polling pages address count (Ok timeout) = entries-short found ticks pages address count _ _
+
+pub ppoll-short : (found : ℕ → ℕ → ℕ) (ticks : ℕ) (polling : Polling) (pages : List PageView) (args : List ℕ) → PollShort (ppoll_of found ticks polling pages args)
+unfolding ppoll_of
+ppoll-short found ticks polling pages args = search (either_poll, timeout-short)

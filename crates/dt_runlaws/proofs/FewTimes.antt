@@ -5,7 +5,7 @@ use Rattle.dt_base.specs.declared.errno.Errno.{Errno}
 use Rattle.dt_space.specs.declared.access.Miss.{Miss}
 use Rattle.dt_space.specs.Space.{PageView}
 use Rattle.dt_callbase.specs.Scene.{Scene, Reply}
-use Rattle.dt_timecalls.specs.declared.time.Timespec.{Timespec}
+use Rattle.dt_callbase.specs.declared.timespec.Timespec.{Timespec}
 use Rattle.dt_timecalls.specs.Calls.{time_row}
 use Rattle.dt_timecalls.specs.Time as time
 use Rattle.dt_timecalls.specs.Random as random

@@ -1,6 +1,6 @@
 -- What a turn leaves of a state, also where it ends the run: each live process has its work still, and stands once in the order
 -- of turns.
-use Rattle.std.proofs.Common.{◌≡◌, ◌≢◌, ℕ, ◌-◌, ◌<◌, ◌==◌, Bool, true, false, cond, List, [], ◌∷◌, length, drop, Option, Some, None, refl, sym, subst, arith, nat_le}
+use Rattle.std.proofs.Common.{◌≡◌, ◌≢◌, ℕ, ◌-◌, ◌<◌, ◌==◌, Bool, true, false, cond, List, [], ◌∷◌, drop, Option, Some, None, refl, sym, subst, arith, nat_le}
 use Rattle.std.specs.Prelude.{IsSome, IsTrue, option_map}
 use Rattle.std.specs.List.{AllByRecursion}
 use Rattle.std.specs.Cmp.{nat_cmp_total}
@@ -12,17 +12,20 @@ use Rattle.dt_rv64.specs.declared.machine.Machine.{Machine}
 use Rattle.dt_calls.specs.declared.container.Served.{Served}
 use Rattle.dt_calls.specs.declared.container.Served.TheVariants.{Done, Child, LastChild, Blocked, Progress, Ended, Unsupported}
 use Rattle.dt_calls.specs.Settle.{ProcessTurn, is_end_of_all, turn_of_machine, with_own, next_after}
+use Rattle.dt_calls.specs.Timers.{earliest_of}
 use Rattle.dt_calls.proofs.Fits.{Fits, served-fits}
 use Rattle.dt_sched.specs.declared.settled.Settled.{Settled}
-use Rattle.dt_sched.specs.Order.{Schedule, order_after_turn, verdict_after, schedule_after_turn, verdict_of_turn}
+use Rattle.dt_sched.specs.Order.{Schedule, order_after_turn, verdict_after, schedule_after_turn, verdict_of_turn, is_all_waiting, schedule_after_wake}
 use Rattle.dt_engine.specs.Work.{Work, Works, Prepared, owing_work, prepared_of}
-use Rattle.dt_engine.specs.Turn.{State, settled_of, own_work_after, act_of_turn, paid_act, unpaid_act, act, is_ended_verdict, with_child_work, works_after_act, turn_of_act, turn_of_work, turn_of_head, head_pid, turn}
+use Rattle.dt_engine.specs.Turn.{State, Turn, Act, settled_of, own_work_after, act_of_turn, act_after_waiting, paid_act, unpaid_act, act, is_ended_verdict, with_child_work, works_after_act, turn_of_act, turn_of_work, turn_of_head, head_pid, turn}
 use Rattle.dt_engine.specs.InPlay.{IsFull}
+use Rattle.dt_engine.specs.inner.InCode.{turn_by_earliest, turn_unless_over, turn_after_waiting}
 use Rattle.dt_engine.proofs.Kept.{all-weaker, own-lives, child-is}
 use Rattle.dt_engine.proofs.Noted.{fits-next}
 use Rattle.dt_engine.proofs.Placed.{born-child, next-later, next-child}
 use Rattle.dt_engine.proofs.Rounds.{all-more}
 use Rattle.dt_engine.proofs.Standings.{GoesOn, IsNext, makes_child}
+use Rattle.dt_engine.proofs.Waited.{turn-waits}
 use Rattle.dt_runlaws.specs.Shown.{AreDistinct, HasDistinctOrder}
 use Rattle.dt_runlaws.proofs.Pids.{distinct-more, distinct-two-more, all-two-more}
 
@@ -82,19 +85,14 @@ module _ (p : ℕ) (rest : List ℕ) where
   all-over P (Unsupported number) over = cc
 
 -- and at no other time have all ended
-block-on : (b : Bool) → is_ended_verdict (cond b (Some verdict.Deadlock) None) ≡ false
-block-on true = refl
-block-on false = refl
-
-goes-on : (p blocked count : ℕ) (served : Served) → is_end_of_all p served ≡ false
-    → is_ended_verdict (verdict_after p blocked count (settled_of served)) ≡ false
-goes-on p blocked count Done on = refl
-goes-on p blocked count (Child vpid) on = refl
-goes-on p blocked count (LastChild vpid) on = not-ended (p == 1) verdict.Ended on
-goes-on p blocked count Blocked on = block-on (blocked == count)
-goes-on p blocked count Progress on = refl
-goes-on p blocked count Ended on = not-ended (p == 1) verdict.Ended on
-goes-on p blocked count (Unsupported number) on = refl
+goes-on : (p : ℕ) (served : Served) → is_end_of_all p served ≡ false → is_ended_verdict (verdict_after p (settled_of served)) ≡ false
+goes-on p Done on = refl
+goes-on p (Child vpid) on = refl
+goes-on p (LastChild vpid) on = not-ended (p == 1) verdict.Ended on
+goes-on p Blocked on = refl
+goes-on p Progress on = refl
+goes-on p Ended on = not-ended (p == 1) verdict.Ended on
+goes-on p (Unsupported number) on = refl
 
 -- works after a turn
 own-there : (works : Works) (p : ℕ) (own : Option Work) (q : ℕ) → q ≢ p → IsSome (get works q) → IsSome (get (with_own works p own) q)
@@ -131,6 +129,28 @@ all-two-facts P Q R both (x ∷ xs) p q = (both x p.0 q.0, all-two-facts P Q R b
 pub record Keeps (n : State) : Type 0 where
   pub full : IsFull n
   pub ordered : HasDistinctOrder n
+
+-- so it is also with what follows where all wait
+module _ (t : Turn) (keeps : Keeps t.next) where
+  later-keeps : (due : Option ℕ) → (let u = turn_by_earliest t due in Keeps u.next)
+  unfolding schedule_after_wake
+  later-keeps None = keeps
+  later-keeps (Some due) = record { full = keeps.full; ordered = record { once = keeps.ordered.once; given = keeps.ordered.given } }
+
+  all-keeps : (all : Bool) (due : Option ℕ) → (let u : Turn = cond all (turn_by_earliest t due) t in Keeps u.next)
+  all-keeps true due = later-keeps due
+  all-keeps false due = keeps
+
+  over-keeps : (v : Option Verdict) → (let u = turn_unless_over t v in Keeps u.next)
+  over-keeps None = all-keeps (is_all_waiting t.next.schedule) (earliest_of t.next.shared)
+  over-keeps (Some v) = keeps
+
+  waited-keeps : (let u = turn_after_waiting t in Keeps u.next)
+  unfolding turn_after_waiting
+  waited-keeps = over-keeps t.verdict
+
+waits-keeps : (s : State) (p : ℕ) (a : Act) → (let t = turn_of_act s p a in Keeps t.next) → (let u = turn_of_act s p (act_after_waiting a) in Keeps u.next)
+waits-keeps s p a keeps = subst (λ (u : Turn). Keeps u.next) (sym (turn-waits s p a)) (waited-keeps (turn_of_act s p a) keeps)
 
 module _ (s : State) (p : ℕ) (rest : List ℕ) (order : s.schedule.order ≡ p ∷ rest) (once : AreDistinct (p ∷ rest))
     (given : AllByRecursion (λ q. q < s.next) (p ∷ rest)) (full : AllByRecursion (λ x. IsSome (get s.works x)) (p ∷ rest)) where
@@ -174,21 +194,20 @@ module _ (s : State) (p : ℕ) (rest : List ℕ) (order : s.schedule.order ≡ p
         (λ made x is. subst (λ n. IsSome (get works n)) (sym (child-is s.next x r.served made is (fits-next s.next r.served r.child fits.child)))
         (child-here _ s.next r.child (born-child s.next r.served r.child fits.child made)))
 
-    full-after : (blocked count : ℕ) (over : Bool) → is_end_of_all p r.served ≡ over
-        → AllByRecursion (λ x. IsSome (get (cond (is_ended_verdict (verdict_after p blocked count t)) empty works) x)) (order-then p rest r.served)
-    full-after blocked count true over = all-over p rest _ r.served over
-    full-after blocked count false on =
+    full-after : (over : Bool) → is_end_of_all p r.served ≡ over
+        → AllByRecursion (λ x. IsSome (get (cond (is_ended_verdict (verdict_after p t)) empty works) x)) (order-then p rest r.served)
+    full-after true over = all-over p rest _ r.served over
+    full-after false on =
         subst (λ ended. AllByRecursion (λ x. IsSome (get (cond ended empty works) x)) (order-then p rest r.served))
-        (sym (goes-on p blocked count r.served on)) works-after
+        (sym (goes-on p r.served on)) works-after
 
     paid-keeps : (q : Schedule) → q.order ≡ p ∷ rest → (let a = act_of_turn q p w r in let n = turn_of_act s p a in Keeps n.next)
     unfolding act_of_turn schedule_after_turn verdict_of_turn works_after_act
     paid-keeps q stands =
-        let to = schedule_after_turn q p t in
-        let ended = is_ended_verdict (verdict_after p to.blocked (length to.order) t) in
+        let ended = is_ended_verdict (verdict_after p t) in
         record {
           full = subst (λ ps. AllByRecursion (λ x. IsSome (get (cond ended empty works) x)) (order_after_turn p p p (λ child. child) (drop 1 ps) t))
-              (sym stands) (full-after to.blocked (length to.order) (is_end_of_all p r.served) refl);
+              (sym stands) (full-after (is_end_of_all p r.served) refl);
           ordered = record {
             once = subst (λ ps. AreDistinct (order_after_turn p p p (λ child. child) (drop 1 ps) t)) (sym stands)
                 (distinct-after p rest r.served once new-apart);
@@ -213,8 +232,9 @@ module _ (s : State) (p : ℕ) (rest : List ℕ) (order : s.schedule.order ≡ p
       let n = turn_of_act s p a in Keeps n.next)
   unfolding paid_act
   act-keeps d true =
+      let q = record s.schedule { left = s.schedule.left - d.cost } in
       let r = turn_of_machine s.shared s.next p d.stop d.work.machine in
-      paid-keeps d.work r (served-fits s.shared s.next p d.stop d.work.machine) (record s.schedule { left = s.schedule.left - d.cost }) order
+      waits-keeps s p (act_of_turn q p d.work r) (paid-keeps d.work r (served-fits s.shared s.next p d.stop d.work.machine) q order)
   act-keeps d false = unpaid-keeps d.work
 
   work-keeps : (found : Option Work) → IsSome found → (let n = turn_of_work s p found in Keeps n.next)

@@ -1,7 +1,7 @@
 -- An arrival of another process beside the head's turn.
-use Rattle.std.proofs.Common.{ℕ, ◌≡◌, ◌≢◌, ◌-◌, ◌==◌, Bool, true, false, cond, List, [], ◌∷◌, ◌++◌, map, length, refl, sym, ap, ◌∙◌, arith}
+use Rattle.std.proofs.Common.{ℕ, ◌≡◌, ◌≢◌, ◌-◌, ◌==◌, Bool, true, false, cond, List, [], ◌∷◌, ◌++◌, map, refl, sym, ap, ◌∙◌, arith}
 use Rattle.std.proofs.lemmas.Bool.Decides.{nat_tests}
-use Rattle.std.proofs.lemmas.List.{length-map, map-append}
+use Rattle.std.proofs.lemmas.List.{map-append}
 use Rattle.dt_sched.specs.declared.process.Process.{Process}
 use Rattle.dt_sched.specs.declared.process.Phase.TheVariants.{Waits as PhaseWaits}
 use Rattle.dt_sched.specs.declared.settled.Settled.{Settled}
@@ -43,12 +43,11 @@ module _ (vpid cost : ℕ) where
       → core_after_arrival vpid cost (core_after_turn_of core (p ∷ ps) turn) ≡ core_after_turn_of (core_after_arrival vpid cost core) (map at (p ∷ ps)) turn
   settled-beside core p ps turn apart none =
       let queue = queue-beside p ps turn apart none in
-      let count = sym (length-map (processes_after_turn p ps turn) at) ∙ ap length queue in
       (λ i. record {
         queue = queue i;
         blocked = blocked_after core.blocked turn;
         left = core.left - cost_of p.phase;
-        verdict = verdict_after p.vpid (blocked_after core.blocked turn) (count i) turn;
+        verdict = verdict_after p.vpid turn;
       })
       ∙ ap (λ x. core_after_turn_of (core_after_arrival vpid cost core) (x ∷ map at ps) turn) (sym (at-other p apart))
 

@@ -5,14 +5,15 @@ use Rattle.std.proofs.lemmas.Bool.Decides.{nat_tests}
 use Rattle.std.proofs.lemmas.Grind.{get_or_default_zero}
 use Rattle.std.specs.List.{filter}
 use Rattle.dt_sched.specs.declared.queue.TheConstants.{QUEUE_LIMIT}
-use Rattle.dt_sched.specs.declared.settled.Head.TheVariants.{Ready, Over}
+use Rattle.dt_sched.specs.declared.settled.Head.{Head}
+use Rattle.dt_sched.specs.declared.settled.Head.TheVariants.{Ready, AllWait, Over}
 use Rattle.dt_base.specs.declared.event.Verdict.{Verdict}
 use Rattle.dt_sched.specs.inner.Queue.{IsQueue, owing_indices, indices_without_head, first_process, has_ready_head, after_turn_of_head}
 use Rattle.dt_sched.specs.declared.process.Process.{Process}
 use Rattle.dt_sched.specs.declared.process.Phase.TheVariants.{Ran}
 use Rattle.dt_sched.specs.declared.settled.Settled.{Settled}
 use Rattle.dt_sched.specs.declared.settled.Settled.TheVariants.{Again, Child, LastChild, Waits as Blocked, Moved, Gone, Stopped}
-use Rattle.dt_sched.specs.Core.{is_queued, is_distinct, owing_vpids, is_owing, is_vpid_waiting, process_after_arrival, processes_after_turn, IsOngoing, CoreView, IsReady, head_unless_over, is_segment_count, have_segment_counts}
+use Rattle.dt_sched.specs.Core.{is_queued, is_distinct, owing_vpids, is_owing, is_vpid_waiting, process_after_arrival, processes_after_turn, IsOngoing, CoreView, IsReady, head, queue_head, head_unless_over, is_segment_count, have_segment_counts}
 use Rattle.dt_sched.specs.Order.{blocked_after, verdict_after}
 
 -- two arrivals at one process
@@ -307,7 +308,7 @@ table-push xs queue ys x index owed more indices others table same new fits last
 
 -- process 1 lives on where there is no verdict
 pub first-after : (p : Process) (rest : List Process) (blocked : ℕ) (turn : Settled) → IsTrue (is_queued 1 (p ∷ rest))
-    → verdict_after p.vpid (blocked_after blocked turn) (length (processes_after_turn p rest turn)) turn ≡ None
+    → verdict_after p.vpid turn ≡ None
     → IsTrue (is_queued 1 (processes_after_turn p rest turn))
 first-after p rest blocked Again first none = grind (arith, nat_tests, holds-append)
 first-after p rest blocked (Child child) first none = grind (arith, nat_tests, holds-append)
@@ -322,11 +323,11 @@ pub some : (vpid : ℕ) (xs : List Process) → IsTrue (is_queued vpid xs) → 0
 some vpid [] held = grind arith
 some vpid (x ∷ xs) held = grind arith
 
--- fewer turns in a row were blocked than there are processes where there is no verdict
+-- no more turns in a row were blocked than there are processes where there is no verdict
 pub fewer-after : (p : Process) (rest : List Process) (blocked : ℕ) (turn : Settled)
     → IsTrue (is_queued 1 (p ∷ rest)) → blocked < length (p ∷ rest)
-    → verdict_after p.vpid (blocked_after blocked turn) (length (processes_after_turn p rest turn)) turn ≡ None
-    → blocked_after blocked turn < length (processes_after_turn p rest turn)
+    → verdict_after p.vpid turn ≡ None
+    → blocked_after blocked turn ≤ length (processes_after_turn p rest turn)
 fewer-after p rest blocked Again first below none = grind (arith, nat_tests, length-append {A = Process}, some)
 fewer-after p rest blocked (Child child) first below none = grind (
   arith,
@@ -354,19 +355,30 @@ fewer-after p rest blocked (Stopped number) first below none = grind (
 )
 
 -- a head is ready only where there is no verdict
-pub none-ready : (verdict : Option Verdict) (left : ℕ) (queue : List Process)
-    → IsReady (head_unless_over verdict left queue) → verdict ≡ None
-none-ready None left queue ready = refl
-none-ready (Some v) left queue ready = let e : Over v ≡ Ready ready.0 = ready.1 in cc
+pub none-ready : (verdict : Option Verdict) (blocked left : ℕ) (queue : List Process)
+    → IsReady (head_unless_over verdict blocked left queue) → verdict ≡ None
+none-ready None blocked left queue ready = refl
+none-ready (Some v) blocked left queue ready = let e : Over v ≡ Ready ready.0 = ready.1 in cc
+
+-- and only where not all wait
+not-all : (b : Bool) (next : Head) → IsReady (cond b AllWait next) → b ≡ false
+not-all false next ready = refl
+not-all true next ready = let e : AllWait ≡ Ready ready.0 = ready.1 in cc
+
+pub fewer-ready : (verdict : Option Verdict) (blocked left : ℕ) (queue : List Process)
+    → IsReady (head_unless_over verdict blocked left queue) → blocked ≤ length queue → blocked < length queue
+fewer-ready None blocked left queue ready most =
+    let apart = not-all (blocked == length queue) (queue_head left queue) ready in grind (arith, nat_tests)
+fewer-ready (Some v) blocked left queue ready most = let e : Over v ≡ Ready ready.0 = ready.1 in cc
 
 going-at : (xs : List Process) (before : ℕ) (new : CoreView) (p : Process) (turn : Settled)
     → first_process xs ≡ Some p → IsTrue (is_queued 1 xs)
     → before < length xs → new.queue ≡ after_turn_of_head xs turn → new.blocked ≡ blocked_after before turn
-    → verdict_after p.vpid new.blocked (length new.queue) turn ≡ None → IsOngoing new
+    → verdict_after p.vpid turn ≡ None → IsOngoing new
 going-at [] before new p turn first held below queue blocked none = absurd (omega arith)
 going-at (x ∷ rest) before new p turn first held below queue blocked none =
     let same : x ≡ p = cc in
-    let ended : verdict_after x.vpid (blocked_after before turn) (length (processes_after_turn x rest turn)) turn ≡ None = rw (← blocked, ← queue, same) none in
+    let ended : verdict_after x.vpid turn ≡ None = rw same none in
     record {
       first = rw queue (first-after x rest before turn held ended);
       blocked = rw (blocked, queue) (fewer-after x rest before turn held below ended);
@@ -374,10 +386,11 @@ going-at (x ∷ rest) before new p turn first held below queue blocked none =
 
 -- the run goes on where there is no verdict
 pub going-after : (old new : CoreView) (p : Process) (turn : Settled) → first_process old.queue ≡ Some p → IsOngoing old
-    → new.queue ≡ after_turn_of_head old.queue turn → new.blocked ≡ blocked_after old.blocked turn
-    → new.verdict ≡ verdict_after p.vpid new.blocked (length new.queue) turn → new.verdict ≡ None → IsOngoing new
-going-after old new p turn first going queue blocked verdict none =
-    going-at old.queue old.blocked new p turn first going.first going.blocked queue blocked (sym verdict ∙ none)
+    → IsReady (head old) → new.queue ≡ after_turn_of_head old.queue turn → new.blocked ≡ blocked_after old.blocked turn
+    → new.verdict ≡ verdict_after p.vpid turn → new.verdict ≡ None → IsOngoing new
+going-after old new p turn first going ready queue blocked verdict none =
+    let fewer = fewer-ready old.verdict old.blocked old.left old.queue ready going.blocked in
+    going-at old.queue old.blocked new p turn first going.first fewer queue blocked (sym verdict ∙ none)
 
 -- counts stay those of segments
 pub counted-arrived : (vpid cost : ℕ) (xs : List Process) → IsTrue (is_segment_count cost) → IsTrue (have_segment_counts xs)

@@ -1,14 +1,14 @@
 -- The queue of live processes, and what each call makes of it.
-use Rattle.std.specs.Prelude.{ℕ, ◌≡◌, ◌-◌, ◌<◌, ◌≤◌, ◌==◌, Bool, true, false, not, ◌&&◌, ◌||◌, List, [], ◌∷◌, map, length, nat_le, nat_lt, Option, Some, None, IsTrue, if◌then◌else◌}
+use Rattle.std.specs.Prelude.{ℕ, ◌≡◌, ◌-◌, ◌≤◌, ◌==◌, Bool, true, false, not, ◌&&◌, ◌||◌, List, [], ◌∷◌, map, length, nat_le, nat_lt, Option, Some, None, IsTrue, if◌then◌else◌}
 use Rattle.dt_base.specs.declared.event.Verdict.{Verdict}
-use Rattle.dt_base.specs.declared.event.Verdict.TheVariants.{Ended, Budget}
+use Rattle.dt_base.specs.declared.event.Verdict.TheVariants.{Ended, Deadlock, Budget}
 use Rattle.dt_base.specs.declared.limits.TheConstants.{FIRST_PID, SEGMENT_LIMIT}
 use Rattle.dt_sched.specs.declared.queue.TheConstants.{QUEUE_LIMIT}
 use Rattle.dt_sched.specs.declared.process.Process.{Process}
 use Rattle.dt_sched.specs.declared.process.Phase.{Phase}
 use Rattle.dt_sched.specs.declared.process.Phase.TheVariants.{Owes, Ran, Waits}
 use Rattle.dt_sched.specs.declared.settled.Head.{Head}
-use Rattle.dt_sched.specs.declared.settled.Head.TheVariants.{NotArrived, Ready, Over}
+use Rattle.dt_sched.specs.declared.settled.Head.TheVariants.{NotArrived, Ready, AllWait, Over}
 use Rattle.dt_sched.specs.declared.settled.Settled.{Settled}
 use Rattle.dt_sched.specs.declared.settled.Settled.TheVariants.{Again, Child, LastChild, Waits as Blocked, Moved, Gone, Stopped}
 use Rattle.dt_sched.specs.Order.{order_after_turn, blocked_after, verdict_after}
@@ -108,14 +108,15 @@ queue_head left (p ∷ ps) =
     else if nat_le (cost_of p.phase) left then Ready p.vpid
     else Over Budget
 
--- the verdict comes before the head
-abbrev pub head_unless_over : Option Verdict → ℕ → List Process → Head
-head_unless_over None left queue = queue_head left queue
-head_unless_over (Some verdict) left queue = Over verdict
+-- the verdict comes before the head, and so does that all wait: that as many turns in a row were blocked as there are live
+-- processes
+abbrev pub head_unless_over : Option Verdict → ℕ → ℕ → List Process → Head
+head_unless_over None blocked left queue = if blocked == length queue then AllWait else queue_head left queue
+head_unless_over (Some verdict) blocked left queue = Over verdict
 
--- the verdict where there is one, else the head of the queue
+-- the verdict where there is one, else that all wait, or the head of the queue
 abbrev pub head : CoreView → Head
-head core = head_unless_over core.verdict core.left core.queue
+head core = head_unless_over core.verdict core.blocked core.left core.queue
 
 -- the head can take its turn
 abbrev pub IsReady : Head → Type 0
@@ -150,13 +151,21 @@ core_after_turn_of core (p ∷ rest) turn =
       queue = queue;
       blocked = blocked;
       left = core.left - cost_of p.phase;
-      verdict = verdict_after p.vpid blocked (length queue) turn;
+      verdict = verdict_after p.vpid turn;
     }
 
 -- what a turn of the head makes of the queue, the count of blocked turns, the budget, which falls by its cost, and
 -- the verdict
 abbrev pub core_after_turn : CoreView → Settled → CoreView
 core_after_turn core turn = core_after_turn_of core core.queue turn
+
+-- something has happened for which processes may have waited: no turn in a row was blocked since then
+abbrev pub core_after_wake : CoreView → CoreView
+core_after_wake core = record core { blocked = 0 }
+
+-- nothing can happen for which the processes wait, and the run is over
+abbrev pub core_after_deadlock : CoreView → CoreView
+core_after_deadlock core = record core { verdict = Some Deadlock }
 
 -- a child's virtual pid is new to the queue, and where its parent lives there is room in the queue
 abbrev pub has_room : List Process → Settled → Bool
@@ -168,10 +177,10 @@ has_room queue Moved = true
 has_room queue Gone = true
 has_room queue (Stopped number) = true
 
--- no turn has ended the run: process 1 lives, and fewer turns in a row were blocked than there are live processes
+-- no turn has ended the run: process 1 lives, and no more turns in a row were blocked than there are live processes
 pub record IsOngoing (core : CoreView) : Type 0 where
   pub first : IsTrue (is_queued FIRST_PID core.queue)
-  pub blocked : core.blocked < length core.queue
+  pub blocked : core.blocked ≤ length core.queue
 
 -- the queue holds each live process once, as many as it has room for, with counts that segments have; without a verdict no
 -- turn has ended the run

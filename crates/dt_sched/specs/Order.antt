@@ -1,8 +1,9 @@
--- What a turn of its head makes of the queue: the order of turns, the blocked turns in a row, and the verdict.
-use Rattle.std.specs.Prelude.{ℕ, ◌+◌, ◌==◌, List, [], ◌∷◌, ◌++◌, drop, length, Option, Some, None, if◌then◌else◌}
+-- What a turn of its head makes of the queue: the order of turns, the blocked turns in a row, and the verdict; and when all
+-- wait.
+use Rattle.std.specs.Prelude.{ℕ, ◌+◌, ◌==◌, Bool, List, [], ◌∷◌, ◌++◌, drop, length, Option, Some, None, if◌then◌else◌}
 use Rattle.dt_base.specs.declared.limits.TheConstants.{FIRST_PID}
 use Rattle.dt_base.specs.declared.event.Verdict.{Verdict}
-use Rattle.dt_base.specs.declared.event.Verdict.TheVariants.{Ended, Deadlock, Unsupported}
+use Rattle.dt_base.specs.declared.event.Verdict.TheVariants.{Ended, Unsupported}
 use Rattle.dt_sched.specs.declared.settled.Settled.{Settled}
 use Rattle.dt_sched.specs.declared.settled.Settled.TheVariants.{Again, Child, LastChild, Waits, Moved, Gone, Stopped}
 
@@ -33,16 +34,15 @@ blocked_after blocked Moved = 0
 blocked_after blocked Gone = 0
 blocked_after blocked (Stopped number) = blocked
 
--- the verdict is Ended at the end of process 1, Deadlock where the blocked turns in a row are as many as the live
--- processes, and Unsupported at an unsupported call
-abbrev pub verdict_after : ℕ → ℕ → ℕ → Settled → Option Verdict
-verdict_after vpid blocked count Again = None
-verdict_after vpid blocked count (Child child) = None
-verdict_after vpid blocked count (LastChild child) = if vpid == FIRST_PID then Some Ended else None
-verdict_after vpid blocked count Waits = if blocked == count then Some Deadlock else None
-verdict_after vpid blocked count Moved = None
-verdict_after vpid blocked count Gone = if vpid == FIRST_PID then Some Ended else None
-verdict_after vpid blocked count (Stopped number) = Some (Unsupported vpid number)
+-- the verdict of a turn is Ended at the end of process 1, and Unsupported at an unsupported call
+abbrev pub verdict_after : ℕ → Settled → Option Verdict
+verdict_after vpid Again = None
+verdict_after vpid (Child child) = None
+verdict_after vpid (LastChild child) = if vpid == FIRST_PID then Some Ended else None
+verdict_after vpid Waits = None
+verdict_after vpid Moved = None
+verdict_after vpid Gone = if vpid == FIRST_PID then Some Ended else None
+verdict_after vpid (Stopped number) = Some (Unsupported vpid number)
 
 -- what decides whose turn comes, and whether one does: the pids of the live processes in the order of their turns, the
 -- blocked turns in a row, and the budget that is left, in steps
@@ -59,6 +59,14 @@ schedule_after_turn s head turn = record {
   left = s.left;
 }
 
--- the verdict of a turn, by the schedule after it
-unfoldable pub verdict_of_turn : Schedule → ℕ → Settled → Option Verdict
-verdict_of_turn s head turn = verdict_after head s.blocked (length s.order) turn
+-- the verdict of a turn of this process
+unfoldable pub verdict_of_turn : ℕ → Settled → Option Verdict
+verdict_of_turn head turn = verdict_after head turn
+
+-- all wait: as many turns in a row were blocked as there are live processes
+unfoldable pub is_all_waiting : Schedule → Bool
+is_all_waiting s = s.blocked == length s.order
+
+-- the schedule once something has happened for which processes may have waited
+unfoldable pub schedule_after_wake : Schedule → Schedule
+schedule_after_wake s = record s { blocked = 0 }

@@ -3,7 +3,7 @@ ghost use Rattle.std.specs.Prelude.{◌≡◌, ◌<◌, ◌≤◌, IfOk, IsTrue,
 ghost use Rattle.std.specs.List.{Contains};
 ghost use Rattle.dt_sched.specs.declared.queue.TheConstants.{QUEUE_LIMIT};
 ghost use Rattle.dt_sched.specs.Core.{first_core, over_core, owing_vpids, is_vpid_waiting, core_after_arrival, cost_of, head};
-ghost use Rattle.dt_sched.specs.Core.{IsReady, core_after_turn, has_room};
+ghost use Rattle.dt_sched.specs.Core.{IsReady, core_after_turn, core_after_wake, core_after_deadlock, has_room};
 ghost use Rattle.dt_sched.specs.Core.{is_segment_count, IsCore};
 ghost use Rattle.dt_sched.specs.Order.{blocked_after, verdict_after};
 ghost use Rattle.dt_sched.specs.Laws.{ArrivalsCommute, ArrivalBesideTurn, HeadStays};
@@ -49,7 +49,7 @@ impl Phase<u32> {
 
 // The blocked turns in a row after a turn.
 fn blocked_after(blocked: usize, turn: Settled) -> usize
-    requires { blocked < QUEUE_LIMIT }
+    requires { blocked ≤ QUEUE_LIMIT }
     ensures { result ≡ blocked_after blocked turn }
 {
     match turn {
@@ -63,13 +63,12 @@ fn blocked_after(blocked: usize, turn: Settled) -> usize
     }
 }
 
-// The verdict after a turn of this process, so many blocked turns in a row, with so many processes.
-fn verdict_after(vpid: u32, blocked: usize, count: usize, turn: Settled) -> Option<Verdict>
-    ensures { result ≡ verdict_after vpid blocked count turn }
+// The verdict of a turn of this process.
+fn verdict_after(vpid: u32, turn: Settled) -> Option<Verdict>
+    ensures { result ≡ verdict_after vpid turn }
 {
     match turn {
         Settled::LastChild(_) | Settled::Gone if vpid == FIRST_PID => Some(Verdict::Ended),
-        Settled::Waits if blocked == count => Some(Verdict::Deadlock),
         Settled::Stopped(number) => Some(Verdict::Unsupported(vpid, number)),
         Settled::Again
         | Settled::Child(_)
@@ -137,14 +136,15 @@ impl Core {
         self.queue.arrived(vpid, cost);
     }
 
-    /// What can be done next: over where there is a verdict, or where the head's turn costs more than is left of the
-    /// budget.
+    /// What can be done next: over where there is a verdict; all wait where as many turns in a row were blocked as there
+    /// are live processes; and over where the head's turn costs more than is left of the budget.
     pub fn head(&self) -> Head
         ensures head { result ≡ head self.now }
         ensures sound { IsCore self.now }
     {
         match (self.verdict, self.queue.first()) {
             (Some(verdict), _) => Head::Over(verdict),
+            (None, _) if self.blocked == self.queue.len() => Head::AllWait,
             (None, None) => Head::Over(Verdict::Ended),
             (None, Some(Process { vpid, phase })) if phase.is_owing() => Head::NotArrived(vpid),
             (None, Some(Process { vpid, phase })) if phase.cost() <= self.left => Head::Ready(vpid),
@@ -162,10 +162,27 @@ impl Core {
     {
         if let Some(Process { vpid, phase }) = self.queue.first() {
             self.queue.settle(turn);
+            let _count = self.queue.len();
             self.blocked = blocked_after(self.blocked, turn);
             self.left -= phase.cost();
-            self.verdict = verdict_after(vpid, self.blocked, self.queue.len(), turn);
+            self.verdict = verdict_after(vpid, turn);
         }
+    }
+
+    /// Something has happened for which processes may have waited, where all do: no turn in a row was blocked since then.
+    pub fn resume(&mut self)
+        requires { head self.old ≡ Head.AllWait }
+        ensures { self.new ≡ core_after_wake self.old }
+    {
+        self.blocked = 0;
+    }
+
+    /// Nothing can happen for which the processes wait, where all do: the run is over.
+    pub fn dead(&mut self)
+        requires { head self.old ≡ Head.AllWait }
+        ensures { self.new ≡ core_after_deadlock self.old }
+    {
+        self.verdict = Some(Verdict::Deadlock);
     }
 
     /// Whether the process of this virtual pid waits, so that its call is tried again at its turn.

@@ -8,6 +8,8 @@ pub enum Head {
     NotArrived(u32),
     /// The head, by its virtual pid, can take its turn.
     Ready(u32),
+    /// Each live process waits, and its call was tried in vain since anything happened.
+    AllWait,
     /// The run is over.
     Over(Verdict),
 }

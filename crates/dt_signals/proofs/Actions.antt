@@ -19,4 +19,5 @@ kept-more old now index kept other within is this =
     let more = map_over_more action_after_exec old.actions now.actions index action within sofar read in
     let mask = ap (λ (g : Sig). g.mask) is in
     let pending = ap (λ (g : Sig). g.pending) is in
-    rw (mask, pending, this, more) refl
+    let timer = ap (λ (g : Sig). g.timer) is in
+    rw (mask, pending, timer, this, more) refl

@@ -16,7 +16,7 @@ use Rattle.dt_signals.specs.declared.signals.Sig.{Sig}
 use Rattle.dt_signals.specs.declared.delivery.Delivery.{Delivery}
 use Rattle.dt_signals.specs.declared.delivery.Delivery.TheVariants.{Nothing, Handler, Ends}
 use Rattle.dt_signals.specs.declared.delivery.CallState.{CallState}
-use Rattle.dt_signals.specs.declared.delivery.CallState.TheVariants.{Plain, Waits}
+use Rattle.dt_signals.specs.declared.delivery.CallState.TheVariants.{Plain, Waits, Polls}
 use Rattle.dt_signals.specs.Signals.{action_of, bit_of, lowest_deliverable, has_handler, is_in, is_signal, without_pending, with_mask, without_ignored}
 use Rattle.dt_signals.specs.Frame.{frame_address, frame_of}
 
@@ -30,14 +30,20 @@ pub record DeliveryResult : Type 0 where
 abbrev pub delivery_result : Delivery → Sig → Machine → DeliveryResult
 delivery_result delivery g m = record { delivery = delivery; signals = g; machine = m }
 
+-- a call is refused with EINTR
+abbrev pub refused_by_interrupt : Machine → Machine
+refused_by_interrupt m = machine_after_answer m (2 ^ 64 - errno_number Intr)
+
 -- a call that waits is over before a handler runs: it answers how many bytes it has moved; where it has moved none it is
--- made again after the handler, if the action asks for that, and is else refused with EINTR
+-- made again after the handler, if the action asks for that, and is else refused with EINTR; a ppoll(2) is refused whatever
+-- the action asks for
 abbrev pub after_interrupt : CallState → Action → Machine → Machine
 after_interrupt Plain action m = m
 after_interrupt (Waits done) action m =
     if not (done == 0) then machine_after_answer m done
     else if has_flag action.flags SA_RESTART then m
-    else machine_after_answer m (2 ^ 64 - errno_number Intr)
+    else refused_by_interrupt m
+after_interrupt Polls action m = refused_by_interrupt m
 
 -- a handler's registers: it is handed the signal's number and where the frame stands, and returns to the trampoline
 abbrev pub with_handler_registers : ℕ → ℕ → Machine → Machine

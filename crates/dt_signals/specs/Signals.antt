@@ -1,6 +1,6 @@
 -- What a process does about signals: its actions, the signals that are masked, and those that are pending
--- (signal(7), sigaction(2), sigprocmask(2)).
-use Rattle.std.specs.Prelude.{ℕ, zero, suc, ◌+◌, ◌-◌, ◌/◌, ◌%◌, ◌^◌, ◌==◌, ◌||◌, ◌&&◌, not, nat_lt, Bool, bit_and, bit_or, List, [], ◌∷◌, map, find, replicate, slice_index_or, slice_set, Option, if◌then◌else◌}
+-- (signal(7), sigaction(2), sigprocmask(2)). Its timer stands beside them.
+use Rattle.std.specs.Prelude.{ℕ, zero, suc, ◌+◌, ◌-◌, ◌/◌, ◌%◌, ◌^◌, ◌==◌, ◌||◌, ◌&&◌, not, nat_lt, Bool, bit_and, bit_or, List, [], ◌∷◌, map, find, replicate, slice_index_or, slice_set, Option, None, if◌then◌else◌}
 use Rattle.dt_base.specs.declared.abi.TheConstants.{SIG_DFL, SIG_IGN, SIGNAL_LIMIT, SIGCHLD, MASKABLE}
 use Rattle.dt_signals.specs.declared.action.Action.{Action}
 use Rattle.dt_signals.specs.declared.signals.Sig.{Sig}
@@ -21,9 +21,9 @@ is_in signal set = set / bit_of signal % 2 == 1
 abbrev pub default_action : Action
 default_action = record { handler = SIG_DFL; flags = 0; mask = 0 }
 
--- all actions are the default, and no signal is masked or pending
+-- all actions are the default, no signal is masked or pending, and the timer is disarmed
 abbrev pub no_signals : Sig
-no_signals = record { actions = replicate SIGNAL_LIMIT default_action; mask = 0; pending = 0 }
+no_signals = record { actions = replicate SIGNAL_LIMIT default_action; mask = 0; pending = 0; timer = None }
 
 -- the action of a signal
 abbrev pub action_of : Sig → ℕ → Action
@@ -41,9 +41,9 @@ with_pending signal g = record g { pending = bit_or g.pending (bit_of signal) }
 abbrev pub with_mask : ℕ → Sig → Sig
 with_mask mask g = record g { mask = bit_and mask MASKABLE }
 
--- what a child begins with: no signal is pending (fork(2))
+-- what a child begins with: no signal is pending, and the timer is disarmed (fork(2))
 abbrev pub after_fork : Sig → Sig
-after_fork g = record g { pending = 0 }
+after_fork g = record g { pending = 0; timer = None }
 
 -- an action that runs a handler
 abbrev pub has_handler : Action → Bool
@@ -53,7 +53,7 @@ has_handler action = not ((action.handler == SIG_DFL) || (action.handler == SIG_
 abbrev pub action_after_exec : Action → Action
 action_after_exec action = if has_handler action then default_action else action
 
--- the actions after another program was started; mask and pending signals stay (execve(2))
+-- the actions after another program was started; mask, pending signals and timer stay (execve(2))
 abbrev pub after_exec : Sig → Sig
 after_exec g = record g { actions = map action_after_exec g.actions }
 

@@ -2,7 +2,7 @@
 ghost use Rattle.std.specs.Prelude.{◌≡◌, ◌≤◌, IfOk, OnErr};
 ghost use Rattle.dt_rv64.specs.Valid.{IsMachine};
 ghost use Rattle.dt_signals.specs.Signals.{action_of};
-ghost use Rattle.dt_signals.specs.Delivery.{delivery_result, after_interrupt, at_handler, handler_entry, action_result};
+ghost use Rattle.dt_signals.specs.Delivery.{delivery_result, refused_by_interrupt, after_interrupt, at_handler, handler_entry, action_result};
 ghost use Rattle.dt_signals.specs.Delivery.{forced_delivery, delivery_of};
 
 use crate::action::Action;
@@ -20,6 +20,8 @@ pub enum CallState {
     Plain,
     /// A call that waits, with so many bytes moved.
     Waits(u64),
+    /// A ppoll(2) that waits, which no handler restarts (signal(7)).
+    Polls,
 }
 
 /// What a delivery came to.
@@ -134,7 +136,7 @@ fn act(
     }
 }
 
-// Ends the call that waits: with how many bytes it has moved, else it is made again or refused.
+// Ends the call that waits: with how many bytes it has moved, else it is made again or refused; a ppoll(2) is refused.
 fn interrupt(machine: &mut Machine, call: CallState, action: Action)
     ensures interrupted { machine.new ≡ after_interrupt call action machine.old }
     ensures sound { IsMachine machine.old → IsMachine machine.new }
@@ -143,11 +145,20 @@ fn interrupt(machine: &mut Machine, call: CallState, action: Action)
         CallState::Plain => {}
         CallState::Waits(0) => {
             if action.flags & SA_RESTART != SA_RESTART {
-                machine.answer(u64::from(Errno::Intr.number()).wrapping_neg());
+                refuse_interrupted(machine);
             }
         }
         CallState::Waits(done) => machine.answer(done),
+        CallState::Polls => refuse_interrupted(machine),
     }
+}
+
+// Refuses the call that waits, since a handler runs.
+fn refuse_interrupted(machine: &mut Machine)
+    ensures interrupted { machine.new ≡ refused_by_interrupt machine.old }
+    ensures sound { IsMachine machine.old → IsMachine machine.new }
+{
+    machine.answer(u64::from(Errno::Intr.number()).wrapping_neg());
 }
 
 // Enters a handler, if its frame can be written.

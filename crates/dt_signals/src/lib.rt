@@ -9,6 +9,7 @@ mod laws;
 pub mod numbers;
 mod returning;
 mod signals;
+mod timer;
 
 pub use action::Action;
 pub use delivery::{CallState, Delivery, deliver};

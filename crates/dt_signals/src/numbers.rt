@@ -1,4 +1,4 @@
-//! The layout of a handler's frame.
+//! The layout of a handler's frame, and the signal of a timer.
 
 /// Bytes of a handler's frame (this project's layout, as the offsets below).
 pub const FRAME_SIZE: usize = 400;
@@ -17,3 +17,6 @@ pub const FRAME_REGISTERS: usize = 136;
 
 /// Where the mask stands.
 pub const FRAME_MASK: usize = 384;
+
+/// The timer that counts real time is due (signal(7)).
+pub const SIGALRM: u8 = 14;

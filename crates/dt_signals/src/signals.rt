@@ -1,4 +1,4 @@
-// What a process does about signals, which are masked, and which are pending.
+// What a process does about signals, which are masked, which are pending, and when its timer raises one.
 ghost use Rattle.std.specs.Prelude.{◌≡◌, ◌≤◌, IfSome};
 ghost use Rattle.dt_signals.specs.Signals.{no_signals, with_pending, action_of, with_action, with_mask, after_fork};
 ghost use Rattle.dt_signals.specs.Signals.{after_exec};
@@ -10,16 +10,19 @@ use crate::action::{Action, DEFAULT_ACTION};
 use dt_base::abi::{MASKABLE, SIGNAL_LIMIT};
 
 /// What a process does about each signal, and the signals that are masked and that are pending, as sets in which
-/// signal `s` is bit `s - 1` (signal(7)).
+/// signal `s` is bit `s - 1` (signal(7)); and its timer in real time (setitimer(2)).
 #[derive(Clone, Copy, Debug)]
 pub struct Sig {
     pub(crate) actions: [Action; 64],
     pub(crate) mask: u64,
     pub(crate) pending: u64,
+    /// Where the timer is armed, the ticks at which it is due, and after how many nanoseconds it is due again, 0 where
+    /// it is not. An interval of setitimer(2) may have more of them than 64 bits count.
+    pub(crate) timer: Option<(u64, u128)>,
 }
 
 impl Sig {
-    /// All actions are the default, and no signal is masked or pending.
+    /// All actions are the default, no signal is masked or pending, and the timer is disarmed.
     pub fn new() -> Sig
         ensures { result ≡ no_signals }
     {
@@ -27,6 +30,7 @@ impl Sig {
             actions: [DEFAULT_ACTION; 64],
             mask: 0,
             pending: 0,
+            timer: None,
         }
     }
 
@@ -77,6 +81,7 @@ impl Sig {
     {
         let mut child = *self;
         child.pending = 0;
+        child.timer = None;
         child
     }
 

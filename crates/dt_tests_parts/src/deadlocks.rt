@@ -1,7 +1,7 @@
 // Processes that all wait.
 use crate::driver::{Came, Driver};
 use crate::expect::same;
-use dt_base::{NoMemory, Verdict};
+use dt_base::NoMemory;
 use dt_sched::Head;
 use std::alloc::Global;
 use std::process::Abort;
@@ -18,8 +18,6 @@ fn head(alloc: Global, turns: &[Came]) -> Result<Head, NoMemory> {
     Ok(driver.core().head())
 }
 
-const DEADLOCK: Head = Head::Over(Verdict::Deadlock);
-
 // Turns, and whose comes after them.
 type Row = (&'static [Came], Head);
 
@@ -31,13 +29,13 @@ fn expect_heads(rt: &impl Abort, alloc: Global, rows: &[Row]) -> Result<(), NoMe
 }
 
 const ONE: &[Row] = &[
-    (&[Came::Waits], DEADLOCK),
+    (&[Came::Waits], Head::AllWait),
     (&[Came::Moved], Head::Ready(1)),
-    (&[Came::Again, Came::Waits], DEADLOCK),
+    (&[Came::Again, Came::Waits], Head::AllWait),
 ];
 
 const TWO: &[Row] = &[
-    (&[Came::Child, Came::Waits, Came::Waits], DEADLOCK),
+    (&[Came::Child, Came::Waits, Came::Waits], Head::AllWait),
     (&[Came::Child, Came::Waits], Head::Ready(2)),
     (
         &[Came::Child, Came::Waits, Came::Again, Came::Waits],
@@ -55,23 +53,23 @@ const TWO: &[Row] = &[
             Came::Waits,
             Came::Waits,
         ],
-        DEADLOCK,
+        Head::AllWait,
     ),
     (&[Came::Child, Came::Waits, Came::Gone], Head::Ready(1)),
     (
         &[Came::Child, Came::Waits, Came::Gone, Came::Waits],
-        DEADLOCK,
+        Head::AllWait,
     ),
 ];
 
 #[test]
-fn one_process_that_waits_is_a_deadlock(rt: HostRuntime) -> Result<(), Fail> {
+fn one_process_that_waits_is_all(rt: HostRuntime) -> Result<(), Fail> {
     expect_heads(&rt, rt.alloc(), ONE)?;
     Ok(())
 }
 
 #[test]
-fn two_processes_that_wait_are_a_deadlock(rt: HostRuntime) -> Result<(), Fail> {
+fn two_processes_that_wait_are_all(rt: HostRuntime) -> Result<(), Fail> {
     expect_heads(&rt, rt.alloc(), TWO)?;
     Ok(())
 }

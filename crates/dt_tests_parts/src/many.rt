@@ -1,7 +1,7 @@
 // As many processes as have room.
 use crate::driver::{Came, Driver};
 use crate::expect::{same, same_at};
-use dt_base::{NoMemory, Verdict};
+use dt_base::NoMemory;
 use dt_sched::{Head, QUEUE_LIMIT};
 use std::alloc::Global;
 use std::process::Abort;
@@ -60,11 +60,11 @@ fn expect_wait(rt: &impl Abort, driver: &mut Driver) {
 }
 
 #[test]
-fn deadlock_comes_when_all_64_wait(rt: HostRuntime) -> Result<(), Fail> {
+fn all_64_wait(rt: HostRuntime) -> Result<(), Fail> {
     let mut driver = full(rt.alloc())?;
     for _ in 0..64 {
         expect_wait(&rt, &mut driver);
     }
-    same(&rt, driver.core().head(), Head::Over(Verdict::Deadlock));
+    same(&rt, driver.core().head(), Head::AllWait);
     Ok(())
 }

@@ -5,17 +5,17 @@ use Rattle.dt_base.specs.declared.errno.Errno.{Errno}
 use Rattle.dt_base.specs.declared.errno.Errno.TheVariants.{Inval, Fault as BadAddress}
 use Rattle.dt_base.specs.Fields.{low_bytes}
 use Rattle.dt_space.specs.declared.access.Miss.{Miss}
-use Rattle.dt_space.specs.declared.access.TheConstants.{READ}
 use Rattle.dt_space.specs.Argument.{is_writable_or_null, with_bytes_unless_null}
-use Rattle.dt_space.specs.Space.{PageView, load, loaded_number}
+use Rattle.dt_space.specs.Space.{PageView}
 use Rattle.dt_space.specs.Write.{pages_after_store}
 use Rattle.dt_virt.specs.declared.clock.TheConstants.{READING_TICKS, TICK_LIMIT}
 use Rattle.dt_virt.specs.Clock.{ticks_after}
 use Rattle.dt_base.specs.declared.abi.TheConstants.{CLOCK_REALTIME, CLOCK_MONOTONIC, CLOCK_REALTIME_COARSE, CLOCK_BOOTTIME, TIMER_ABSTIME}
-use Rattle.dt_callbase.specs.declared.wall_time.TheConstants.{FIRST_SECOND, SECOND_TICKS, NANOSECONDS}
-use Rattle.dt_timecalls.specs.declared.time.TheConstants.{MICROSECOND_TICKS, TIME_LEN, TIMEZONE_LEN}
-use Rattle.dt_timecalls.specs.declared.time.Timespec.{Timespec}
+use Rattle.dt_callbase.specs.declared.wall_time.TheConstants.{FIRST_SECOND, SECOND_TICKS, MICROSECOND_TICKS}
+use Rattle.dt_timecalls.specs.declared.time.TheConstants.{TIME_LEN, TIMEZONE_LEN}
+use Rattle.dt_callbase.specs.declared.timespec.Timespec.{Timespec}
 use Rattle.dt_callbase.specs.Arguments.{argument}
+use Rattle.dt_callbase.specs.Timespec.{time_at, ticks_in}
 use Rattle.dt_callbase.specs.Scene.{Scene, Reply, refused_reply, value_reply}
 
 -- the clock tells wall time
@@ -72,31 +72,10 @@ gettimeofday_row args s =
     then time_of_day_reply (argument args 0) (argument args 1) s
     else refused_reply s BadAddress
 
--- a time of these numbers: EINVAL where the seconds are negative, or the nanoseconds negative or a second and more
-abbrev pub good_time : ℕ → ℕ → Result Timespec Errno
-good_time seconds nanoseconds =
-    if nat_le (2 ^ 63) seconds || nat_le SECOND_TICKS nanoseconds then Err Inval
-    else Ok (record { seconds = seconds; nanoseconds = nanoseconds })
-
--- a time of numbers that were read, or why there is none
-abbrev pub read_time : Result ℕ Miss → Result ℕ Miss → Result Timespec Errno
-read_time (Err miss) nanoseconds = Err BadAddress
-read_time (Ok seconds) (Err miss) = Err BadAddress
-read_time (Ok seconds) (Ok nanoseconds) = good_time seconds nanoseconds
-
--- the time that a call is handed
-abbrev pub time_at : List PageView → ℕ → Result Timespec Errno
-time_at pages address = read_time (loaded_number (load pages READ address 8))
-    (loaded_number (load pages READ ((address + NANOSECONDS) % 2 ^ 64) 8))
-
 -- a row for a time that was read, or the reason why there is none
 abbrev pub on_time : Scene → Result Timespec Errno → (Timespec → Reply) → Reply
 on_time s (Err errno) row = refused_reply s errno
 on_time s (Ok time) row = row time
-
--- the nanoseconds of a time
-abbrev pub ticks_in : Timespec → ℕ
-ticks_in time = time.seconds * SECOND_TICKS + time.nanoseconds
 
 -- the ticks at which a clock tells a time, 0 where it never told it
 abbrev pub ticks_at : ℕ → Timespec → ℕ

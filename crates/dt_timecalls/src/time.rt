@@ -3,8 +3,8 @@ ghost use Rattle.std.specs.Prelude.{◌≡◌, ◌≤◌, ℕ, IsTrue, length, m
 ghost use Rattle.dt_space.specs.Argument.{is_writable_or_null};
 ghost use Rattle.dt_space.specs.Write.{pages_after_store};
 ghost use Rattle.dt_callbase.specs.Sound.{Sound, HasRowReply, HasReplyOf, HasReply, stage, scene};
-ghost use Rattle.dt_timecalls.specs.Time.{is_wall, first_second, time_of, timespec_bytes, timeval_bytes, time_at};
-ghost use Rattle.dt_timecalls.specs.Time.{ticks_in, ticks_at, is_for_sleep, time_reply};
+ghost use Rattle.dt_timecalls.specs.Time.{is_wall, first_second, time_of, timespec_bytes, timeval_bytes};
+ghost use Rattle.dt_timecalls.specs.Time.{ticks_at, is_for_sleep, time_reply};
 ghost use Rattle.dt_timecalls.specs.Time.{time_of_day_reply, clock_gettime_row, gettimeofday_row, nanosleep_row};
 ghost use Rattle.dt_timecalls.specs.Time.{clock_nanosleep_row};
 
@@ -12,14 +12,11 @@ use dt_base::abi::{
     CLOCK_BOOTTIME, CLOCK_MONOTONIC, CLOCK_REALTIME, CLOCK_REALTIME_COARSE, TIMER_ABSTIME, low_word,
 };
 use dt_base::{Answer, Caller, Errno, put64};
-use dt_callbase::Fs;
-use dt_callbase::wall_time::{FIRST_SECOND, NANOSECONDS, SECOND_TICKS};
+use dt_callbase::wall_time::{FIRST_SECOND, MICROSECOND_TICKS, SECOND_TICKS};
+use dt_callbase::{Fs, Timespec};
 use dt_host::{Host, HostErr};
 use dt_space::{Space, WriteErr, fill_unless_null, is_writable_or_null};
 use dt_virt::{Clock, TICK_LIMIT};
-
-/// Nanoseconds of a microsecond.
-pub const MICROSECOND_TICKS: u64 = 1_000;
 
 /// Bytes of `struct timespec` and of `struct timeval`: 8 of seconds, 8 of their part.
 pub const TIME_LEN: usize = 16;
@@ -27,72 +24,33 @@ pub const TIME_LEN: usize = 16;
 /// Bytes of `struct timezone`.
 pub const TIMEZONE_LEN: usize = 8;
 
-// The lowest number of 64 bits that stands for a negative one.
-const LOWEST_NEGATIVE: u64 = 0x8000_0000_0000_0000;
-
-/// A time as the calls are handed it and tell it: seconds, and nanoseconds of the next one (timespec(3type)).
-#[derive(Clone, Copy, Debug)]
-pub struct Timespec {
-    pub seconds: u64,
-    pub nanoseconds: u64,
+// The time that a clock tells.
+fn time_of(clock: u32, ticks: u64) -> Timespec
+    ensures { result ≡ time_of clock ticks }
+{
+    Timespec {
+        seconds: first_second(clock) + ticks / SECOND_TICKS,
+        nanoseconds: ticks % SECOND_TICKS,
+    }
 }
 
-impl Timespec {
-    // The time at an address: EFAULT where it may not be read, EINVAL where a number is negative, or the nanoseconds
-    // are a second and more.
-    fn read(space: &Space, at: u64) -> Result<Self, Errno>
-        ensures { result ≡ time_at space.now at }
-    {
-        let Ok(seconds) = space.load8(at) else {
-            return Err(Errno::Fault);
-        };
-        let Ok(nanoseconds) = space.load8(at.wrapping_add(NANOSECONDS as u64)) else {
-            return Err(Errno::Fault);
-        };
-        if seconds >= LOWEST_NEGATIVE || nanoseconds >= SECOND_TICKS {
-            return Err(Errno::Inval);
-        }
-        Ok(Timespec {
-            seconds,
-            nanoseconds,
-        })
-    }
+// The ticks at which a clock tells a time, 0 where it never told it.
+fn ticks_at(clock: u32, time: Timespec) -> u128
+    ensures { result ≡ ticks_at clock time }
+{
+    time.ticks()
+        .saturating_sub(u128::from(first_second(clock)) * u128::from(SECOND_TICKS))
+}
 
-    // The time that a clock tells.
-    fn of_clock(clock: u32, ticks: u64) -> Self
-        ensures { result ≡ time_of clock ticks }
-    {
-        Timespec {
-            seconds: first_second(clock) + ticks / SECOND_TICKS,
-            nanoseconds: ticks % SECOND_TICKS,
-        }
-    }
-
-    // Its nanoseconds.
-    fn ticks(self) -> u128
-        ensures { result ≡ ticks_in self }
-    {
-        u128::from(self.seconds) * u128::from(SECOND_TICKS) + u128::from(self.nanoseconds)
-    }
-
-    // The ticks at which a clock tells it, 0 where it never told it.
-    fn ticks_by(self, clock: u32) -> u128
-        ensures { result ≡ ticks_at clock self }
-    {
-        self.ticks()
-            .saturating_sub(u128::from(first_second(clock)) * u128::from(SECOND_TICKS))
-    }
-
-    // `struct timespec`
-    #[tactic(auto, unfolding(crate::specs::Time::timespec_bytes))]
-    fn bytes(self) -> [u8; TIME_LEN]
-        ensures { result ≡ timespec_bytes self }
-    {
-        let mut bytes = [0; TIME_LEN];
-        put64(&mut bytes, 0, self.seconds);
-        put64(&mut bytes, 8, self.nanoseconds);
-        bytes
-    }
+// `struct timespec`
+#[tactic(auto, unfolding(crate::specs::Time::timespec_bytes))]
+fn timespec_bytes(time: Timespec) -> [u8; TIME_LEN]
+    ensures { result ≡ timespec_bytes time }
+{
+    let mut bytes = [0; TIME_LEN];
+    put64(&mut bytes, 0, time.seconds);
+    put64(&mut bytes, 8, time.nanoseconds);
+    bytes
 }
 
 // Whether a clock tells wall time.
@@ -147,8 +105,8 @@ pub fn clock_gettime<H: Host>(
     if clock > CLOCK_BOOTTIME {
         return Ok(Answer::Refused(Errno::Inval));
     }
-    let time = Timespec::of_clock(clock, fs.next_stamp());
-    tell_time(fs, host, caller, space, args[1], &time.bytes())
+    let time = time_of(clock, fs.next_stamp());
+    tell_time(fs, host, caller, space, args[1], &timespec_bytes(time))
 }
 
 // Tells what a reading of the clock gives, which takes some time.
@@ -275,7 +233,7 @@ pub fn clock_nanosleep<H: Host>(
         Err(errno) => return Ok(Answer::Refused(errno)),
     };
     if flags == TIMER_ABSTIME {
-        sleep_until(&mut fs.clock, capped_ticks(time.ticks_by(clock)));
+        sleep_until(&mut fs.clock, capped_ticks(ticks_at(clock, time)));
     } else {
         fs.clock.sleep(capped_ticks(time.ticks()));
     }

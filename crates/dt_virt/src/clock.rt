@@ -1,6 +1,6 @@
 // Logical time.
 ghost use Rattle.std.specs.Prelude.{◌≡◌, ◌≤◌};
-ghost use Rattle.dt_virt.specs.Clock.{ticks_after};
+ghost use Rattle.dt_virt.specs.Clock.{ticks_after, ticks_reaching};
 
 use std::marker::Model;
 
@@ -59,6 +59,14 @@ impl Clock {
         ensures forward { self.old ≤ self.new }
     {
         self.ticks = self.ticks.saturating_add(ns).min(TICK_LIMIT);
+    }
+
+    /// Lets the time come to a point, or to [`TICK_LIMIT`] where that is past it, if it is not past these.
+    pub fn reach(&mut self, due: u64)
+        ensures rest { self.new ≡ ticks_reaching self.old due }
+        ensures forward { self.old ≤ self.new }
+    {
+        self.ticks = self.ticks.max(due.min(TICK_LIMIT));
     }
 
     /// The stamp of all that one call changes: [`READING_TICKS`] pass once, and the new value is the stamp.

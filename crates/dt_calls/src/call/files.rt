@@ -103,7 +103,8 @@ fn serve_row<H: Host>(
     }
 }
 
-fn arguments(machine: &Machine) -> [u64; 6]
+/// The arguments of a call (syscall(2)).
+pub fn arguments(machine: &Machine) -> [u64; 6]
     ensures { result ≡ arguments machine.now }
 {
     [

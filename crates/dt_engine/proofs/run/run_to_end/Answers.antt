@@ -1,5 +1,5 @@
 use Rattle.std.proofs.Common.{arith, ◌≡◌, ◌∙◌, Err, refl, sym, ap, subst}
-use Rattle.std.specs.Prelude.{IfOk, IsSome}
+use Rattle.std.specs.Prelude.{IsSome}
 use Rattle.dt_host.specs.Sink.{AddsPart}
 use Rattle.dt_engine.specs.Run.{Run, run_of, report_of}
 use Rattle.dt_engine.specs.Completed.{Completes}

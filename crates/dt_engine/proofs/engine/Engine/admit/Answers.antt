@@ -11,6 +11,7 @@ use Rattle.dt_engine.specs.InPlay.{EngineView, playing_of}
 use Rattle.dt_engine.proofs.Queueing.{full-good, good-full}
 use Rattle.dt_engine.proofs.Engines.{not-idle, admission-over, admission-late, admission-ready, admission-spent}
 use Rattle.dt_engine.proofs.Going.{if-answer}
+use Rattle.dt_engine.proofs.Waited.{nobody-waits}
 use Rattle.dt_engine.proofs.engine.Engine.admit.Goals as goal
 
 -- where a verdict stands
@@ -147,3 +148,10 @@ returns-in-Ready-clause-idle_sink g c = λ idle.
     let none = ap (λ (e : EngineView). e.verdict) (sym c.self.view_is) ∙ c.in-None.is in
     let ready = ap (λ (e : EngineView). head e.state.core) (sym c.self.view_is) ∙ sym c.head.ensures.head ∙ c.in-Ready.is in
     absurd (not-idle c.args.self.now (g.H.Host.view c.args.host.now) c.in-Ready.vpid c.requires.whole none ready idle)
+
+-- between two turns not all wait
+pub unreachable-requires : goal.unreachable-requires
+unreachable-requires g c =
+    let none = ap (λ (e : EngineView). e.verdict) (sym c.self.view_is) ∙ c.in-None.is in
+    let waits = ap (λ (e : EngineView). head e.state.core) (sym c.self.view_is) ∙ sym c.head.ensures.head ∙ c.in-AllWait.is in
+    nobody-waits c.args.self.now.state.core c.requires.whole.awake waits

@@ -1,4 +1,4 @@
-use Rattle.std.proofs.Common.{Err, ap, arith}
+use Rattle.std.proofs.Common.{Err, ap}
 use Rattle.dt_host.proofs.Asking.{passed_on}
 use Rattle.dt_engine.proofs.Causes.{of_sink-failed, of_sink-no_host}
 use Rattle.dt_engine.proofs.engine.Engine.begin.Goals as goal

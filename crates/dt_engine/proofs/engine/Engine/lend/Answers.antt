@@ -42,6 +42,7 @@ returns-clause-whole c =
           (subst (λ (e : EngineView). IsTrue (is_owing_work (get (works_of e) c.args.vpid))) (sym c.self.view_is) c.requires.owing)
           whole.kept c.owing-queue.ensures.sound.each_once);
       running = whole.running;
+      awake = whole.awake;
     }
 
 pub returns-clause-sound : goal.returns-clause-sound

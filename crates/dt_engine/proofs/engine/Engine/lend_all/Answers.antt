@@ -1,7 +1,6 @@
-use Rattle.std.proofs.Common.{◌≡◌, ◌<◌, [], ◌∷◌, ◌++◌, None, take, length, get_or, refl, sym, ap, subst, ◌∙◌, arith, take_all}
+use Rattle.std.proofs.Common.{◌≡◌, ◌<◌, [], ◌∷◌, ◌++◌, None, take, length, get_or, refl, sym, ap, subst, ◌∙◌, arith}
 use Rattle.std.specs.Prelude.{IsTrue}
 use Rattle.std.specs.FinMap.{get}
-use Rattle.dt_host.specs.World.{World}
 use Rattle.dt_sched.specs.Core.{owing_vpids}
 use Rattle.dt_workers.specs.declared.slot.Slot.{Slot}
 use Rattle.dt_engine.specs.Happenings.{is_owing_work}

@@ -16,6 +16,7 @@ returns-clause-whole g c =
     record {
       kept = kept-good c.arrive_next.new.self c.in_ok-arrive_next.ensures.good;
       running = λ none. c.in_ok-arrive_next.ensures.verdict ∙ whole.running none;
+      awake = c.in_ok-arrive_next.ensures.awake whole.awake;
     }
 
 pub returns-clause-full : goal.returns-clause-full

@@ -7,6 +7,7 @@ use Rattle.dt_engine.specs.Lent.{playing_with_work, returned_work}
 use Rattle.dt_engine.specs.InCode.{state_of}
 use Rattle.dt_engine.specs.InPlay.{EngineView, playing_of, IsKept, IsInPlay, steps_left}
 use Rattle.dt_engine.proofs.Arriving.{arrive-smaller}
+use Rattle.dt_engine.proofs.Waited.{awake-arrived}
 use Rattle.dt_engine.proofs.Queueing.{owing-there, found-contained, queued-live}
 use Rattle.dt_engine.proofs.Engines.{back-run, back-kept, sound-placed, away-lives, with-work-live, with-work-dead}
 use Rattle.dt_engine.proofs.engine.Engine.ran.Goals as goal
@@ -46,6 +47,7 @@ returns-then-owes-clause-whole c =
     record {
       kept = subst IsKept (sym c.bring_home.ensures) (back-kept s c.args.vpid c.args.machine c.args.seg whole.kept);
       running = λ none. ap (λ (s : State). s.core.verdict) c.bring_home.ensures ∙ whole.running none;
+      awake = awake-arrived s.core c.bring_home.new.self.core c.args.vpid c.args.seg.count (ap (λ (s : State). s.core) c.bring_home.ensures) whole.awake;
     }
 
 pub returns-then-owes-clause-sound : goal.returns-then-owes-clause-sound

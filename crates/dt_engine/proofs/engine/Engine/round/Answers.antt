@@ -1,15 +1,12 @@
 use Rattle.std.proofs.Common.{◌≡◌, ℕ, ◌<◌, List, length, sym, ap, subst, ◌∙◌, arith}
 use Rattle.std.proofs.lemmas.Bool.Decides.{nat_tests}
 use Rattle.std.proofs.lemmas.List.Edits.{length-remove}
-use Rattle.dt_host.specs.World.{World}
-use Rattle.dt_host.proofs.Asking.{cause-from, passed_on}
 use Rattle.dt_calls.specs.Sound.{IsSoundContainer}
 use Rattle.dt_engine.specs.InPlay.{playing_of}
 use Rattle.dt_engine.specs.Onward.{left_of}
 use Rattle.dt_engine.specs.Lent.{playing_with_work, returned_work}
 use Rattle.dt_engine.specs.inner.Round.{IsRound}
-use Rattle.dt_engine.proofs.Brought.{within, has-result, slot-apart, slot-live, seg-counts, round-on, goes-home, rest-home, goes-over, stands-not, verdict-stays, part-round, round-many}
-use Rattle.dt_engine.proofs.Going.{goes-part}
+use Rattle.dt_engine.proofs.Brought.{within, has-result, slot-apart, slot-live, seg-counts, round-on, goes-home, rest-home, goes-over, stands-not, verdict-stays, round-many}
 use Rattle.dt_engine.proofs.Taking.{none-by, stands-by}
 use Rattle.dt_engine.proofs.engine.Engine.round.Goals as goal
 

@@ -50,4 +50,5 @@ returns-clause-whole c =
     record {
       kept = kept-good c.arrive.new.self c.in_ok-arrive.ensures.good;
       running = λ none. c.in_ok-arrive.ensures.verdict ∙ whole.running none;
+      awake = c.in_ok-arrive.ensures.awake whole.awake;
     }

@@ -1,12 +1,11 @@
-use Rattle.std.proofs.Common.{◌≡◌, Err, None, sym, ap, ◌∙◌, arith}
+use Rattle.std.proofs.Common.{◌<◌, Err, None, length, sym, ap, subst, ◌∙◌, arith}
 use Rattle.dt_host.proofs.Asking.{cause-from, passed_on}
 use Rattle.dt_calls.specs.InCode.{container_of}
 use Rattle.dt_engine.specs.declared.state.State.{State}
 use Rattle.dt_engine.specs.Playing.{playing_from}
-use Rattle.dt_engine.specs.InCode.{state_of}
 use Rattle.dt_engine.proofs.Kept.{kept-good}
 use Rattle.dt_engine.proofs.Ending.{first-state-is, first-good, launched-home}
-use Rattle.dt_engine.proofs.Begun.{begun, over-playing, over-kept, over-full}
+use Rattle.dt_engine.proofs.Begun.{begun, over-playing, over-kept, over-awake, over-full}
 use Rattle.dt_engine.proofs.Queueing.{good-full}
 use Rattle.dt_engine.proofs.engine.Engine.start.Goals as goal
 
@@ -37,6 +36,7 @@ returns-in_ok-new-in-Started-clause-whole g c =
           (first-good c.launch.new.self now c.args.budget c.in_ok-new-in-Started.field-0 c.in_ok-new-in-Started.ensures
           c.in_ok-launch.ensures.sound home);
       running = λ _. ap (λ (s : State). s.core.verdict) c.in_ok-new-in-Started.ensures;
+      awake = λ _. subst (λ (s : State). s.core.blocked < length s.core.queue) (sym c.in_ok-new-in-Started.ensures) (omega arith);
     }
 
 pub returns-in_ok-new-in-Started-clause-full : goal.returns-in_ok-new-in-Started-clause-full
@@ -61,6 +61,13 @@ returns-in_ok-over-in-NoStart-clause-run g c =
     begun _ _ _ c.args.seed c.args.budget _ _ c.in_ok-container.ensures.ok c.in_ok-launch.ensures.ok
     (ap (playing_from c.args.budget container) c.in-NoStart.is
     ∙ over-playing c.launch.new.self now c.args.budget c.in-NoStart.errno c.in_ok-over-in-NoStart.field-0 c.in_ok-over-in-NoStart.ensures)
+
+pub returns-in_ok-over-in-NoStart-clause-whole : goal.returns-in_ok-over-in-NoStart-clause-whole
+returns-in_ok-over-in-NoStart-clause-whole g c = record {
+  kept = over-kept c.launch.new.self c.args.budget _ c.in_ok-over-in-NoStart.field-0 c.in_ok-over-in-NoStart.ensures;
+  running = λ none. cc;
+  awake = over-awake c.launch.new.self c.args.budget _ c.in_ok-over-in-NoStart.field-0 c.in_ok-over-in-NoStart.ensures;
+}
 
 pub returns-in_ok-over-in-NoStart-clause-full : goal.returns-in_ok-over-in-NoStart-clause-full
 returns-in_ok-over-in-NoStart-clause-full g c =

@@ -3,6 +3,7 @@ use Rattle.std.specs.Prelude.{IsSome}
 use Rattle.std.specs.FinMap.{get, insert}
 use Rattle.dt_engine.specs.declared.state.State.{State as StateInCode}
 use Rattle.dt_engine.proofs.Arriving.{run-counts, owed, has_arrived, was_there, arrive-ran, arrive-good, arrive-sound, arrive-smaller}
+use Rattle.dt_engine.proofs.Waited.{awake-arrived}
 use Rattle.dt_engine.proofs.state.State.arrive.Goals as goal
 
 pub run_segment-requires : goal.run_segment-requires
@@ -50,3 +51,7 @@ returns-clause-sound c = λ w sound.
 pub returns-clause-smaller : goal.returns-clause-smaller
 returns-clause-smaller c =
     arrive-smaller c.args.self.now.core c.arrived.new.self c.args.vpid c.in_ok-seg.seg.count c.requires.owing c.arrived.ensures
+
+pub returns-clause-awake : goal.returns-clause-awake
+returns-clause-awake c = λ awake.
+    awake-arrived c.args.self.now.core c.arrived.new.self c.args.vpid c.in_ok-seg.seg.count c.arrived.ensures awake

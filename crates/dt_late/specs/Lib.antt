@@ -1,0 +1,2 @@
+pub mod Itimer
+pub mod Poll
