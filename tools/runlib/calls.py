@@ -55,9 +55,9 @@ NAMES: Dict[int, str] = {first + at: name for first, names in RUNS.items() for a
 
 # What the program has, as docs/GUESTS.md lists it.
 PROFILE = frozenset({
-    17, 23, 24, 25, 29, 34, 35, 36, 37, 46, 48, 49, 53, 56, 57, 59, 61, 62, 63, 64, 65, 66, 67, 68, 78, 79, 80, 93, 94,
-    96, 99, 101, 113, 115, 124, 129, 130, 131, 134, 135, 139, 160, 166, 169, 172, 173, 174, 175, 176, 177, 178, 214,
-    215, 216, 220, 221, 222, 226, 233, 260, 261, 276, 278, 291, 293})
+    17, 23, 24, 25, 29, 34, 35, 36, 37, 46, 48, 49, 53, 56, 57, 59, 61, 62, 63, 64, 65, 66, 67, 68, 73, 78, 79, 80, 93,
+    94, 96, 99, 101, 102, 103, 113, 115, 124, 129, 130, 131, 134, 135, 139, 160, 166, 169, 172, 173, 174, 175, 176, 177,
+    178, 214, 215, 216, 220, 221, 222, 226, 233, 260, 261, 276, 278, 291, 293})
 
 # What each of these calls takes, where anything else ends the run.
 TAKEN = {
@@ -65,6 +65,9 @@ TAKEN = {
     56: "O_WRONLY, O_RDWR, O_CREAT, O_EXCL, O_TRUNC, O_APPEND, O_NONBLOCK, O_DIRECTORY, O_NOFOLLOW, O_CLOEXEC, "
         "O_NOCTTY and O_LARGEFILE, and not O_PATH, O_TMPFILE, O_SYNC, O_DSYNC, O_DIRECT, O_ASYNC, O_NOATIME or the "
         "access mode 3",
+    73: "no signal mask",
+    102: "ITIMER_REAL, and neither ITIMER_VIRTUAL nor ITIMER_PROF",
+    103: "ITIMER_REAL, and neither ITIMER_VIRTUAL nor ITIMER_PROF",
     129: "the id of one process and a signal below 18, and no process group, -1, or signal from 18 on",
     130: "a signal below 18, and none from 18 on",
     131: "a signal below 18, and none from 18 on",
@@ -76,7 +79,6 @@ TAKEN = {
 
 # Why programs make some of the calls that are not there, and what to do about it.
 INSTEAD = {
-    73: "there is no poll: read a pipe until it ends",
     98: "there are no threads",
     133: "a shell's `wait` makes it: wait for the end of a pipe",
     153: "a shell's `times` makes it",
