@@ -39,11 +39,12 @@ dist: has_sources has_program
 check: has_sources
 	.ci/run
 
-# The machine's speed beside that of a plain loop in Rust, how the times of names and of memory grow, calls, children,
-# megabytes through a pipe and signals a second beside qemu-riscv64, the time of a turn among many processes, and that of
-# runs with one worker and with four. All of it is timed from outside, by guests. Nothing that is timed here is a test.
+# The machine's speed beside that of a plain loop in Rust, atomics a second beside qemu-riscv64, how the times of names and
+# of memory grow, calls, children, megabytes through a pipe and signals a second beside qemu-riscv64, the time of a turn
+# among many processes, and that of runs with one worker and with four. All of it is timed from outside, by guests. Nothing that is timed here is a test.
 bench: has_sources has_program
 	python3 bench/machine/run.py $(program)
+	python3 bench/atomics/run.py $(program)
 	python3 bench/tree/run.py $(program)
 	python3 bench/memory/run.py $(program)
 	python3 bench/calls/run.py $(program)

@@ -20,7 +20,7 @@ def times(command, runs):
     return sorted(taken)
 
 
-def write_image(folder, guest, entries=(), blobs=()):
+def write_image(folder, guest, entries=(), blobs=(), version=1):
     """Makes a folder an image: an executable under its own name below the root, further entries, and their blobs."""
     os.makedirs(folder)
     shutil.copy(guest, folder)
@@ -30,7 +30,7 @@ def write_image(folder, guest, entries=(), blobs=()):
             file.write(contents)
     first = {"path": "/" + name, "type": "file", "mode": 0o755, "blob": name}
     with open(os.path.join(folder, "image.json"), "w", encoding="utf-8") as index:
-        json.dump({"version": 1, "entries": [first, *entries]}, index)
+        json.dump({"version": version, "entries": [first, *entries]}, index)
 
 
 def command(program, folder, guest, *options):

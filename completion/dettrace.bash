@@ -61,9 +61,10 @@ _dettrace_option() {
 
 _dettrace() {
     local word=${COMP_WORDS[COMP_CWORD]} before=${COMP_WORDS[COMP_CWORD - 1]}
-    local valued="--seed --budget --workers --host" options folders=1 operands
+    local valued="--seed --budget --workers --host --stdin" options folders=1 operands
     COMPREPLY=()
     [[ ${COMP_WORDS[1]} == demo ]] && valued="--workers --host" folders=0
+    [[ ${COMP_WORDS[1]} == steps ]] && valued="--seed --budget --workers --host"
     [[ ${COMP_WORDS[1]} == export ]] && folders=2
     options="$valued --"
     [[ ${COMP_WORDS[1]} == demo || ${COMP_WORDS[1]} == steps ]] && options=$valued
@@ -85,7 +86,7 @@ _dettrace() {
 
 _dettrace_run() {
     local word=${COMP_WORDS[COMP_CWORD]} before=${COMP_WORDS[COMP_CWORD - 1]}
-    local valued="--seed --budget --workers --host --report --tree --take --check"
+    local valued="--seed --budget --workers --host --stdin --profile --report --tree --take --check"
     local others="--twice --strict --quiet --help --version"
     COMPREPLY=()
     if _dettrace_is_behind; then
@@ -97,6 +98,7 @@ _dettrace_run() {
         case $(_dettrace_option) in
         --report) _dettrace_names -f "${word#=}" ;;
         --tree | --take) _dettrace_names -d "${word#=}" ;;
+        --profile) _dettrace_words "1 2" "${word#=}" ;;
         esac
     elif [[ $word == -* ]]; then
         _dettrace_words "$valued $others --" "$word"
@@ -111,10 +113,14 @@ _dettrace_image() {
     local word=${COMP_WORDS[COMP_CWORD]} before=${COMP_WORDS[COMP_CWORD - 1]}
     local command=${COMP_WORDS[1]} options="--help"
     COMPREPLY=()
-    [[ $command == pack ]] && options="--exclude --help"
+    [[ $command == pack ]] && options="--exclude --profile --help"
+    [[ $command == check ]] && options="--stdin --help"
+    [[ $command == unpack ]] && options="--tar --help"
     if ((COMP_CWORD == 1)); then
         _dettrace_words "pack list check unpack --help" "$word"
-    elif [[ $before == --exclude ]]; then
+    elif [[ $before == --profile || ($before == = && ${COMP_WORDS[COMP_CWORD - 2]} == --profile) ]]; then
+        _dettrace_words "1 2" "${word#=}"
+    elif [[ $before == --exclude || $before == --stdin ]]; then
         return
     elif [[ $word == -* ]]; then
         _dettrace_words "$options" "$word"

@@ -15,7 +15,7 @@ from program import PROGRAM, needs_program
 
 PAGE = 4096
 WORDS_REFUSED, IMAGE_REFUSED, STORE_FAULT, OUTPUT_FAULT, REFUSED = 2, 3, 4, 6, 8
-USAGE = (b"dettrace: usage: dettrace run IMAGE [--seed N] [--budget N] [--workers N] [--host N] -- "
+USAGE = (b"dettrace: usage: dettrace run IMAGE [--seed N] [--budget N] [--workers N] [--host N] [--stdin NAME] -- "
          b"[NAME=VALUE ..] PROGRAM [ARG ..]\n")
 FAULT = b"dettrace: store fault\n"
 # Directories one in another, whose paths have up to 3,840 bytes.

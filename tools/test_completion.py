@@ -14,8 +14,8 @@ from program import TOP
 SCRIPT = """. "$0" && COMP_CWORD=$(($# - 1)) && COMP_WORDS=("$@") && COMP_LINE="$*" && COMP_POINT=${#COMP_LINE}
 function=$(complete -p "$1" | sed 's/.*-F \\([a-z_]*\\) .*/\\1/') && { $function; printf '%s\\n' "${COMPREPLY[@]}"; }
 """
-RUN_OPTIONS = ["--seed", "--budget", "--workers", "--host", "--report", "--tree", "--take", "--check", "--twice",
-               "--strict", "--quiet", "--help", "--version", "--"]
+RUN_OPTIONS = ["--seed", "--budget", "--workers", "--host", "--stdin", "--profile", "--report", "--tree", "--take",
+               "--check", "--twice", "--strict", "--quiet", "--help", "--version", "--"]
 
 
 @unittest.skipUnless(shutil.which("bash"), "there is no bash")
@@ -48,19 +48,19 @@ class CompletionTest(unittest.TestCase):
     FILES = ["image", "tree.tar", "two words"]
 
     def test_the_program(self) -> None:
-        options = ["--seed", "--budget", "--workers", "--host", "--"]
+        options = ["--seed", "--budget", "--workers", "--host", "--stdin", "--"]
         self.expect(
             ("dettrace ", ["run", "export", "steps", "demo"]), ("dettrace r", ["run"]), ("dettrace d", ["demo"]),
             ("dettrace x", []),
             ("dettrace run ", self.FOLDERS), ("dettrace run im", ["image"]), ("dettrace run tree", []),
-            ("dettrace run -", options), ("dettrace run --s", ["--seed"]), ("dettrace run --seed ", []),
+            ("dettrace run -", options), ("dettrace run --s", ["--seed", "--stdin"]), ("dettrace run --seed ", []),
             ("dettrace run --seed 5 ", self.FOLDERS), ("dettrace run image ", options),
             ("dettrace run image --host 1 --b", ["--budget"]), ("dettrace run image -- ", []),
             ("dettrace run image -- --s", []), ("dettrace run --workers ", []),
             ("dettrace run --seed = 5 ", self.FOLDERS))
 
     def test_an_export(self) -> None:
-        options = ["--seed", "--budget", "--workers", "--host", "--"]
+        options = ["--seed", "--budget", "--workers", "--host", "--stdin", "--"]
         self.expect(
             ("dettrace e", ["export"]), ("dettrace export ", self.FOLDERS), ("dettrace export image ", self.FOLDERS),
             ("dettrace export image i", ["image"]), ("dettrace export image image ", options),
@@ -84,7 +84,10 @@ class CompletionTest(unittest.TestCase):
     def test_the_tool_that_runs(self) -> None:
         self.expect(
             ("dettrace-run ", self.FILES), ("dettrace-run t", ["tree.tar", "two words"]),
-            ("dettrace-run -", RUN_OPTIONS), ("dettrace-run --s", ["--seed", "--strict"]),
+            ("dettrace-run -", RUN_OPTIONS), ("dettrace-run --s", ["--seed", "--stdin", "--strict"]),
+            ("dettrace-run --stdin ", []), ("dettrace-run --stdin list ", self.FILES),
+            ("dettrace-run --profile ", ["1", "2"]), ("dettrace-run --profile = ", ["1", "2"]),
+            ("dettrace-run --profile =", ["1", "2"]), ("dettrace-run --profile 2 ", self.FILES),
             ("dettrace-run --check ", []), ("dettrace-run --report ", self.FILES),
             ("dettrace-run --twice ", self.FILES), ("dettrace-run --seed 1 image ", RUN_OPTIONS),
             ("dettrace-run --tree ", self.FOLDERS), ("dettrace-run --tree = i", ["image"]),
@@ -97,9 +100,13 @@ class CompletionTest(unittest.TestCase):
     def test_the_tool_for_images(self) -> None:
         self.expect(
             ("dettrace-image ", ["pack", "list", "check", "unpack", "--help"]), ("dettrace-image p", ["pack"]),
-            ("dettrace-image pack ", self.FILES), ("dettrace-image pack -", ["--exclude", "--help"]),
-            ("dettrace-image pack --exclude ", []), ("dettrace-image list ", self.FOLDERS),
-            ("dettrace-image check -", ["--help"]), ("dettrace-image unpack image ", self.FOLDERS))
+            ("dettrace-image pack ", self.FILES), ("dettrace-image pack -", ["--exclude", "--profile", "--help"]),
+            ("dettrace-image pack --exclude ", []), ("dettrace-image pack --profile ", ["1", "2"]),
+            ("dettrace-image pack --profile = ", ["1", "2"]), ("dettrace-image pack --profile =", ["1", "2"]),
+            ("dettrace-image pack --profile 2 ", self.FILES), ("dettrace-image list ", self.FOLDERS),
+            ("dettrace-image list -", ["--help"]), ("dettrace-image check -", ["--stdin", "--help"]),
+            ("dettrace-image check --stdin ", []), ("dettrace-image check --stdin in ", self.FOLDERS),
+            ("dettrace-image unpack -", ["--tar", "--help"]), ("dettrace-image unpack image ", self.FOLDERS))
 
     def test_the_tool_for_reports(self) -> None:
         self.expect(

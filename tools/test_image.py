@@ -274,7 +274,7 @@ class CannotHold(ImageCase):
             os.mknod(self.at("tree", "null"), 0o20666, os.makedev(1, 3))
         except PermissionError:
             self.skipTest("a device is made by root alone")
-        self.refused("'/null': a device, which an image cannot hold")
+        self.refused("'/null': the device null, which an image of version 1 cannot hold (--profile 2 takes it)")
 
     def test_a_name_that_is_no_utf_8(self) -> None:
         os.mkdir(self.bytes_at(b"caf\xe9"))
@@ -288,7 +288,7 @@ class CannotHold(ImageCase):
     def test_a_file_past_the_limit(self) -> None:
         write(self.at("tree", "big"), b"")
         os.truncate(self.at("tree", "big"), BIG + 1)
-        self.refused("'/big': it has 16777217 bytes, more than 16777216")
+        self.refused("'/big': it has 16777217 bytes, more than 16777216 (--profile 2 takes it)")
 
     def test_too_many_entries(self) -> None:
         for number in range(4094):
@@ -367,7 +367,7 @@ class CannotHold(ImageCase):
 
     def test_files_that_cannot_be_read_are_named_with_the_rest(self) -> None:
         os.mkfifo(self.at("tree", "d", "pipe"))
-        with mock.patch.object(pack, "index_faults", lambda items: os.remove(self.at("tree", "d", "good")) or []):
+        with mock.patch.object(pack, "index_faults", lambda *_: os.remove(self.at("tree", "d", "good")) or []):
             self.refused(
                 "'/d/good': it cannot be read: No such file or directory",
                 "'/d/pipe': a FIFO, which an image cannot hold",
@@ -393,7 +393,7 @@ class CannotHold(ImageCase):
         write(self.at("tree", "big"), b"")
         os.truncate(self.at("tree", "big"), BIG + 5)
         self.refused(
-            "'/big': it has 16777221 bytes, more than 16777216",
+            "'/big': it has 16777221 bytes, more than 16777216 (--profile 2 takes it)",
             "'/d/pipe': a FIFO, which an image cannot hold",
             "'/d/sock': a socket, which an image cannot hold",
             "'/l\\n': its target is no UTF-8",
@@ -654,7 +654,7 @@ class Places(ImageCase):
 STOPPED = f"""
 import os, signal, sys
 sys.path.insert(0, {TOOLS!r})
-from imagelib import commands, pack, unpack
+from imagelib import archiving, commands, pack, unpack
 real, looks = pack.stop_if_asked, []
 def stop_if_asked():
     looks.append(0)
@@ -662,7 +662,7 @@ def stop_if_asked():
         for _ in range(3):
             os.kill(os.getpid(), getattr(signal, sys.argv[1]))
     real()
-pack.stop_if_asked = unpack.stop_if_asked = stop_if_asked
+archiving.stop_if_asked = pack.stop_if_asked = unpack.stop_if_asked = stop_if_asked
 signal.signal(signal.SIGINT, signal.default_int_handler)
 for number in (signal.SIGTERM, signal.SIGHUP):
     signal.signal(number, signal.SIG_DFL)
@@ -682,8 +682,8 @@ class Whole(ImageCase):
 
     def test_a_signal_leaves_nothing(self) -> None:
         for name in ("SIGINT", "SIGTERM", "SIGHUP"):
-            for words in (("pack", "tree", "new"), ("unpack", "img", "new")):
-                with self.subTest(f"{name} {words[0]}"):
+            for words in (("pack", "tree", "new"), ("unpack", "img", "new"), ("unpack", "--tar", "img", "new")):
+                with self.subTest(f"{name} {words[:2]}"):
                     command = [sys.executable, "-c", STOPPED, name, *words]
                     done = subprocess.run(command, cwd=self.top, capture_output=True, check=False)
                     self.assertEqual((done.returncode, done.stdout), (2, b""))
@@ -694,8 +694,9 @@ class Whole(ImageCase):
         for words, line in (
             (("pack", "tree", "new"), "image: 'new' cannot be made: File too large"),
             (("unpack", "img", "new"), "image: '/d/0' cannot be made: File too large"),
+            (("unpack", "--tar", "img", "new"), "image: 'new' cannot be made: File too large"),
         ):
-            with self.subTest(words[0]):
+            with self.subTest(words[:2]):
                 done = subprocess.run(
                     [sys.executable, "-B", SCRIPT, *words],
                     cwd=self.top,

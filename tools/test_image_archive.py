@@ -209,8 +209,8 @@ class Refused(ArchiveCase):
 
     def test_each_is_named(self) -> None:
         for members, *lines in (
-            ([("null", tarfile.CHRTYPE, b"")], "'/null': a device, which an image cannot hold"),
-            ([("d/sda", tarfile.BLKTYPE, b"")], "'/d/sda': a device, which an image cannot hold"),
+            ([("tty", tarfile.CHRTYPE, b"")], "'/tty': the character device 0:0, which an image cannot hold"),
+            ([("d/sda", tarfile.BLKTYPE, b"")], "'/d/sda': the block device 0:0, which an image cannot hold"),
             ([("p", FIFO, b""), ("q", HARD, b"p")], "'/p': a FIFO, which an image cannot hold",
              "'/q': a FIFO, which an image cannot hold"),
             ([("m", b"M", b"")], "'/m': a member of the unknown type `M`, which an image cannot hold"),
@@ -233,7 +233,8 @@ class Refused(ArchiveCase):
             ([("a", FILE, b""), ("a", DIR, b"")], "'/a': a directory in one member, and something else in another"),
             ([("a", LINK, b"/"), ("a/b", FILE, b"")], "'/a': a symbolic link, and '/a/b' stands below it"),
             ([("a/b/c", FILE, b""), ("a", FILE, b"")], "'/a': a file, and '/a/b/c' stands below it"),
-            ([("b", FILE, b"x" * (BIG + 1))], "'/b': it has 16777217 bytes, more than 16777216"),
+            ([("b", FILE, b"x" * (BIG + 1))],
+             "'/b': it has 16777217 bytes, more than 16777216 (--profile 2 takes it)"),
             ([(str(number), DIR, b"") for number in range(4096)], "there are 4096 entries, more than 4095"),
             ([("z", FIFO, b""), ("../a", FILE, b""), ("b", HARD, b"c"), ("ok", FILE, b"x")],
              "'../a': the name has `..`", "'/b': a hard link to '/c', which is not there",

@@ -6,12 +6,12 @@ import os
 import re
 import subprocess
 import unittest
-from typing import Dict, List, NamedTuple, Tuple, Union
+from typing import Dict, List, NamedTuple, Optional, Tuple, Union
 
 from imagelib.testing import Done, ImageCase, write
 from program import needs_program, run
 
-BIG = 16_777_216
+BIG, BIG_2 = 16_777_216, 67_108_864
 
 # What stands in the folder beside image.json: bytes, a size of a file of zeros, or what else.
 FOLDER, BROKEN_LINK, FIFO = "a folder", "a link to nothing", "a FIFO"
@@ -23,16 +23,24 @@ INDEX_MISSING = "refused: 1 NoIndex: there is no file 'img/image.json': is it a 
 
 
 class Row(NamedTuple):
-    """An image, and the lines that are said of it."""
+    """An image, the lines that are said of it, and the input that is named."""
 
     name: str
     index: Union[bytes, str, None]
     want: Tuple[str, ...] = ()
     beside: Beside = ONE
+    input: Optional[str] = None
+
+    def words(self) -> List[str]:
+        return [] if self.input is None else [f"--stdin={self.input}"]
 
 
-def index(*entries: str) -> bytes:
-    return f'{{"version":1,"entries":[{",".join(entries)}]}}'.encode()
+def index(*entries: str, version: int = 1) -> bytes:
+    return f'{{"version":{version},"entries":[{",".join(entries)}]}}'.encode()
+
+
+def index_2(*entries: str) -> bytes:
+    return index(*entries, version=2)
 
 
 def file(path: str, blob: str = "b", mode: str = "420") -> str:
@@ -45,6 +53,10 @@ def folder(path: str, mode: str = "493") -> str:
 
 def link(path: str, target: str = "t") -> str:
     return f'{{"path":"{path}","type":"link","target":"{target}"}}'
+
+
+def device(path: str, name: str = "null", mode: str = "438") -> str:
+    return f'{{"path":"{path}","type":"dev","mode":{mode},"device":"{name}"}}'
 
 
 def with_value(value: str) -> str:
@@ -142,7 +154,7 @@ NO_JSON = [
 ]
 
 FIRST = "image.json: the member `version` is missing"
-NOT_ONE = "and not the number 1"
+NOT_ONE = "and not the number 1 or 2"
 MODES = "and not a whole number from 0 to 4095"
 
 
@@ -159,16 +171,17 @@ NO_INDEX = [
     bad_index("an array", "[]", "image.json is an array, and no object"),
     bad_index("null", "null", "image.json is null, and no object"),
     bad_index("nothing of it", "{}", FIRST, "image.json: the member `entries` is missing"),
-    bad_index("version 2", '{"version":2,"entries":[]}', f"image.json: `version` is the number 2, {NOT_ONE}"),
+    bad_index("version 3", '{"version":3,"entries":[]}', f"image.json: `version` is the number 3, {NOT_ONE}"),
     bad_index("version 0", '{"version":0,"entries":[]}', f"image.json: `version` is the number 0, {NOT_ONE}"),
     bad_index("version -1", '{"version":-1,"entries":[]}', f"image.json: `version` is the number -1, {NOT_ONE}"),
+    bad_index("version 2.0", '{"version":2.0,"entries":[]}', f"image.json: `version` is the number 2.0, {NOT_ONE}"),
     bad_index("version 1.0", '{"version":1.0,"entries":[]}', f"image.json: `version` is the number 1.0, {NOT_ONE}"),
     bad_index("version 1e0", '{"version":1e0,"entries":[]}', f"image.json: `version` is the number 1.0, {NOT_ONE}"),
     bad_index("a text as version", '{"version":"1","entries":[]}',
               f"image.json: `version` is the text `1`, {NOT_ONE}"),
     bad_index("true as version", '{"version":true,"entries":[]}', f"image.json: `version` is true, {NOT_ONE}"),
-    bad_index("the last version counts", '{"version":1,"entries":[],"version":2}',
-              f"image.json: `version` is the number 2, {NOT_ONE}"),
+    bad_index("the last version counts", '{"version":1,"entries":[],"version":3}',
+              f"image.json: `version` is the number 3, {NOT_ONE}"),
     bad_index("entries in an object", '{"version":1,"entries":{}}',
               "image.json: `entries` is an object, and not an array"),
     bad_index("no entries", '{"version":1}', "image.json: the member `entries` is missing"),
@@ -211,6 +224,41 @@ NO_INDEX = [
               *(f"entry {number}: it is null, and no object" for number in range(1, 21)), "and 5 more"),
     Row("an index past the limit", with_value("1").ljust(4_194_305).encode(),
         ("refused: 2 BadIndex: image.json has 4194305 bytes, more than 4194304",)),
+]
+
+THREE = "and not `null`, `zero` or `random`"
+
+
+def bad_device(name: str, entry: str, line: str) -> Row:
+    return bad_index(name, index_2(entry), f"entry 1, '/a': {line}")
+
+
+NO_DEVICE = [
+    bad_entry("a device in version 1", device("/a"), ", '/a': `type` is `dev`, which no entry of version 1 has"),
+    bad_index("devices in version 1, and what else is wrong", index(device("/a", mode="-1"), device("/b"), folder("c")),
+              f"entry 1, '/a': `type` is `dev`, which no entry of version 1 has; `mode` is the number -1, {MODES}",
+              "entry 2, '/b': `type` is `dev`, which no entry of version 1 has"),
+    bad_index("a device in a version that is none", index(device("/a"), folder("/b", "-1"), version=3),
+              f"image.json: `version` is the number 3, {NOT_ONE}", f"entry 2, '/b': `mode` is the number -1, {MODES}"),
+    bad_device("another type", '{"path":"/a","type":"pipe","mode":0}',
+               "`type` is the text `pipe`, and not `file`, `dir`, `link` or `dev`"),
+    bad_device("no device", '{"path":"/a","type":"dev","mode":0}', "the member `device` is missing"),
+    bad_device("another device", device("/a", "tty"), f"`device` is the text `tty`, {THREE}"),
+    bad_device("a device in capitals", device("/a", "Null"), f"`device` is the text `Null`, {THREE}"),
+    bad_device("a device by its path", device("/a", "/dev/null"), f"`device` is the text `/dev/null`, {THREE}"),
+    bad_device("null as device", '{"path":"/a","type":"dev","mode":0,"device":null}', f"`device` is null, {THREE}"),
+    bad_device("an array as device", '{"path":"/a","type":"dev","mode":0,"device":["null"]}',
+               f"`device` is an array, {THREE}"),
+    bad_device("the last device counts", '{"path":"/a","type":"dev","mode":0,"device":"null","device":1}',
+               f"`device` is the number 1, {THREE}"),
+    bad_device("no mode of a device", '{"path":"/a","type":"dev","device":"null"}', "the member `mode` is missing"),
+    bad_device("a mode of a device past 4095", device("/a", mode="4096"), f"`mode` is the number 4096, {MODES}"),
+    Row("the path of a device", index_2(device("/a"), device("b")),
+        ("refused: 3 BadPath: entry 2, 'b': the path doesn't begin with `/`",)),
+    Row("two devices", index_2(device("/a"), device("/a", "zero")),
+        ("refused: 4 Twice: entry 2, '/a': entry 1 has this path too",)),
+    Row("below a device", index_2(device("/a"), file("/a/b")),
+        ("refused: 5 NoParent: entry 2, '/a/b': '/a' is a device, and no directory",)),
 ]
 
 LONG = "n" * 255
@@ -325,7 +373,47 @@ STORED = [
         {"b": b"", "c": BIG + 1}),
 ]
 
-BAD = NO_JSON + NO_INDEX + BAD_PATH + TWICE + NO_PARENT + STORED
+STORED_2 = [
+    Row("too big in version 2", index_2(file("/a", "c"), device("/d")),
+        ("refused: 7 TooBig: entry 1, '/a': the blob c has 67108865 bytes, more than 67108864",), {"c": BIG_2 + 1}),
+    Row("too many in version 2", index_2(*(device(f"/{number}") for number in range(4096))),
+        ("refused: 8 TooMany: there are 4096 entries, more than 4095",)),
+]
+
+
+def input_row(name: str, number: int, kind: str, value: str, why: str, beside: Beside = ONE) -> Row:
+    return Row(name, index(file("/f")), (f"refused: {number} {kind}: --stdin '{value}': {why}",), {**ONE, **beside},
+               value)
+
+
+ASCII = "has more than letters and digits of ASCII, `.`, `_` and `-`"
+
+NO_INPUT = [
+    input_row("no such input", 9, "NoInput", "in", "there is no file 'img/in'"),
+    input_row("an input that is a link to nothing", 9, "NoInput", "in", "there is no file 'img/in'",
+              {"in": BROKEN_LINK}),
+    input_row("an empty name", 9, "NoInput", "", "the blob's name is empty"),
+    input_row("a name that begins with a `.`", 9, "NoInput", ".in", "the blob's name `.in` begins with a `.`",
+              {".in": b"x"}),
+    input_row("a path", 9, "NoInput", "d/in", f"the blob's name `d/in` {ASCII}"),
+    input_row("the path of an entry", 9, "NoInput", "/f", f"the blob's name `/f` {ASCII}"),
+    input_row("a name that is no ASCII", 9, "NoInput", E_ACUTE, f"the blob's name `{E_ACUTE}` {ASCII}"),
+    input_row("a name of 256", 9, "NoInput", LONG + "n", "the blob's name has 256 characters, more than 255"),
+    input_row("an input too big", 10, "InputBig", "in", "the blob has 67108865 bytes, more than 67108864",
+              {"in": BIG_2 + 1}),
+    Row("an input too big in version 2", index_2(),
+        ("refused: 10 InputBig: --stdin 'in': the blob has 67108865 bytes, more than 67108864",),
+        {"in": BIG_2 + 1}, "in"),
+    Row("an input that is a folder", index(), ("store fault: 'img/in': a folder, and no file",), {"in": FOLDER}, "in"),
+    Row("an input that is a FIFO", index(), ("store fault: 'img/in': no file that can be read from its start",),
+        {"in": FIFO}, "in"),
+    Row("too many before no input", many(4096), ("refused: 8 TooMany: there are 4096 entries, more than 4095",), ONE,
+        "in"),
+    Row("too big before no input", index(file("/a", "c")),
+        ("refused: 7 TooBig: entry 1, '/a': the blob c has 16777217 bytes, more than 16777216",), {"c": BIG + 1}, ""),
+]
+
+BAD = NO_JSON + NO_INDEX + NO_DEVICE + BAD_PATH + TWICE + NO_PARENT + STORED + STORED_2 + NO_INPUT
 
 IGNORED = '"x":[1e308,-0,"\\ud83d\\ude00",18446744073709551616,1e-400],"version":1'
 
@@ -346,6 +434,30 @@ GOOD = [
     Row("the index as a blob", index(file("/f", "image.json")), ("0 directories, 1 file, 0 links, 1 blob, 84 bytes",)),
     Row("names that only look like `.`", index(file("/..."), file("/.a"), file("/ ")),
         ("0 directories, 3 files, 0 links, 1 blob, 1 byte",)),
+    Row("an input that is no entry", index(file("/f")),
+        ("0 directories, 1 file, 0 links, 1 blob, 1 byte; the input has 3 bytes",), {**ONE, "in": b"abc"}, "in"),
+    Row("an input that an entry has", index(file("/f")),
+        ("0 directories, 1 file, 0 links, 1 blob, 1 byte; the input has 1 byte",), ONE, "b"),
+    Row("an empty input", index(), ("0 directories, 0 files, 0 links, 0 blobs, 0 bytes; the input has 0 bytes",),
+        {"-": b""}, "-"),
+    Row("the index as input", index(), ("0 directories, 0 files, 0 links, 0 blobs, 0 bytes; the input has 26 bytes",),
+        ONE, "image.json"),
+    Row("an input that no file of the version may be", index(),
+        (f"0 directories, 0 files, 0 links, 0 blobs, 0 bytes; the input has {BIG + 1} bytes",), {"in": BIG + 1}, "in"),
+]
+
+GOOD_2 = [
+    Row("no entries in version 2", index_2(), ("0 directories, 0 files, 0 links, 0 blobs, 0 bytes",)),
+    Row("devices", index_2(device("/d/z", "zero", "4095"), folder("/d"), device("/d/r", "random", "0"), device("/n"),
+                           device("/m")), ("1 directory, 0 files, 0 links, 4 devices, 0 blobs, 0 bytes",)),
+    Row("members that are ignored of a device", '{"version":2,"entries":[{"path":"/d","type":"dev","mode":1,'
+        '"device":"zero","blob":7,"target":""},{"path":"/e","type":"dir","mode":1,"device":7}]}',
+        ("1 directory, 0 files, 0 links, 1 device, 0 blobs, 0 bytes",)),
+    Row("a file past the limit of version 1", index_2(file("/f")),
+        (f"0 directories, 1 file, 0 links, 1 blob, {BIG + 1} bytes",), {"b": BIG + 1}),
+    Row("files and an input at the limit", index_2(file("/f"), file("/g")),
+        (f"0 directories, 2 files, 0 links, 1 blob, {BIG_2} bytes; the input has {BIG_2} bytes",),
+        {"b": BIG_2, "in": BIG_2}, "in"),
 ]
 
 
@@ -378,15 +490,16 @@ class Check(ImageCase):
         self.assertGreaterEqual(len(BAD), 60)
         for row in BAD:
             with self.subTest(row.name):
-                self.says(self.image("check", self.make(row)), 1, *row.want)
+                self.says(self.image("check", self.make(row), *row.words()), 1, *row.want)
             self.unmake()
 
     def test_each_good_image_is_told_in_counts(self) -> None:
-        for row in GOOD:
-            with self.subTest(row.name):
-                done = self.image("check", self.make(row))
-                self.assertEqual(done, Done(0, [f"img is good: {row.want[0]}"], []))
-            self.unmake()
+        for told, rows in (("is good", GOOD), ("is good, of version 2", GOOD_2)):
+            for row in rows:
+                with self.subTest(row.name):
+                    done = self.image("check", self.make(row), *row.words())
+                    self.assertEqual(done, Done(0, [f"img {told}: {row.want[0]}"], []))
+                self.unmake()
 
     def test_list_and_unpack_refuse_as_check_does(self) -> None:
         for row in (NO_JSON[0], BAD_PATH[6], TWICE[1], NO_PARENT[4], STORED[0], STORED[2], STORED[4]):
@@ -434,6 +547,18 @@ class Check(ImageCase):
                 words = [self.at("img")] + ([self.at("out")] if command == "unpack" else [])
                 self.assertEqual(self.image(command, *words).status, 0)
 
+    def test_an_input_with_other_bytes_than_its_name_says_is_damaged(self) -> None:
+        good, other = hashlib.sha256(b"good").hexdigest(), hashlib.sha256(b"bad").hexdigest()
+        write(self.at("img", "image.json"), index(file("/f")))
+        write(self.at("img", "b"), b"x")
+        write(self.at("img", good), b"bad")
+        self.assertEqual(self.image("check", self.at("img")).status, 0)
+        self.says(self.image("check", self.at("img"), "--stdin", good), 1,
+                  f"damaged: --stdin '{good}': the blob {good} has bytes of another SHA-256, {other}")
+        write(self.at("img", "image.json"), index(file("/f", good)))
+        self.says(self.image("check", self.at("img"), "--stdin", good), 1,
+                  f"damaged: entry 1, '/f': the blob {good} has bytes of another SHA-256, {other}")
+
     def test_at_most_twenty_damaged_blobs_are_named(self) -> None:
         names = [f"{number:064x}" for number in range(25)]
         write(self.at("img", "image.json"), index(*(file(f"/{name}", name) for name in names)))
@@ -463,16 +588,16 @@ class Check(ImageCase):
 
     @needs_program
     def test_the_program_says_the_same(self) -> None:
-        for row in BAD + GOOD:
+        for row in BAD + GOOD + GOOD_2:
             with self.subTest(row.name):
-                done = run("run", self.make(row), "--", "/x")
+                done = run("run", self.make(row), *row.words(), "--", "/x")
                 self.assertEqual((done.returncode, done.stderr.decode()), program_end(row))
             self.unmake()
 
 
 def program_end(row: Row) -> Tuple[int, str]:
     """The status and the line with which the program ends on a row's image; of a good one it finds no /x."""
-    refusal = re.match(r"refused: (\d \w+): ", row.want[0])
+    refusal = re.match(r"refused: (\d+ \w+): ", row.want[0])
     if refusal:
         return 3, f"dettrace: image refused: {refusal.group(1)}\n"
     return (4, "dettrace: store fault\n") if row.want[0].startswith("store fault") else (10, "")

@@ -91,6 +91,23 @@ class Taken(ExportCase):
         self.assertEqual(*(read(self.at(f"{name}.image", "image.json")) for name in ("to", "other")))
 
 
+class TakenOfVersion2(ExportCase):
+    """An export of an image of version 2, which has devices."""
+
+    INDEX = ('{"entries":[{"device":"null","mode":438,"path":"/null","type":"dev"},'
+             '{"device":"random","mode":292,"path":"/random","type":"dev"}],"version":2}')
+
+    def test_one_through_all_commands(self) -> None:
+        write(self.at("to", "image.json"), self.INDEX.encode())
+        counts = "0 directories, 0 files, 0 links, 2 devices, 0 blobs, 0 bytes"
+        self.assertEqual(self.image("check", self.at("to")), Done(0, [f"to is good, of version 2: {counts}"], []))
+        self.assertEqual(self.image("list", self.at("to")), Done(0, [
+            "crw-rw-rw- 1 root root 1, 3 Jan  1  2000 /null", "cr--r--r-- 1 root root 1, 8 Jan  1  2000 /random"], []))
+        self.assertEqual(self.image("unpack", "--tar", self.at("to"), self.at("a.tar")), Done(0, [], []))
+        done = self.image("pack", "--profile", "2", self.at("a.tar"), self.at("img"))
+        self.assertEqual(done, Done(0, [f"img: {counts}"], []))
+
+
 class NotTaken(ExportCase):
     def test_an_export_that_was_stopped_before_its_index(self) -> None:
         self.export()

@@ -19,17 +19,25 @@ class Words(ImageCase):
             (("pack",), "the following arguments are required: FOLDER|ARCHIVE, IMAGE (see image pack --help)"),
             (("pack", "a"), "the following arguments are required: IMAGE (see image pack --help)"),
             (("check",), "the following arguments are required: IMAGE (see image check --help)"),
-            (("unpack", "a"), "the following arguments are required: FOLDER (see image unpack --help)"),
+            (("unpack", "a"), "the following arguments are required: FOLDER|ARCHIVE (see image unpack --help)"),
             (("check", "a", "b\n"), "unrecognized arguments: b\\n (see image --help)"),
             (("list", "a", "--exclude", "b"), "unrecognized arguments: --exclude b (see image --help)"),
             (("pack", "a", "b", "--excl", "c"), "unrecognized arguments: --excl c (see image --help)"),
             (("pack", "a", "b", "--exclude"), "argument --exclude: expected one argument (see image pack --help)"),
+            (("pack", "a", "b", "--profile", "x"),
+             "argument --profile: invalid int value: 'x' (see image pack --help)"),
+            (("check", "a", "--stdin"), "argument --stdin: expected one argument (see image check --help)"),
+            (("list", "a", "--stdin", "b"), "unrecognized arguments: --stdin b (see image --help)"),
+            (("unpack", "a", "b", "--profile", "2"), "unrecognized arguments: --profile 2 (see image --help)"),
+            (("pack", "--tar", "a", "b"), "unrecognized arguments: --tar (see image --help)"),
         ):
             with self.subTest(words):
                 self.says(self.image(*words), 2, line)
-        done = self.image("packs", "a", "b")
-        self.assertEqual((done.status, done.out, len(done.err)), (2, [], 1))
-        self.assertTrue(done.err[0].startswith("image: argument COMMAND: invalid choice: 'packs'"))
+        for words, line in ((("packs", "a", "b"), "argument COMMAND: invalid choice: 'packs'"),
+                            (("pack", "a", "b", "--profile", "3"), "argument --profile: invalid choice: 3 ")):
+            done = self.image(*words)
+            self.assertEqual((done.status, done.out, len(done.err)), (2, [], 1))
+            self.assertTrue(done.err[0].startswith(f"image: {line}"), done.err)
 
     def test_help_tells_the_exit_statuses(self) -> None:
         for words in ((), ("pack",), ("list",), ("check",), ("unpack",)):

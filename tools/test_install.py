@@ -156,8 +156,8 @@ class TargetsTest(ReleaseCase):
     def test_bench_times_the_program_in_each_way(self) -> None:
         done = self.make(self.checkout("top"), "-n", "bench")
         told = [line.split()[1].split("/")[1] for line in done.stdout.splitlines() if line.startswith("python3 ")]
-        self.assertEqual(told, ["machine", "tree", "memory", "calls", "processes", "pipes", "signals", "timers",
-                                "workers"])
+        self.assertEqual(told, ["machine", "atomics", "tree", "memory", "calls", "processes", "pipes", "signals",
+                                "timers", "workers"])
         self.assertEqual(sorted(told), sorted(path.parent.name for path in Path(TOP / "bench").glob("*/run.py")))
 
 

@@ -82,11 +82,11 @@ class ProgramTest(unittest.TestCase):
     def test_each_line_of_error_is_in_the_source_and_on_the_page(self) -> None:
         heads = [item.head for item in mdoc.items(self.page["DIAGNOSTICS"])]
         self.assertEqual(sorted(heads), sorted(set(self.lines)))
-        self.assertEqual(len(heads), 19)
+        self.assertEqual(len(heads), 21)
 
     def test_the_words_and_their_ranges_are_those_of_the_readme(self) -> None:
         items = mdoc.items(self.page["DESCRIPTION"])
-        rows = table("README.md", "The command line")[1:12]
+        rows = table("README.md", "The command line")[1:13]
         self.assertEqual([item.head for item in items], [row[0] for row in rows])
         for item, (words, numbers, default, _) in zip(items, rows):
             with self.subTest(words):
@@ -109,7 +109,7 @@ class ProgramTest(unittest.TestCase):
 
     def test_the_refusals_are_those_of_the_formats(self) -> None:
         wanted = []
-        for heading, what, count in (("The image", "image", 8), ("Steps", "image", 1),
+        for heading, what, count in (("The image", "image", 10), ("Steps", "image", 1),
                                      ("An exported image", "export", 5)):
             rows = [row for row in table("docs/FORMATS.md", heading) if row[0].isdigit()]
             wanted += [f"dettrace: {what} refused: {row[0]} {row[1]}" for row in rows]
@@ -156,9 +156,9 @@ class ImageTest(ToolCase):
     def test_the_refusals_are_those_of_the_tool(self) -> None:
         heads = [item.head for item in mdoc.items(page("dettrace-image")["DIAGNOSTICS"])]
         kinds = sorted(kind for kind in vars(errors).values() if isinstance(kind, errors.Kind))
-        self.assertEqual(heads[:8], [f"image: refused: {kind.number} {kind.name}: .." for kind in kinds])
-        self.assertEqual(heads[8:], ["image: store fault: ..", "image: damaged: .."])
-        for head, error in zip(heads[8:], (errors.StoreFault("x"), errors.Damaged(["x"]))):
+        self.assertEqual(heads[:10], [f"image: refused: {kind.number} {kind.name}: .." for kind in kinds])
+        self.assertEqual(heads[10:], ["image: store fault: ..", "image: damaged: .."])
+        for head, error in zip(heads[10:], (errors.StoreFault("x"), errors.Damaged(["x"]))):
             self.assertEqual(f"image: {error.lines[0]}", head.replace("..", "x"))
 
 

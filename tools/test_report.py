@@ -10,7 +10,7 @@ from unittest import mock
 
 from reportlib import reader
 from reportlib.reader import Cut, Item, NotReport, Output, Reader
-from reportlib.testing import (EMPTY_DIGEST, OTHER_DIGEST, SMALL, Case, examples, file_line, out, report, run,
+from reportlib.testing import (DEVICES, EMPTY_DIGEST, OTHER_DIGEST, SMALL, Case, examples, file_line, out, report, run,
                             run_script)
 
 NEVER = re.compile(rb"(?!)")
@@ -126,11 +126,12 @@ class PrefixTest(unittest.TestCase):
 
 # Texts that are no reports: the offset of the first wrong byte, what is expected there, and what is found.
 NOT_REPORTS = [
-    (b"{}", 1, 1, '"dettrace 1"', '"{"'),
-    (b"dettrace: image refused: 1 NoIndex\n", 9, 1, '" 1"', '":"'),
-    (b"dettrace 2\n", 10, 1, '"1"', '"2"'),
+    (b"{}", 1, 1, '"dettrace 1" or "dettrace 2"', '"{"'),
+    (b"dettrace: image refused: 1 NoIndex\n", 9, 1, '" 1" or " 2"', '":"'),
+    (b"dettrace 3\n", 10, 1, '"1" or "2"', '"3"'),
+    (b"dettrace 2 \n", 11, 1, "a line's end", "a space"),
     (b"dettrace 1\r\n", 11, 1, "a line's end", "the byte 0x0D"),
-    (b"\ndettrace 1\n", 1, 1, '"dettrace 1"', "a line's end"),
+    (b"\ndettrace 1\n", 1, 1, '"dettrace 1" or "dettrace 2"', "a line's end"),
     (HEAD + b"\n", 12, 2, '"out" or "exit" or "verdict"', "a line's end"),
     (HEAD + b"exix 1 code 0\n", 15, 2, '"t"', '"x"'),
     (HEAD + b"out 3 1\na\n", 16, 2, '"1" or "2"', '"3"'),
@@ -212,6 +213,24 @@ NOT_LINES = [
     (b"link 4 0 /c d e\n", 14, "a line's end", "a space"),
     (b"link 4 0 /c %5e\n", 14, ESCAPE, '"5"')]
 
+# And of a report of version 2. One of version 1 has no devices at all.
+KINDS = '"file" or "dir" or "link" or "dev"'
+NAMES = '"null" or "zero" or "random"'
+NOT_LINES_2 = [
+    (b" dev 4 0666 0 null /c\n", 1, KINDS, "a space"),
+    (b"dx 4 0666 0 null /c\n", 2, '"ir" or "ev"', '"x"'),
+    (b"devi 4 0666 0 null /c\n", 4, "a space", '"i"'),
+    (b"dev 04 0666 0 null /c\n", 6, "a number without leading zeros", '"4"'),
+    (b"dev 4 666 0 null /c\n", 10, "a mode of four octal digits", "a space"),
+    (b"dev 4 0666 0 /c\n", 14, NAMES, '"/"'),
+    (b"dev 4 0666 0 tty /c\n", 14, NAMES, '"t"'),
+    (b"dev 4 0666 0 nul /c\n", 17, '"l"', "a space"),
+    (b"dev 4 0666 0 nulls /c\n", 18, "a space", '"s"'),
+    (b"dev 4 0666 0 zero\n", 18, "a space", "a line's end"),
+    (b"dev 4 0666 0 null /a\n", 20, ORDER, '"a"'),
+    (b"dev 4 0666 0 null /c d\n", 21, "a line's end", "a space"),
+    (file_line(path="/a"), 83, ORDER, '"a"')]
+
 # Texts of paths in the byte order of the paths, which is not the order of the texts.
 ORDERED = [b"/%00", b"/%20", b"/!", b"/%25", b"/-", b"/A", b"/a", b"/a%09", b"/a%20b", b"/a-", b"/a/b", b"/a/%FF",
            b"/aa", b"/~", b"/%7F", b"/%80", b"/%C3%A9", b"/%C3%AA", b"/%FF", b"/%FF%FF"]
@@ -233,6 +252,16 @@ class RefusalTest(Case):
                 with self.assertRaises(NotReport) as caught:
                     read(before + line)
                 self.assertEqual(str(caught.exception), f"byte {len(before) + offset}, line 5: not a report: "
+                                                        f"expected {expected}, found {found}")
+
+    def test_lines_of_devices_that_no_tree_has_are_refused(self) -> None:
+        before = (TREE + BIN).replace(HEAD, b"dettrace 2\n")
+        rows = [(before, *row) for row in NOT_LINES_2] + [(TREE + BIN, b"dev 4 0666 0 null /c\n", 2, '"ir"', '"e"')]
+        for begin, line, offset, expected, found in rows:
+            with self.subTest(line=line):
+                with self.assertRaises(NotReport) as caught:
+                    read(begin + line)
+                self.assertEqual(str(caught.exception), f"byte {len(begin) + offset}, line 5: not a report: "
                                                         f"expected {expected}, found {found}")
 
     def test_paths_come_in_the_byte_order_of_what_they_escape(self) -> None:
@@ -302,6 +331,17 @@ SMALL_JSON = """{"version": 1, "events": [
 """ % (EMPTY_DIGEST, OTHER_DIGEST)
 
 
+DEVICES_JSON = """{"version": 2, "events": [
+{"kind": "exit", "pid": 1, "code": 0}
+], "verdict": {"kind": "ended"}, "tree": [
+{"kind": "dir", "inode": 2, "mode": "0755", "stamp": 0, "path": "/dev"},
+{"kind": "dev", "inode": 4, "mode": "0444", "stamp": 18446744073709551615, "path": "/dev/ ", "device": "random"},
+{"kind": "dev", "inode": 3, "mode": "0666", "stamp": 0, "path": "/dev/null", "device": "null"},
+{"kind": "dev", "inode": 5, "mode": "4777", "stamp": 2000, "path_base64": "L2Rldi//", "device": "zero"}
+], "cut": null}
+"""
+
+
 def escaped(data: bytes) -> bytes:
     return b"".join(b"%%%02X" % byte if byte < 33 or byte == 37 or byte > 126 else bytes([byte]) for byte in data)
 
@@ -326,7 +366,8 @@ def report_of(text: bytes) -> bytes:
     parts.append(b"tree %d\n" % len(whole["tree"]))
     for entry in whole["tree"]:
         path = escaped(bytes_of(entry, "path", "path_base64"))
-        names = [name for name in ("kind", "inode", "mode", "stamp", "size", "sha256") if name in entry]
+        names = [name for name in ("kind", "inode", "mode", "stamp", "size", "sha256", "device")
+                 if name in entry]
         fields = [str(entry[name]).encode() for name in names]
         target = [escaped(bytes_of(entry, "target", "target_base64"))] if entry["kind"] == "link" else []
         parts.append(b" ".join([*fields, path, *target]) + b"\n")
@@ -336,6 +377,8 @@ def report_of(text: bytes) -> bytes:
 class JsonTest(Case):
     def test_each_kind_of_event_and_line_has_its_line_of_json(self) -> None:
         self.assertEqual(run("json", "-", given=SMALL), (0, SMALL_JSON.encode(), ""))
+        self.assertEqual(run("json", "-", given=DEVICES), (0, DEVICES_JSON.encode(), ""))
+        self.assertEqual(report_of(DEVICES_JSON.encode()), DEVICES)
 
     def test_each_verdict_has_its_members(self) -> None:
         verdicts = [(b"ended", '{"kind": "ended"}'), (b"deadlock", '{"kind": "deadlock"}'),

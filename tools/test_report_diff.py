@@ -7,7 +7,7 @@ import unittest
 from typing import List, Tuple
 
 from program import PROGRAM, TOP, needs_program
-from reportlib.testing import EMPTY_DIGEST, OTHER_DIGEST, SMALL, Case, examples, file_line, out, report, run
+from reportlib.testing import DEVICES, EMPTY_DIGEST, OTHER_DIGEST, SMALL, Case, examples, file_line, out, report, run
 
 CODE_0 = b"exit 1 code 0\n"
 LONG = b"x" * 70000
@@ -20,6 +20,12 @@ def tree(*lines: bytes) -> bytes:
 
 # Two reports, and the first line that tells how they differ.
 DIFFERENCES = [
+    (tree(), tree().replace(b"dettrace 1", b"dettrace 2"), "the version differs: 1 in A, and 2 in B"),
+    (tree()[:10], DEVICES, "the version differs: A is cut in it, and 2 in B"),
+    (DEVICES, DEVICES.replace(b"0 null", b"0 zero"),
+     "tree line 3 differs: of /dev/null the device is null in A and zero in B"),
+    (DEVICES, DEVICES.replace(b"dev 3 0666 0 null", b"dir 3 0666 0"),
+     "tree line 3 differs: of /dev/null the kind is dev in A and dir in B"),
     (report(b"exit 2 code 1\n"), report(b"exit 2 code 0\n"),
      "event 1 differs: process 2 ended with code 1 in A, and with code 0 in B"),
     (report(b"exit 2 code 9\n"), report(b"exit 2 signal 9\n"),
@@ -219,7 +225,7 @@ class RefusedTest(Case):
                              none=b"{}", cut=SMALL[:30])
         behind = (f"byte {len(SMALL) + 1}, line {SMALL.count(LINE_END) + 1}: not a report: "
                   'expected nothing behind 5 lines of the tree, found "x"')
-        begin = 'byte 1, line 1: not a report: expected "dettrace 1", found "{"'
+        begin = 'byte 1, line 1: not a report: expected "dettrace 1" or "dettrace 2", found "{"'
         for a, b, wrong, told in [("good", "bad", "bad", behind), ("bad", "good", "bad", behind),
                                   ("good", "other", "other", behind), ("other", "cut", "other", behind),
                                   ("bad", "bad", "bad", behind), ("none", "good", "none", begin),

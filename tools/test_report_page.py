@@ -18,7 +18,7 @@ from typing import Any, Dict, Iterator, List, Optional, Tuple, Union
 from reportlib import page_bytes
 from reportlib.page_lanes import drawings, heads
 from reportlib.reader import Cut, Exit, Output, Verdict
-from reportlib.testing import (EMPTY_DIGEST, OTHER_DIGEST, SMALL, Case, examples, file_line, out, report, run,
+from reportlib.testing import (DEVICES, EMPTY_DIGEST, OTHER_DIGEST, SMALL, Case, examples, file_line, out, report, run,
                             run_script)
 from test_report_diff import DIFFERENCES
 
@@ -154,9 +154,10 @@ class OneTest(PageCase):
     def test_every_path_of_the_examples_is_there_in_order(self) -> None:
         for text in examples():
             tree = json.loads(run("json", "-", given=text).output)["tree"]
-            kinds = {"dir": "directory", "file": "file", "link": "link"}
+            kinds = {"dir": "directory", "file": "file", "link": "link", "dev": "device"}
             wanted = [[entry["path"] + (f" leads to {entry['target']}" if "target" in entry else ""),
-                       kinds[entry["kind"]], entry.get("mode", ""), f"{entry['size']:,}" if "size" in entry else "",
+                       " ".join([kinds[entry["kind"]], entry.get("device", "")]).strip(), entry.get("mode", ""),
+                       f"{entry['size']:,}" if "size" in entry else "",
                        f"{entry['stamp']:,}", str(entry["inode"]), entry.get("sha256", "")] for entry in tree]
             with self.subTest(text=text):
                 self.assertEqual(rows_of(self.document(text)), wanted)
@@ -205,6 +206,8 @@ class OneTest(PageCase):
             "Verdict": "ended: the first process ended with code 0", "Standard output": "nothing",
             "Standard error": "nothing", "Processes that ended": "1",
             "Final tree": "2 files, 0 directories, 0 links, 1,500 bytes"})
+        self.assertEqual(self.glance(self.document(DEVICES))["Final tree"],
+                         "0 files, 1 directory, 0 links, 3 devices, 0 bytes")
 
     def test_each_process_has_its_end_in_a_table(self) -> None:
         table = self.document(SMALL).find("details")[0].find("table")[0]
@@ -349,6 +352,17 @@ class TwoTest(PageCase):
         self.assertEqual((root.find("li", "first"), root.find("tr", "differs"), root.find("mark")), ([], [], []))
         self.assertEqual([row[1] for row in rows_of(root)], ["A B"] * 5)
 
+    def test_devices(self) -> None:
+        root = self.document(DEVICES)
+        self.assertEqual(rows_of(root), [
+            ["/dev", "directory", "0755", "", "0", "2", ""],
+            ["/dev/%20", "device random", "0444", "", "18,446,744,073,709,551,615", "4", ""],
+            ["/dev/null", "device null", "0666", "", "0", "3", ""],
+            ["/dev/%FF", "device zero", "4777", "", "2,000", "5", ""]])
+        root = self.document(DEVICES, DEVICES.replace(b"0 null", b"0 zero"))
+        self.assertEqual([[cell.text() for cell in row.all() if "new" in cell.kinds()]
+                          for row in root.find("tr", "differs")], [["device null"], ["device zero"]])
+
     def test_what_differs_in_the_trees_is_marked(self) -> None:
         shared = file_line(inode=3, path="/both")
         a = report(CODE_0, tree=[file_line(), shared, b"link 4 0 /l one", b"dir 5 0755 0 /only"])
@@ -470,7 +484,7 @@ class RefusedTest(PageCase):
     def test_what_is_no_report_gives_no_page(self) -> None:
         files = self.written(good=SMALL, bad=b"{}")
         missing, page = str(self.folder / "missing"), str(self.folder / "page.html")
-        bad = f'report: {files["bad"]}: byte 1, line 1: not a report: expected "dettrace 1", found "{{"\n'
+        bad = f'report: {files["bad"]}: byte 1, line 1: not a report: expected "dettrace 1" or "dettrace 2", found "{{"\n'
         none = f"report: {missing}: cannot be read: No such file or directory\n"
         for names, told in [([files["bad"]], bad), ([files["good"], files["bad"]], bad), ([missing], none),
                             ([files["bad"], files["good"]], bad), ([files["good"], missing], none)]:

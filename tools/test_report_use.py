@@ -105,7 +105,7 @@ class ScriptTest(Case):
     def test_each_status_is_the_script_s(self) -> None:
         files = self.written(good=SMALL, cut=SMALL[:22], bad=b"{}")
         cut = f"report: {files['cut']}: the report is cut: it ends after 22 bytes, in event 1\n"
-        bad = f'report: {files["bad"]}: byte 1, line 1: not a report: expected "dettrace 1", found "{{"\n'
+        bad = f'report: {files["bad"]}: byte 1, line 1: not a report: expected "dettrace 1" or "dettrace 2", found "{{"\n'
         for words, status, output, errors in [
                 (["output", files["good"], "1"], 0, b"hello\n", ""), (["output", files["cut"]], 1, b"hel", cut),
                 (["output", files["bad"]], 2, b"", bad), (["diff", files["good"], files["good"]], 0, b"equal\n", ""),

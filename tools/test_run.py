@@ -99,8 +99,8 @@ class Faults(RunCase):
             (b"", 0, "the report is cut, though dettrace ended with 0: it ends after 0 bytes, before the first line"),
             (HELLO[:-4], 0, "the report is cut, though dettrace ended with 0: it ends after 57 bytes, "
                             "in the line that begins the tree"),
-            (b"hello\n", 0, 'what dettrace wrote is no report: byte 1, line 1: not a report: expected "dettrace 1", '
-                            'found "h"'),
+            (b"hello\n", 0, 'what dettrace wrote is no report: byte 1, line 1: not a report: '
+                            'expected "dettrace 1" or "dettrace 2", found "h"'),
             (b"dettrace 1\nexit 1 code 256", 0, "what dettrace wrote is no report: byte 26, line 2: not a report: "
                                                'expected a number from 0 to 255, found "6"'),
             (HELLO + b"x", 0, "what dettrace wrote is no report: byte 62, line 8: not a report: "

@@ -20,7 +20,8 @@ class Ends(RunCase):
 
     def test_signals(self) -> None:
         for number, said in (
-            (4, f"SIGILL, signal 4: a word that is no instruction of RV64IM, or a jump into data{PLACE}"),
+            (4, "SIGILL, signal 4: a word that is no instruction of RV64IM (atomic ones take --profile 2), or a jump "
+                f"into data{PLACE}"),
             (5, "SIGTRAP, signal 5: ebreak, which is also what the compiler puts where it saw undefined behaviour"
                 + PLACE),
             (6, "SIGABRT, signal 6: abort, or an assert that failed, whose line is on standard error"),
@@ -34,6 +35,15 @@ class Ends(RunCase):
         ):
             self.ends(report(b"exit 2 code 0\nexit 1 signal %d\nexit 3 signal 9\n" % number), 128 + number,
                       f"/x was ended by {said}", program_status=1)
+
+    def test_signals_in_profile_2(self) -> None:
+        for number, said in (
+            (4, f"SIGILL, signal 4: a word that is no instruction of RV64IMA, or a jump into data{PLACE}"),
+            (7, "SIGBUS, signal 7: a jump, or the entry, at no multiple of 4, or an atomic instruction at no multiple "
+                f"of its size{PLACE}"),
+        ):
+            self.ends(report(b"exit 1 signal %d\n" % number), 128 + number, f"/x was ended by {said}", 1,
+                      ("--profile", "2"))
 
     def test_a_signal_where_the_file_says_why(self) -> None:
         said = "build it, and each library, with -march=rv64im -mabi=lp64"

@@ -9,8 +9,8 @@ import tarfile
 import unittest
 from typing import Dict
 
-from hostilelib.building import Guest
-from hostilelib.numbers import AT_FDCWD, SYMLINKAT
+from hostilelib.building import ROOM, Guest
+from hostilelib.numbers import AT_FDCWD, READ, SYMLINKAT, WRITE
 from imagelib.index import read_image
 from imagelib.testing import tree_of
 from program import EXAMPLES, PROGRAM, TOP, fresh_checkout, needs_program
@@ -18,13 +18,17 @@ from reportlib.reader import Entry, Reader
 from reportlib.testing import run as report
 from runlib.testing import Done, RunCase, elf
 
-NAMES = sorted(index.parent.name for index in EXAMPLES.glob("*/image.json"))
 CODES = {"shell": 3}
 
 
 def words_of(name: str) -> list:
     """The command that lies beside an example."""
     return shlex.split((EXAMPLES / name / "command").read_text())
+
+
+# Those that take no option of the program, which tools/run has no word for.
+NAMES = [name for name in sorted(index.parent.name for index in EXAMPLES.glob("*/image.json"))
+         if words_of(name)[0] == "--"]
 
 
 def code(*words: int) -> bytes:
@@ -117,6 +121,40 @@ class Real(RunCase):
         self.says(done, 125, "--tree: no image can hold the tree at the end: "
                              "a path or the target of a link is no UTF-8")
         self.assertEqual(self.left(), ["tree"])
+
+    def test_the_input_is_read(self) -> None:
+        guest = Guest(8)
+        for size in (2, 1, 0):
+            guest.call(READ, 0, ROOM, 2)
+            guest.expect(size)
+            guest.call(WRITE, 1, ROOM, size)
+        self.write("x", guest.executable())
+        self.write("data/in", b"abc")
+        for words in (("tree",), ("--profile", "2", "tree"), ("--twice", "--quiet", "--tree", "new", "tree")):
+            with self.subTest(words):
+                self.assertEqual(self.run_words("--stdin", "data/in", *words, "--", "/x"), Done(0, b"abc", []))
+        subprocess.run([TOP / "tools" / "image", "pack", "tree", "image"], cwd=self.work, stdout=subprocess.DEVNULL,
+                       check=True)
+        (self.work / "image" / "in").write_bytes(b"ABC")
+        self.assertEqual(self.run_words("--stdin", "in", "image", "--", "/x"), Done(0, b"ABC", []))
+        self.says(self.run_words("--stdin", "data/in", "image", "--", "/x"), 125,
+                  "image: refused: 9 NoInput: --stdin 'data/in': the blob's name `data/in` has more than letters and "
+                  "digits of ASCII, `.`, `_` and `-`")
+
+    def test_atomic_instructions_and_devices_of_profile_2(self) -> None:
+        # mv a2, sp; li a1, 1; amoadd.w a0, a1, (a2); and then the end.
+        self.write("x", code(0x00010613, li(A1, 1), 0x00B6252F, li(A0, 5), li(A7, 93), ECALL))
+        self.assertEqual(self.run_command("/x").status, 132)
+        done = self.run_words("--profile", "2", "--report", "kept", "tree", "--", "/x")
+        self.assertEqual(done, Done(5, b"", []))
+        self.assertTrue((self.work / "kept").read_bytes().startswith(b"dettrace 2\n"))
+        with tarfile.open(self.work / "dev.tar", "w") as archive:
+            member = tarfile.TarInfo("dev/zero")
+            member.type, (member.devmajor, member.devminor) = tarfile.CHRTYPE, (1, 5)
+            archive.addfile(member)
+        done = self.run_words("--profile", "2", "--report", "kept", "dev.tar", "--", "/dev/zero")
+        self.says(done, 126, "/dev/zero cannot be started: in dev.tar /dev/zero is a device")
+        self.assertIn(b"\ndev 3 0644 0 zero /dev/zero\n", (self.work / "kept").read_bytes())
 
     def end(self, data: bytes, *options: str) -> tuple:
         """How a run of a program ends, and the first words of what is said."""

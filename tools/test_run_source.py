@@ -103,6 +103,131 @@ class Names(RunCase):
         self.assertEqual(self.run_words(name, "--", "/x"), Done(0, b"hello\n", []))
 
 
+def digest(data: bytes) -> str:
+    return hashlib.sha256(data).hexdigest()
+
+
+class Inputs(RunCase):
+    """The file that the program reads from standard input."""
+
+    def setUp(self) -> None:
+        super().setUp()
+        self.stand_in(HELLO)
+        self.write("list", b"milk\n")
+        self.write("d/\u00e4 b", b"bread\n")
+        os.symlink("d", self.work / "tree" / "folder")
+        with tarfile.open(self.work / "tree.tar", "w") as archive:
+            archive.add(self.work / "tree", ".")
+
+    def test_a_file_of_a_folder_or_an_archive(self) -> None:
+        for source in ("tree", "tree.tar"):
+            for word, data in (("list", b"milk\n"), ("/list", b"milk\n"), ("./list", b"milk\n"),
+                               ("d/\u00e4 b", b"bread\n"), ("/folder/../folder/\u00e4 b", b"bread\n")):
+                with self.subTest(word, source=source):
+                    self.stand_in(HELLO)
+                    self.assertEqual(self.run_words("--stdin", word, source, "--", "/x").status, 0)
+                    self.assertEqual(self.calls()[0][2:], [f"--stdin={digest(data)}", "--", "/x"])
+
+    def test_a_file_of_an_image_is_named_as_the_program_has_it(self) -> None:
+        for word in ("hello", "-x", "/list", "n" * 255):
+            self.stand_in(HELLO)
+            self.assertEqual(self.run_words(f"--stdin={word}", EXAMPLES / "hello", "--", "/x").status, 0)
+            self.assertEqual(self.calls(), [["run", str(EXAMPLES / "hello"), f"--stdin={word}", "--", "/x"]])
+
+    def test_each_of_several_runs_has_it_and_so_has_an_export(self) -> None:
+        self.export('{"entries":[],"version":1}')
+        self.assertEqual(self.run_words("--seed", "5", "--check", "3", "--stdin", "list", "--tree", "new", "tree", "--",
+                                        "/x").status, 0)
+        calls = self.calls()
+        self.assertEqual([call[0] for call in calls], ["export", "run", "run"])
+        for call in calls:
+            self.assertEqual(call[call.index("--") - 1], f"--stdin={digest(b'milk' + bytes([10]))}")
+
+    def test_what_is_no_file_there(self) -> None:
+        for word, said in (
+            ("lisp", "--stdin lisp: in tree nothing is at /lisp; there is /list"),
+            ("no", "--stdin no: in tree nothing is at /no; / has d, folder and list"),
+            ("/", "--stdin /: in tree / is a directory"),
+            ("folder", "--stdin folder: in tree /d is a directory (/folder -> d)"),
+            ("list/", "--stdin list/: in tree its path goes through /list, which is a file"),
+            ("n" * 256, f"--stdin {'n' * 256}: in tree a name of its path has 256 bytes, more than 255"),
+        ):
+            with self.subTest(word):
+                self.says(self.run_words("--stdin", word, "tree", "--", "/x"), 125, said)
+                self.assertEqual(self.calls(), [])
+
+    def test_an_image_whose_input_is_refused(self) -> None:
+        shutil.copytree(EXAMPLES / "hello", self.work / "image")
+        for word, size, kind, line in (
+            ("in", None, "9 NoInput", "there is no file 'image/in'"),
+            ("big", 67_108_865, "10 InputBig", "the blob has 67108865 bytes, more than 67108864"),
+        ):
+            if size is not None:
+                (self.work / "image" / word).touch()
+                os.truncate(self.work / "image" / word, size)
+            self.stand_in(b"", status=3, errors=f"dettrace: image refused: {kind}")
+            self.says(self.run_words("--stdin", word, "image", "--", "/x"), 125,
+                      f"image: refused: {kind}: --stdin '{word}': {line}")
+
+
+class Profiles(RunCase):
+    """The profile of what is packed."""
+
+    def setUp(self) -> None:
+        super().setUp()
+        self.stand_in(HELLO)
+        self.write("list", b"milk\n")
+
+    def version(self, *words: str) -> int:
+        """The version of the image that the program was given."""
+        self.assertEqual(self.run_words(*words, "--", "/x"), Done(0, b"hello\n", []))
+        return read_image(self.calls()[-1][1]).version
+
+    def archive(self, *numbers: int) -> None:
+        """An archive with a character device of these numbers."""
+        with tarfile.open(self.work / "tree.tar", "w") as archive:
+            member = tarfile.TarInfo("dev/null")
+            member.type, (member.devmajor, member.devminor) = tarfile.CHRTYPE, numbers
+            archive.addfile(member)
+
+    def test_a_folder_has_an_image_of_each(self) -> None:
+        for words, version in ((("tree",), 1), (("--profile", "2", "tree"), 2), (("--profile=1", "tree"), 1),
+                               (("tree", "--profile=2"), 2)):
+            with self.subTest(words):
+                self.assertEqual(self.version(*words), version)
+        self.assertEqual(len(self.images()), 2)
+
+    def test_an_archive_has_an_image_of_each(self) -> None:
+        with tarfile.open(self.work / "tree.tar", "w") as archive:
+            archive.add(self.work / "tree", ".")
+        for _ in range(2):
+            self.assertEqual(self.version("tree.tar"), 1)
+            self.assertEqual(self.version("--profile", "2", "tree.tar"), 2)
+        key = digest((self.work / "tree.tar").read_bytes())
+        self.assertEqual(self.images(), [key, f"{key}.2"])
+
+    def test_devices(self) -> None:
+        self.archive(1, 3)
+        self.assertEqual(self.version("--profile", "2", "tree.tar"), 2)
+        self.says(self.run_words("tree.tar", "--", "/x"), 125,
+                  "'/dev/null': the device null, which an image of version 1 cannot hold (--profile 2 takes it)")
+        self.archive(5, 0)
+        self.says(self.run_words("--profile", "2", "tree.tar", "--", "/x"), 125,
+                  "'/dev/null': the character device 5:0, which an image cannot hold")
+
+    def test_files_past_the_limit_of_the_first(self) -> None:
+        os.truncate(self.work / "tree" / "list", 16_777_217)
+        self.says(self.run_command("/x"), 125,
+                  "'/list': it has 16777217 bytes, more than 16777216 (--profile 2 takes it)")
+        self.assertEqual(self.version("--profile", "2", "tree"), 2)
+
+    def test_an_image_has_its_own(self) -> None:
+        for number in ("1", "2"):
+            self.says(self.run_words("--profile", number, EXAMPLES / "hello", "--", "/x"), 125,
+                      f"--profile: {EXAMPLES}/hello is an image, whose version says it: leave it out")
+        self.assertEqual(self.calls(), [])
+
+
 class Cache(RunCase):
     def setUp(self) -> None:
         super().setUp()

@@ -65,6 +65,19 @@ class Starts(RunCase):
         path = "/a" * 2048
         self.refused(36, f"{path} cannot be started: its path has 4096 bytes, more than 4095", path)
 
+    def test_devices(self) -> None:
+        image = self.work / "image"
+        image.mkdir()
+        (image / "image.json").write_text('{"version":2,"entries":[{"path":"/null","type":"dev","mode":511,'
+                                          '"device":"null"},{"path":"/run","type":"link","target":"null"}]}')
+        for errno, path, said in (
+            (13, "/null", "/null is a device"), (13, "/run", "/null is a device (/run -> null)"),
+            (20, "/null/x", "its path goes through /null, which is a device"),
+        ):
+            with self.subTest(path):
+                self.stand_in(report(verdict=f"nostart {errno}"), status=10)
+                self.says(self.run_words("image", "--", path), 126, f"{path} cannot be started: in image {said}")
+
     def test_too_many_words_and_too_much_memory(self) -> None:
         self.write("a", elf())
         self.write("large", elf(segments=[LOAD, (1, 0, 0x100000, 0, 64 << 20)]))

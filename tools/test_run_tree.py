@@ -240,6 +240,31 @@ class NotThere(TreeCase):
         self.assertEqual(self.left_in_work(), ["new"])
 
 
+class Devices(TreeCase):
+    """The tree that a run on an image of version 2 leaves."""
+
+    def setUp(self) -> None:
+        super().setUp()
+        self.export('{"entries":[{"mode":493,"path":"/dev","type":"dir"},{"device":"null","mode":438,'
+                    '"path":"/dev/null","type":"dev"}],"version":2}')
+
+    def test_they_are_made_by_root_and_named_for_anybody_else(self) -> None:
+        with mock.patch("imagelib.unpack.os.mknod", side_effect=PermissionError(1, "not permitted")):
+            done = self.run_words("--tree", "new", "tree", "--", "/x")
+        self.assertEqual(done, Done(125, b"hello\n", [
+            "run: --tree: '/dev/null': the device null, which only root can make"]))
+        self.assertEqual(self.left_in_work(), [])
+        if os.geteuid() == 0:
+            self.assertEqual(self.run_words("--take", "dev=new", "tree", "--", "/x"), Done(0, b"hello\n", []))
+            self.assertEqual(self.made("new"), {"/null": ("dev", 0o666, (1, 3))})
+
+    def test_paths_of_devices(self) -> None:
+        for path, line in (("/dev/null", "/dev/null is a device: name the directory that it is in"),
+                           ("/dev/null/x", "its path goes through /dev/null, which is a device")):
+            done = self.run_words("--take", f"{path}=new", "tree", "--", "/x")
+            self.assertEqual(done, Done(125, b"hello\n", [f"run: --take {path}: in the tree at the end {line}"]))
+
+
 class Stops(TreeCase):
     def test_a_signal_during_the_run_leaves_no_folder(self) -> None:
         self.stand_in(b"", more="printf 'dettrace 1\\nout 1 6\\nfir'; exec sleep 100")

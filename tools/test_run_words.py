@@ -37,6 +37,9 @@ class Words(RunCase):
             (("--seed", "٣", "tree", "--", "/a"), f"--seed ٣: not a whole number from 0 to {HIGHEST}"),
             (("--workers", "65", "tree", "--", "/a"), "--workers 65: at most 64"),
             (("--workers", "0", "tree", "--", "/a"), "--workers 0: at least 1"),
+            (("--profile", "0", "tree", "--", "/a"), "--profile 0: at least 1"),
+            (("--profile", "3", "tree", "--", "/a"), "--profile 3: at most 2"),
+            (("--profile", "two", "tree", "--", "/a"), "--profile two: not a whole number from 1 to 2"),
             (("--check", "1", "tree", "--", "/a"), "--check 1: at least 2"),
             (("--check", "1001", "tree", "--", "/a"), "--check 1001: at most 1000"))
 
@@ -53,6 +56,12 @@ class Words(RunCase):
             (("tree", "--report=", "--", "/a"), "--report: the name of the file is empty"),
             (("tree", "--report", "-", "--", "/a"),
              "--report -: standard output has what the program writes; name a file"),
+            (("tree", "--stdin", "--", "/a"), "--stdin: the name of a file is missing behind it"),
+            (("tree", "--stdin=", "--", "/a"), "--stdin: the name of the file is empty"),
+            (("--stdin", "a", "--stdin", "a", "tree", "--", "/a"), "--stdin stands twice"),
+            (("--stdin", os.fsdecode(b"\xff"), "tree", "--", "/a"),
+             "--stdin \\xff: the name is no UTF-8, as all names in an image are"),
+            (("--stdin", "n" * 4096, "tree", "--", "/a"), "--stdin: the name has 4096 bytes, more than 4095"),
             (("--twice", "--check", "3", "tree", "--", "/a"), "--twice is --check 2: give one of them"))
 
     def test_names_and_the_words_behind_them(self) -> None:
@@ -75,9 +84,10 @@ class Words(RunCase):
                 done = self.run_words(*words)
                 self.assertEqual((done.status, done.err), (0, []))
                 text = done.out.decode()
-                for part in ("--seed N", "--budget N", "--workers N", "--host N", "--report FILE", "--check N",
-                             "--tree FOLDER", "--take PATH=FOLDER", "--twice", "--strict", "--quiet", "--version", "  125 ", "  126 ", "  127 ",
-                             "  128 + N", "  200 ", "  201 ", "  202 ", "  203 ", "XDG_CACHE_HOME", "DETTRACE"):
+                for part in ("--seed N", "--budget N", "--workers N", "--host N", "--stdin NAME", "--profile N",
+                             "--report FILE", "--tree FOLDER", "--take PATH=FOLDER", "--check N", "--twice", "--strict",
+                             "--quiet", "--version", "  125 ", "  126 ", "  127 ", "  128 + N", "  200 ", "  201 ",
+                             "  202 ", "  203 ", "XDG_CACHE_HOME", "DETTRACE"):
                     self.assertIn(part, text)
                 self.assertEqual([line for line in text.splitlines() if len(line) > 120], [])
 
@@ -90,13 +100,15 @@ class Words(RunCase):
         self.assertEqual(call[2:], ["--seed", "7", "--budget", "5", "--host", str(HIGHEST), "--", "A=b c", "/p",
                                     "--seed", "--", "", "ä"])
 
-    def test_workers_are_passed_where_the_program_has_them(self) -> None:
+    def test_workers_and_an_input_are_passed_where_the_program_has_them(self) -> None:
         self.assertEqual(self.run_words("--workers", "64", "tree", "--", "/a").status, 0)
         self.assertEqual(self.calls()[0][2:], ["--workers", "64", "--", "/a"])
-        self.stand_in(HELLO, usage=OLD_USAGE)
-        done = self.run_words("--workers", "3", "tree", "--", "/a")
-        self.says(done, 125, f"--workers: this dettrace does not have it: {OLD_USAGE}")
-        self.assertEqual(self.calls(), [])
+        self.write("list", b"milk\n")
+        for words in (("--workers", "3"), ("--stdin", "list")):
+            self.stand_in(HELLO, usage=OLD_USAGE)
+            done = self.run_words(*words, "tree", "--", "/a")
+            self.says(done, 125, f"{words[0]}: this dettrace does not have it: {OLD_USAGE}")
+            self.assertEqual(self.calls(), [])
 
     def test_the_name_in_lines_is_that_by_which_the_tool_is_called(self) -> None:
         link = self.work / "dettrace-run"

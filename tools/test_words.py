@@ -2,10 +2,9 @@
 import subprocess
 import unittest
 
+from folder_case import USAGE
 from program import EXAMPLES, PROGRAM, needs_program
 
-USAGE = (b"dettrace: usage: dettrace run IMAGE [--seed N] [--budget N] [--workers N] [--host N] -- "
-         b"[NAME=VALUE ..] PROGRAM [ARG ..]\n")
 HELLO = (b"run", bytes(EXAMPLES / "hello"), b"--", b"/hello")
 # A byte that stands in no UTF-8.
 NO_TEXT = b"\xff"

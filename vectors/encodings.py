@@ -11,12 +11,20 @@ import tempfile
 
 REGISTERS = "add sub sll slt sltu xor srl sra or and mul mulh mulhsu mulhu div divu rem remu addw subw sllw srlw sraw mulw divw divuw remw remuw"
 
+ATOMICS = "sc amoswap amoadd amoxor amoand amoor amomin amomax amominu amomaxu"
+
 
 def rows():
     """Each instruction as text."""
     for name in REGISTERS.split():
         for rd, rs1, rs2 in (31, 0, 0), (0, 31, 0), (0, 0, 31):
             yield f"{name} x{rd}, x{rs1}, x{rs2}"
+    for size in "wd":
+        for rd, rs1 in (31, 0), (0, 31):
+            yield f"lr.{size} x{rd}, (x{rs1})"
+        for name in ATOMICS.split():
+            for rd, rs1, rs2 in (31, 0, 0), (0, 31, 0), (0, 0, 31):
+                yield f"{name}.{size} x{rd}, x{rs2}, (x{rs1})"
     for name in "addi slti sltiu xori ori andi addiw".split():
         for rd, rs1, i in (31, 0, -2048), (0, 31, 2047):
             yield f"{name} x{rd}, x{rs1}, {i}"
@@ -49,7 +57,7 @@ def words(texts):
         source, made, plain = (os.path.join(folder, name) for name in ("a.s", "a.o", "a.bin"))
         with open(source, "w") as file:
             file.write(".option norvc\n.option norelax\n" + "".join(text + "\n" for text in texts))
-        subprocess.run(["riscv64-linux-gnu-as", "-march=rv64im_zicsr", "-o", made, source], check=True)
+        subprocess.run(["riscv64-linux-gnu-as", "-march=rv64ima_zicsr", "-o", made, source], check=True)
         subprocess.run(["riscv64-linux-gnu-objcopy", "-O", "binary", "-j", ".text", made, plain], check=True)
         with open(plain, "rb") as file:
             code = file.read()

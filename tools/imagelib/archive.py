@@ -8,10 +8,10 @@ from tarfile import TarFile, TarInfo
 from typing import Dict, Iterator, List, Optional
 
 from .errors import Outside, reason_of
-from .index import CALLED, DIR, FILE, LINK
+from .index import CALLED, DEV, DIR, FILE, LINK
 from .store import PIECE
 from .texts import quoted, shown
-from .tree import MODE_BITS, Excluded, Item, Problems, ends_of
+from .tree import MODE_BITS, Excluded, Item, Numbers, Problems, character_kind, device_of, ends_of
 from .zstd import plain
 
 # The mode of a directory that the archive doesn't name.
@@ -140,8 +140,10 @@ class Standing:
     def item_of(self, path: bytes, member: TarInfo) -> Optional[Item]:
         """The item that a member is; that of a hard link is its target's."""
         if not member.islnk():
-            target = raw(member.linkname) if member.issym() else b""
-            return Item(path, kind_of(member), member.mode & MODE_BITS, member.size, target, member.offset, member)
+            kind = kind_of(member)
+            target = raw(member.linkname) if kind == LINK else b""
+            device = device_of(numbers_of(member)) if kind == DEV else ""
+            return Item(path, kind, member.mode & MODE_BITS, member.size, target, member.offset, member, device)
         target_path = path_of(member.linkname)
         found = self.items.get(target_path) if target_path else None
         if found is None:
@@ -177,6 +179,10 @@ def path_of(name: str) -> Optional[bytes]:
     return None if b".." in names else b"".join(b"/" + part for part in names)
 
 
+def numbers_of(member: TarInfo) -> Numbers:
+    return member.devmajor, member.devminor
+
+
 def kind_of(member: TarInfo) -> str:
     """The type of an entry, or what no entry can be."""
     if member.isreg():
@@ -187,6 +193,8 @@ def kind_of(member: TarInfo) -> str:
         return LINK
     if member.isfifo():
         return "a FIFO"
-    if member.isdev():
-        return "a device"
+    if member.ischr():
+        return character_kind(numbers_of(member))
+    if member.isblk():
+        return f"the block device {member.devmajor}:{member.devminor}"
     return f"a member of the unknown type `{shown(member.type)}`"

@@ -63,6 +63,8 @@ NO_PARENT = Kind(5, "NoParent")
 NO_BLOB = Kind(6, "NoBlob")
 TOO_BIG = Kind(7, "TooBig")
 TOO_MANY = Kind(8, "TooMany")
+NO_INPUT = Kind(9, "NoInput")
+INPUT_BIG = Kind(10, "InputBig")
 
 
 class Refused(ImageError):

@@ -6,7 +6,7 @@ import os
 import secrets
 import signal
 import stat
-from typing import Iterator, List
+from typing import IO, Iterator, List
 
 from .errors import Outside, reason_of
 from .texts import quoted
@@ -36,13 +36,14 @@ def opened(top: int, path: bytes) -> Iterator[int]:
 # ---- places
 
 
-def free_place(word: str, name: str) -> str:
-    """The place of a folder that is to be made, without `/` at its end; Outside where it cannot be made there."""
+def free_place(word: str, name: str, what: str = "folder") -> str:
+    """The place of a folder, or of a file, that is to be made, without `/` at its end; Outside where it cannot be made
+    there."""
     place = word.rstrip("/") or word[:1]
     if not place:
-        raise Outside(f"{name} is empty: it is to name the folder that is made")
+        raise Outside(f"{name} is empty: it is to name the {what} that is made")
     if os.path.lexists(place):
-        raise Outside(f"{quoted(place)} exists already: name a folder that doesn't")
+        raise Outside(f"{quoted(place)} exists already: name a {what} that doesn't")
     parent = parent_of(place)
     try:
         mode = os.stat(parent).st_mode
@@ -84,6 +85,22 @@ def made_whole(place: str, mode: int = 0o777) -> Iterator[str]:
         except BaseException:
             remove(folder)
             raise
+
+
+@contextlib.contextmanager
+def file_made_whole(place: str) -> Iterator[IO[bytes]]:
+    """The same for a new file, which is open to be written."""
+    with stops_held():
+        folder = new_beside(place, 0o700)
+        try:
+            part = os.path.join(folder, os.path.basename(place))
+            with open(part, "wb") as file:
+                yield file
+            os.rename(part, place)
+        except OSError as error:
+            raise Outside(f"{quoted(place)} cannot be made: {reason_of(error)}") from error
+        finally:
+            remove(folder)
 
 
 def new_beside(place: str, mode: int) -> str:

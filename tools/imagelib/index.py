@@ -10,7 +10,7 @@ from collections import Counter
 from typing import Any, Callable, Dict, List, NamedTuple, Optional, Tuple
 
 from . import strict_json
-from .errors import BAD_INDEX, BAD_PATH, NO_BLOB, NO_INDEX, NO_PARENT, TOO_BIG, TOO_MANY, TWICE
+from .errors import BAD_INDEX, BAD_PATH, INPUT_BIG, NO_BLOB, NO_INDEX, NO_INPUT, NO_PARENT, TOO_BIG, TOO_MANY, TWICE
 from .errors import Kind, Refused, StoreFault
 from .store import Store
 from .texts import counted, quoted, shown
@@ -18,17 +18,26 @@ from .texts import counted, quoted, shown
 INDEX = "image.json"
 
 INDEX_LIMIT = 4_194_304
-FILE_LIMIT = 16_777_216
+# What a file may have by the image's version, which is that of the profile that it runs under.
+FILE_LIMITS = {1: 16_777_216, 2: 67_108_864}
+INPUT_LIMIT = 67_108_864
 ENTRY_LIMIT = 4_095
 PATH_LIMIT = 4_095
 NAME_LIMIT = 255
 MODE_LIMIT = 0o7777
 LINK_MODE = 0o777
 
-FILE, DIR, LINK = "file", "dir", "link"
+FILE, DIR, LINK, DEV = "file", "dir", "link", "dev"
 
 # What an entry is called in a sentence.
-CALLED = {FILE: "a file", DIR: "a directory", LINK: "a symbolic link"}
+CALLED = {FILE: "a file", DIR: "a directory", LINK: "a symbolic link", DEV: "a device"}
+
+# The types that entries have by the image's version, and how a sentence lists them.
+TYPES = {1: (FILE, DIR, LINK), 2: (FILE, DIR, LINK, DEV)}
+TYPES_SAID = {1: "`file`, `dir` or `link`", 2: "`file`, `dir`, `link` or `dev`"}
+
+# The devices that there are, with the numbers that Linux has for them: all are character devices.
+DEVICES = {"null": (1, 3), "zero": (1, 5), "random": (1, 8)}
 
 # The names that the program gives to blobs where it exports a tree, which come before the index.
 EXPORTED = re.compile("b[0-9]+")
@@ -37,7 +46,8 @@ BLOB_CHARACTERS = frozenset("ABCDEFGHIJKLMNOPQRSTUVWXYZabcdefghijklmnopqrstuvwxy
 
 
 class Entry(NamedTuple):
-    """An entry: a file has a mode and a blob, a directory a mode, a link a target; `number` is its place, from 1."""
+    """An entry: all but a link have a mode, a file also a blob, a link a target, and a device its name; `number` is its
+    place, from 1."""
 
     number: int
     path: str
@@ -45,6 +55,7 @@ class Entry(NamedTuple):
     mode: int = LINK_MODE
     blob: str = ""
     target: str = ""
+    device: str = ""
 
     def key(self) -> bytes:
         """What entries are put in order by."""
@@ -54,12 +65,22 @@ class Entry(NamedTuple):
         return f"entry {self.number}, {quoted(self.path)}: {reason}"
 
 
+class Blob(NamedTuple):
+    """A blob of an image: its name, which is its digest where it was packed, and its size."""
+
+    name: str
+    size: int
+
+
 class Image(NamedTuple):
-    """A good image: its entries in byte order of their paths, and the sizes of its blobs."""
+    """A good image: its entries in byte order of their paths, the sizes of its blobs, and the blob that a run reads as
+    its input, where one was named."""
 
     store: Store
+    version: int
     entries: List[Entry]
     sizes: Dict[str, int]
+    input: Optional[Blob] = None
 
     def summary(self) -> str:
         """What it holds, in counts."""
@@ -67,12 +88,13 @@ class Image(NamedTuple):
 
 
 def summary(types: Counter, sizes: Dict[str, int]) -> str:
-    """What an image holds: so many entries of each type, and blobs of these sizes."""
+    """What an image holds: so many entries of each type, devices where there are some, and blobs of these sizes."""
     return ", ".join(
         [
             counted(types[DIR], "directory", "directories"),
             counted(types[FILE], "file", "files"),
             counted(types[LINK], "link", "links"),
+            *([counted(types[DEV], "device", "devices")] if types[DEV] else []),
             counted(len(sizes), "blob", "blobs"),
             counted(sum(sizes.values()), "byte", "bytes"),
         ]
@@ -87,10 +109,10 @@ def parent_of(path: str) -> str:
 # ---- writing
 
 
-def index_text(entries: List[Entry]) -> str:
+def index_text(entries: List[Entry], version: int) -> str:
     """The text of an index, an entry a line."""
     lines = ",\n               ".join(entry_text(entry) for entry in entries)
-    return '{ "version": 1,\n  "entries": ' + (f"[ {lines} ]" if lines else "[]") + " }\n"
+    return f'{{ "version": {version},\n  "entries": ' + (f"[ {lines} ]" if lines else "[]") + " }\n"
 
 
 def entry_text(entry: Entry) -> str:
@@ -101,26 +123,32 @@ def entry_text(entry: Entry) -> str:
         members["mode"] = entry.mode
     if entry.type == FILE:
         members["blob"] = entry.blob
+    if entry.type == DEV:
+        members["device"] = entry.device
     return "{ " + json.dumps(members, ensure_ascii=False)[1:-1] + " }"
 
 
 # ---- reading
 
 
-def read_image(folder: str) -> Image:
-    """The image of a folder; Refused or StoreFault where the program would say so."""
+def read_image(folder: str, input_name: Optional[str] = None) -> Image:
+    """The image of a folder, with the input where one is named; Refused or StoreFault where the program would say
+    so."""
     store = Store(folder)
-    entries = entries_of(index_value(store))
+    version, entries = index_of(index_value(store))
     for kind, reasons in RULES:
         refuse_if(kind, reasons(entries))
     order = sorted(entries, key=Entry.key)
     sizes = sizes_of(store, order)
-    refuse_if(TOO_BIG, too_big(entries, sizes))
+    refuse_if(TOO_BIG, too_big(entries, sizes, FILE_LIMITS[version]))
     refuse_if(TOO_MANY, too_many(len(entries)))
+    named = None if input_name is None else input_of(store, input_name)
     for entry in order:
         if entry.type == FILE:
             store.look(entry.blob, sizes[entry.blob])
-    return Image(store, order, sizes)
+    if named:
+        store.look(named.name, named.size)
+    return Image(store, version, order, sizes, named)
 
 
 def refuse_if(kind: Kind, reasons: List[str]) -> None:
@@ -152,21 +180,23 @@ def index_value(store: Store) -> Any:
         raise Refused(BAD_INDEX, [f"{INDEX}, {error}"]) from error
 
 
-def entries_of(value: Any) -> List[Entry]:
-    """The entries that an index lists."""
+def index_of(value: Any) -> Tuple[int, List[Entry]]:
+    """The version of an index, and the entries that it lists."""
     if not isinstance(value, dict):
         raise Refused(BAD_INDEX, [f"{INDEX} is {described(value)}, and no object"])
     reasons = []
     version = value.get("version")
-    if not (type(version) is int and version == 1):
-        reasons.append(f"{INDEX}: {lacking(value, 'version', 'the number 1')}")
+    if not (type(version) is int and version in TYPES):
+        reasons.append(f"{INDEX}: {lacking(value, 'version', 'the number 1 or 2')}")
+        # What no version takes is named all the same.
+        version = max(TYPES)
     items = value.get("entries")
     if not isinstance(items, list):
         reasons.append(f"{INDEX}: {lacking(value, 'entries', 'an array')}")
         items = []
     entries = []
     for number, item in enumerate(items, 1):
-        faults = form_faults(item)
+        faults = form_faults(item, version)
         if faults:
             path = item.get("path") if isinstance(item, dict) else None
             place = f"entry {number}, {quoted(path)}" if isinstance(path, str) else f"entry {number}"
@@ -174,25 +204,29 @@ def entries_of(value: Any) -> List[Entry]:
         elif not reasons:
             entries.append(entry_of(number, item))
     refuse_if(BAD_INDEX, reasons)
-    return entries
+    return version, entries
 
 
-def form_faults(item: Any) -> List[str]:
-    """What is wrong with the form of an entry: its members, and what they hold."""
+def form_faults(item: Any, version: int) -> List[str]:
+    """What is wrong with the form of an entry of a version: its members, and what they hold."""
     if not isinstance(item, dict):
         return [f"it is {described(item)}, and no object"]
     faults = []
     if not isinstance(item.get("path"), str):
         faults.append(lacking(item, "path", "a text"))
     kind = item.get("type")
-    if not (isinstance(kind, str) and kind in CALLED):
-        faults.append(lacking(item, "type", "`file`, `dir` or `link`"))
-    if kind in (FILE, DIR) and not is_mode(item.get("mode")):
+    if kind == DEV and kind not in TYPES[version]:
+        faults.append(f"`type` is `{DEV}`, which no entry of version {version} has")
+    elif not (isinstance(kind, str) and kind in TYPES[version]):
+        faults.append(lacking(item, "type", TYPES_SAID[version]))
+    if kind in (FILE, DIR, DEV) and not is_mode(item.get("mode")):
         faults.append(lacking(item, "mode", f"a whole number from 0 to {MODE_LIMIT}"))
     if kind == FILE and not isinstance(item.get("blob"), str):
         faults.append(lacking(item, "blob", "a text"))
     if kind == LINK and not isinstance(item.get("target"), str):
         faults.append(lacking(item, "target", "a text"))
+    if kind == DEV and not is_device(item.get("device")):
+        faults.append(lacking(item, "device", "`null`, `zero` or `random`"))
     return faults
 
 
@@ -201,12 +235,18 @@ def is_mode(value: Any) -> bool:
     return type(value) is int and 0 <= value <= MODE_LIMIT
 
 
+def is_device(value: Any) -> bool:
+    return isinstance(value, str) and value in DEVICES
+
+
 def entry_of(number: int, item: Dict[str, Any]) -> Entry:
     kind = item["type"]
     if kind == FILE:
         return Entry(number, item["path"], kind, mode=item["mode"], blob=item["blob"])
     if kind == DIR:
         return Entry(number, item["path"], kind, mode=item["mode"])
+    if kind == DEV:
+        return Entry(number, item["path"], kind, mode=item["mode"], device=item["device"])
     return Entry(number, item["path"], kind, target=item["target"])
 
 
@@ -334,17 +374,32 @@ def sizes_of(store: Store, order: List[Entry]) -> Dict[str, int]:
     return sizes
 
 
-def too_big(entries: List[Entry], sizes: Dict[str, int]) -> List[str]:
+def too_big(entries: List[Entry], sizes: Dict[str, int], limit: int) -> List[str]:
     """Entries whose blob is longer than a file may be."""
     return [
-        entry.said(f"the blob {entry.blob} has {sizes[entry.blob]} bytes, more than {FILE_LIMIT}")
+        entry.said(f"the blob {entry.blob} has {sizes[entry.blob]} bytes, more than {limit}")
         for entry in entries
-        if entry.type == FILE and sizes[entry.blob] > FILE_LIMIT
+        if entry.type == FILE and sizes[entry.blob] > limit
     ]
 
 
 def too_many(count: int) -> List[str]:
     return [f"there are {count} entries, more than {ENTRY_LIMIT}"] if count > ENTRY_LIMIT else []
+
+
+def input_of(store: Store, name: str) -> Blob:
+    """The blob that is named as the input of a run."""
+    fault = blob_fault(name)
+    size = None if fault else store.size(name)
+    if size is None:
+        raise Refused(NO_INPUT, [input_said(name, fault or f"there is no file {quoted(store.path(name))}")])
+    if size > INPUT_LIMIT:
+        raise Refused(INPUT_BIG, [input_said(name, f"the blob has {size} bytes, more than {INPUT_LIMIT}")])
+    return Blob(name, size)
+
+
+def input_said(name: str, reason: str) -> str:
+    return f"--stdin {quoted(name)}: {reason}"
 
 
 # The refusals that need no blob, in the program's order.

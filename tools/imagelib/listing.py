@@ -5,7 +5,7 @@ import stat
 from collections import Counter
 from typing import List, NamedTuple
 
-from .index import DIR, FILE, LINK, Entry, Image, parent_of
+from .index import DEV, DEVICES, DIR, FILE, LINK, Entry, Image, parent_of
 from .texts import shown
 
 # The time of every node before anything changes: 2000-01-01 00:00:00 UTC.
@@ -13,11 +13,11 @@ STAMP = "Jan  1  2000"
 
 DIRECTORY_SIZE = 4096
 
-TYPE_BITS = {FILE: stat.S_IFREG, DIR: stat.S_IFDIR, LINK: stat.S_IFLNK}
+TYPE_BITS = {FILE: stat.S_IFREG, DIR: stat.S_IFDIR, LINK: stat.S_IFLNK, DEV: stat.S_IFCHR}
 
 
 class Row(NamedTuple):
-    """What is told of an entry."""
+    """What is told of an entry. A device has its numbers in the place of a size."""
 
     mode: str
     names: str
@@ -42,4 +42,7 @@ def row_of(image: Image, entry: Entry, inner: int) -> Row:
     if entry.type == LINK:
         size = len(entry.target.encode())
         return Row(mode, "1", str(size), f"{shown(entry.path)} -> {shown(entry.target)}")
+    if entry.type == DEV:
+        major, minor = DEVICES[entry.device]
+        return Row(mode, "1", f"{major}, {minor}", shown(entry.path))
     return Row(mode, "1", str(image.sizes[entry.blob]), shown(entry.path))

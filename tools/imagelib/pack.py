@@ -11,8 +11,8 @@ from typing import Dict, Hashable, Iterable, List, NamedTuple, Sequence, Union
 from .archive import ArchiveTree
 from .errors import CannotHold, ImageError, Outside, reason_of
 from .folders import free_place, is_inside, made_whole, stop_if_asked
-from .index import CALLED, DIR, FILE, FILE_LIMIT, INDEX, INDEX_LIMIT, LINK, NAME_LIMIT, PATH_LIMIT
-from .index import Entry, index_text, read_image, summary, target_fault, too_many
+from .index import CALLED, DIR, FILE, FILE_LIMITS, INDEX, INDEX_LIMIT, LINK, NAME_LIMIT, PATH_LIMIT, TYPES
+from .index import Blob, Entry, index_text, read_image, summary, target_fault, too_many
 from .texts import quoted, shown
 from .tree import Excluded, FolderTree, Item, Problems, Unreadable, text_of
 
@@ -21,18 +21,14 @@ Tree = Union[FolderTree, ArchiveTree]
 # A blob's name while its digest is not known. It has the length of all others, so that it also serves to measure.
 NEW_BLOB = "0" * 64
 
+# What is said of that which an image of version 1 cannot hold.
+NEXT = " (--profile 2 takes it)"
+
 NUMBERS = ("no", "one", "two", "three", "four", "five", "six", "seven", "eight", "nine")
 
 
-class Blob(NamedTuple):
-    """A blob of the image: its name, which is its digest, and its size."""
-
-    name: str
-    size: int
-
-
-def pack(source: str, image: str, patterns: Sequence[str]) -> List[str]:
-    """Makes an image of a folder or an archive, and answers what is to be said of it."""
+def pack(source: str, image: str, patterns: Sequence[str], version: int = 1) -> List[str]:
+    """Makes an image of a version of a folder or an archive, and answers what is to be said of it."""
     if os.path.lexists(image):
         raise Outside(taken(image.rstrip("/") or image))
     place = free_place(image, "IMAGE")
@@ -41,17 +37,17 @@ def pack(source: str, image: str, patterns: Sequence[str]) -> List[str]:
     with contextlib.closing(tree_of(source, place, excluded, problems)) as tree:
         items = sorted(tree.items, key=lambda item: item.path)
         for item in items:
-            judge(item, problems)
-        general = too_many(len(items)) + index_faults(items)
+            judge(item, version, problems)
+        general = too_many(len(items)) + index_faults(items, version)
         if problems.reasons or general:
             look_at_files(tree, items, problems)
             raise CannotHold(*problems.lines(), *general)
         with made_whole(place) as folder:
-            blobs = copy_files(tree, items, folder, problems)
+            blobs = copy_files(tree, items, folder, FILE_LIMITS[version], problems)
             if problems.reasons:
                 raise CannotHold(*problems.lines())
             with open(os.path.join(folder, INDEX), "wb") as index:
-                index.write(text_with(items, blobs).encode())
+                index.write(text_with(items, blobs, version).encode())
     sizes = {blob.name: blob.size for blob in blobs.values()}
     notes = told_image(source) + hard_links(items)
     notes += [f"--exclude {quoted(pattern)} left nothing out" for pattern in excluded.unused()]
@@ -83,8 +79,9 @@ def tree_of(source: str, place: str, excluded: Excluded, problems: Problems) -> 
 # ---- what an image cannot hold
 
 
-def judge(item: Item, problems: Problems) -> None:
-    """Notes what an image cannot hold of an item. A directory's name is a fault of its own, not of all below it."""
+def judge(item: Item, version: int, problems: Problems) -> None:
+    """Notes what an image of a version cannot hold of an item. A directory's name is a fault of its own, not of all
+    below it."""
     name = item.path.rpartition(b"/")[2]
     if not is_text(name):
         problems.add(item.path, "its name is no UTF-8")
@@ -96,10 +93,18 @@ def judge(item: Item, problems: Problems) -> None:
         problems.add(item.path, f"its path has {len(item.path)} bytes, more than {PATH_LIMIT}")
     if item.kind not in CALLED:
         problems.add(item.path, f"{item.kind}, which an image cannot hold")
-    if item.kind == FILE and item.size > FILE_LIMIT:
-        problems.add(item.path, f"it has {item.size} bytes, more than {FILE_LIMIT}")
+    elif item.kind not in TYPES[version]:
+        problems.add(item.path, f"the device {item.device}, which an image of version {version} cannot hold{NEXT}")
+    limit = FILE_LIMITS[version]
+    if item.kind == FILE and item.size > limit:
+        problems.add(item.path, f"it has {item.size} bytes, more than {limit}{next_for(item.size, version)}")
     if item.kind == LINK:
         judge_target(item, problems)
+
+
+def next_for(size: int, version: int) -> str:
+    """What is said of a file that an image of another version can hold."""
+    return NEXT if version == 1 and size <= FILE_LIMITS[2] else ""
 
 
 def judge_target(item: Item, problems: Problems) -> None:
@@ -119,13 +124,13 @@ def is_text(name: bytes) -> bool:
     return True
 
 
-def index_faults(items: List[Item]) -> List[str]:
+def index_faults(items: List[Item], version: int) -> List[str]:
     """What is wrong with the index as a whole. A name that is no UTF-8 counts with its bytes."""
-    size = len(text_with(items, {}).encode("utf-8", "surrogateescape"))
+    size = len(text_with(items, {}, version).encode("utf-8", "surrogateescape"))
     return [f"{INDEX} would have {size} bytes, more than {INDEX_LIMIT}"] if size > INDEX_LIMIT else []
 
 
-def text_with(items: Iterable[Item], blobs: Dict[bytes, Blob]) -> str:
+def text_with(items: Iterable[Item], blobs: Dict[bytes, Blob], version: int) -> str:
     """The index of items, with these blobs by their paths."""
     unknown = Blob(NEW_BLOB, 0)
     return index_text(
@@ -137,9 +142,11 @@ def text_with(items: Iterable[Item], blobs: Dict[bytes, Blob]) -> str:
                 mode=item.mode,
                 blob=blobs.get(item.path, unknown).name,
                 target=text_of(item.target),
+                device=item.device,
             )
             for number, item in enumerate(items, 1)
-        ]
+        ],
+        version,
     )
 
 
@@ -156,8 +163,8 @@ def look_at_files(tree: Tree, items: List[Item], problems: Problems) -> None:
 # ---- blobs
 
 
-def copy_files(tree: Tree, items: List[Item], folder: str, problems: Problems) -> Dict[bytes, Blob]:
-    """Copies the files into a folder, each under its digest, and answers the blobs by path.
+def copy_files(tree: Tree, items: List[Item], folder: str, limit: int, problems: Problems) -> Dict[bytes, Blob]:
+    """Copies the files, of at most so many bytes, into a folder, each under its digest, and answers the blobs by path.
 
     A file that has several names is read once. After the first that cannot be held the others are only looked at."""
     blobs: Dict[bytes, Blob] = {}
@@ -169,15 +176,15 @@ def copy_files(tree: Tree, items: List[Item], folder: str, problems: Problems) -
                 tree.look(item)
                 continue
             if item.shared not in known:
-                known[item.shared] = copy_file(tree, item, folder)
+                known[item.shared] = copy_file(tree, item, folder, limit)
             blobs[item.path] = known[item.shared]
         except Unreadable as error:
             problems.add(item.path, str(error))
     return blobs
 
 
-def copy_file(tree: Tree, item: Item, folder: str) -> Blob:
-    """Copies a file into a folder, under its digest."""
+def copy_file(tree: Tree, item: Item, folder: str, limit: int) -> Blob:
+    """Copies a file of at most so many bytes into a folder, under its digest."""
     digest = hashlib.sha256()
     size = 0
     place = os.path.join(folder, NEW_BLOB)
@@ -185,8 +192,8 @@ def copy_file(tree: Tree, item: Item, folder: str) -> Blob:
         for piece in pieces:
             stop_if_asked()
             size += len(piece)
-            if size > FILE_LIMIT:
-                raise Unreadable(f"it has grown to more than {FILE_LIMIT} bytes while it was read")
+            if size > limit:
+                raise Unreadable(f"it has grown to more than {limit} bytes while it was read")
             digest.update(piece)
             blob.write(piece)
     os.replace(place, os.path.join(folder, digest.hexdigest()))

@@ -97,6 +97,9 @@ def tree_of(top: str) -> Dict[str, tuple]:
             elif stat.S_ISDIR(mode):
                 found[path] = ("dir", mode & 0o7777)
                 waiting.append(path)
+            elif stat.S_ISCHR(mode):
+                device = os.lstat(top + path).st_rdev
+                found[path] = ("dev", mode & 0o7777, (os.major(device), os.minor(device)))
             else:
                 found[path] = ("file", mode & 0o7777, read(top + path))
     return found

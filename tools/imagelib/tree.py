@@ -6,15 +6,18 @@ import os
 import re
 import stat
 from tarfile import TarInfo
-from typing import Dict, Hashable, Iterator, List, NamedTuple, Optional, Sequence, Set
+from typing import Dict, Hashable, Iterator, List, NamedTuple, Optional, Sequence, Set, Tuple
 
 from .errors import Outside, reason_of
 from .folders import opened
-from .index import DIR, FILE, LINK
+from .index import DEV, DEVICES, DIR, FILE, LINK
 from .store import PIECE
 from .texts import quoted
 
 MODE_BITS = 0o7777
+
+# The major and the minor number of a device.
+Numbers = Tuple[int, int]
 
 # Neither a link that took a file's place nor a FIFO that did is to be followed or waited for.
 OPEN_FILE = os.O_RDONLY | os.O_NOFOLLOW | os.O_NONBLOCK | os.O_NOCTTY
@@ -27,7 +30,8 @@ class Unreadable(Exception):
 class Item(NamedTuple):
     """What stands at a path: `kind` is the type of an entry, or names what no entry can be.
 
-    Items of one file have one value in `shared`; `member` is the archive's member with a file's bytes."""
+    Items of one file have one value in `shared`; `member` is the archive's member with a file's bytes, and `device` the
+    name of a device."""
 
     path: bytes
     kind: str
@@ -36,6 +40,7 @@ class Item(NamedTuple):
     target: bytes = b""
     shared: Hashable = b""
     member: Optional[TarInfo] = None
+    device: str = ""
 
 
 class Problems:
@@ -168,23 +173,36 @@ def cannot_be_read(error: OSError) -> str:
 def item_at(folder: int, name: bytes, path: bytes) -> Item:
     """The item of that name in an open folder."""
     found = os.stat(name, dir_fd=folder, follow_symlinks=False)
-    kind = kind_of(found.st_mode)
+    numbers = os.major(found.st_rdev), os.minor(found.st_rdev)
+    kind = kind_of(found.st_mode, numbers)
     target = os.readlink(name, dir_fd=folder) if kind == LINK else b""
     # Not every system gives files with one name numbers of their own.
     shared = (found.st_dev, found.st_ino) if kind != DIR and found.st_nlink > 1 else path
-    return Item(path, kind, found.st_mode & MODE_BITS, found.st_size, target, shared)
+    device = device_of(numbers) if kind == DEV else ""
+    return Item(path, kind, found.st_mode & MODE_BITS, found.st_size, target, shared, device=device)
 
 
-def kind_of(mode: int) -> str:
-    """The type of an entry, or what no entry can be."""
+def device_of(numbers: Numbers) -> str:
+    """The name of the character device with these numbers; empty where images have none with them."""
+    return next((name for name, found in DEVICES.items() if found == numbers), "")
+
+
+def character_kind(numbers: Numbers) -> str:
+    """The type of an entry for a character device, or what no entry can be."""
+    return DEV if device_of(numbers) else f"the character device {numbers[0]}:{numbers[1]}"
+
+
+def kind_of(mode: int, numbers: Numbers) -> str:
+    """The type of an entry, or what no entry can be. The numbers count for devices alone."""
+    if stat.S_ISCHR(mode):
+        return character_kind(numbers)
     for test, kind in (
         (stat.S_ISREG, FILE),
         (stat.S_ISDIR, DIR),
         (stat.S_ISLNK, LINK),
         (stat.S_ISFIFO, "a FIFO"),
         (stat.S_ISSOCK, "a socket"),
-        (stat.S_ISCHR, "a device"),
-        (stat.S_ISBLK, "a device"),
+        (stat.S_ISBLK, f"the block device {numbers[0]}:{numbers[1]}"),
     ):
         if test(mode):
             return kind

@@ -6,9 +6,9 @@ import stat
 from itertools import groupby
 from typing import Iterator, List, Tuple
 
-from .errors import Outside, reason_of
+from .errors import Outside, reason_of, said_of
 from .folders import FOLDER, is_inside, free_place, made_whole, opened, stop_if_asked
-from .index import DIR, FILE, LINK, Entry, Image, parent_of, read_image
+from .index import DEV, DEVICES, DIR, FILE, LINK, Entry, Image, parent_of, read_image
 from .texts import quoted
 
 ROOT_MODE = 0o755
@@ -17,7 +17,7 @@ NEW_FILE = os.O_WRONLY | os.O_CREAT | os.O_EXCL | os.O_NOFOLLOW
 
 
 def unpack(image_word: str, folder_word: str) -> List[str]:
-    """Makes a folder with an image's tree. It answers what the system made otherwise than the image says."""
+    """Makes a folder with an image's tree, and answers what the system made otherwise than the image says."""
     image = read_image(image_word)
     place = place_of(folder_word)
     if is_inside(place, image_word):
@@ -34,7 +34,8 @@ def make_tree(image: Image, place: str) -> List[str]:
         top = os.open(folder, FOLDER)
         try:
             make_dirs(top, image)
-            notes = make_files(top, image)
+            notes = make_devices(top, image)
+            notes += make_files(top, image)
             make_links(top, image)
             notes += set_modes(top, image)
             os.fchmod(top, ROOT_MODE)
@@ -85,6 +86,36 @@ def make_dirs(top: int, image: Image) -> None:
                     os.mkdir(name_of(entry), 0o700, dir_fd=folder)
                 except OSError as error:
                     raise failed(entry, error) from error
+
+
+def make_devices(top: int, image: Image) -> List[str]:
+    """Makes the devices, and answers how their modes differ; Outside, with a line for each, where the system lets only
+    root make them."""
+    notes: List[str] = []
+    refused: List[Entry] = []
+    for parent, entries in by_parent(image, DEV):
+        with opened(top, parent.encode()) as folder:
+            for entry in entries:
+                stop_if_asked()
+                try:
+                    notes += make_device(folder, entry)
+                except PermissionError:
+                    refused.append(entry)
+                except OSError as error:
+                    raise failed(entry, error) from error
+    if refused:
+        refused.sort(key=Entry.key)
+        raise Outside(*said_of([f"{quoted(entry.path)}: the device {entry.device}, which only root can make"
+                                for entry in refused]))
+    return notes
+
+
+def make_device(folder: int, entry: Entry) -> List[str]:
+    """Makes a device in an open folder, and answers how its mode differs."""
+    name = name_of(entry)
+    os.mknod(name, stat.S_IFCHR | 0o600, os.makedev(*DEVICES[entry.device]), dir_fd=folder)
+    os.chmod(name, entry.mode, dir_fd=folder)
+    return told_mode(entry, os.stat(name, dir_fd=folder, follow_symlinks=False).st_mode)
 
 
 def make_files(top: int, image: Image) -> List[str]:
@@ -139,7 +170,12 @@ def set_mode(file: int, entry: Entry) -> List[str]:
         os.fchmod(file, entry.mode)
     except PermissionError:
         os.fchmod(file, entry.mode & 0o777)
-    mode = stat.S_IMODE(os.fstat(file).st_mode)
+    return told_mode(entry, os.fstat(file).st_mode)
+
+
+def told_mode(entry: Entry, made: int) -> List[str]:
+    """How the mode of what was made differs."""
+    mode = stat.S_IMODE(made)
     if mode == entry.mode:
         return []
     return [f"{quoted(entry.path)} has the mode {mode:04o} and not {entry.mode:04o}, as far as the system lets it"]

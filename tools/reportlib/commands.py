@@ -100,11 +100,12 @@ JSON_HELP = """
 
 The members are version, events, verdict, tree and cut. An event has kind (out or exit); out has stream, size, and its
 bytes as text where they are UTF-8 and else as base64; exit has pid, and code or signal. The verdict has kind, and pid,
-number or errno where it has them. A tree line has kind (file, dir or link), inode, mode, stamp, size, sha256, path and
-target; instead of a path or target that is no UTF-8 it has path_base64 or target_base64. In a whole report cut is
-null. In one that is cut it has bytes (the report's size), where (in words), and the beginning of the line that is cut
-as text or base64; a verdict or tree that did not come is null, and the last output may have fewer bytes than its size.
-The JSON of what turns out to be no report ends where that is found. Numbers go up to 2^64-1."""
+number or errno where it has them. A tree line has kind (file, dir, link or dev) and inode, mode, stamp, size, sha256,
+path, target and device where it has them; instead of a path or target that is no UTF-8 it has path_base64 or
+target_base64. In a whole report cut is null. In one that is cut it has bytes (the report's size), where (in words), and
+the beginning of the line that is cut as text or base64; a verdict or tree that did not come is null, and the last
+output may have fewer bytes than its size. The JSON of what turns out to be no report ends where that is found. Numbers
+go up to 2^64-1."""
 
 DIFF_HELP = """
 

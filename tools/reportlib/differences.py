@@ -8,7 +8,7 @@ import itertools
 import re
 from typing import Iterator, List, NamedTuple, Optional, Sequence, Tuple
 
-from .reader import (Cut, Entry, Exit, Item, NotReport, Output, Phase, Reader, Tree, Verdict, common_length,
+from .reader import (Cut, Entry, Exit, Header, Item, NotReport, Output, Phase, Reader, Tree, Verdict, common_length,
                            counted, named, shown_path, told_place)
 from .streams import BLOCK, Sink, Source, safe
 
@@ -147,7 +147,7 @@ def told_events(number: int, a: Side, b: Side) -> str:
 def told_fields(first: Entry, second: Entry) -> str:
     """What differs between two lines of one path."""
     names = {"kind": "kind", "inode": "inode", "mode": "mode", "stamp": "stamp", "size": "size",
-             "sha256": "content (digest)", "target": "target"}
+             "sha256": "content (digest)", "target": "target", "device": "device"}
     parts = []
     for name, told in names.items():
         values = [getattr(entry, name) for entry in (first, second)]
@@ -184,9 +184,19 @@ def told_trees(a: Side, b: Side) -> str:
     return words
 
 
+def told_headers(a: Side, b: Side) -> str:
+    """How two reports differ in their first lines."""
+    items = [(side.next(), side.letter) for side in (a, b)]
+    told = [f"{item.version} in {letter}" if isinstance(item, Header) else f"{letter} is cut in it"
+            for item, letter in items]
+    return f"the version differs: {told[0]}, and {told[1]}"
+
+
 def told_difference(fork: Fork, a: Side, b: Side) -> str:
     """The first difference of two reports that both go on where they part."""
     reader = fork.reader
+    if reader.phase is Phase.HEADER:
+        return told_headers(a, b)
     if reader.phase is Phase.OUTPUT:
         output = Output(reader.stream, reader.size, 0, b"")
         bytes_there = [named(rest[:1]) for rest in fork.rests]

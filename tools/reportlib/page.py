@@ -58,6 +58,8 @@ def counted_paths(run: Run) -> str:
     kinds = [entry.kind for entry in run.entries]
     parts = [grouped(kinds.count(kind), one, many) for kind, one, many in
              [("file", "file", "files"), ("dir", "directory", "directories"), ("link", "link", "links")]]
+    if "dev" in kinds:
+        parts.append(grouped(kinds.count("dev"), "device", "devices"))
     # A file with two names is one.
     size = sum({entry.inode: entry.size or 0 for entry in run.entries}.values())
     missing = f", {run.count - len(kinds):,} more not there" if run.cut else ""

@@ -8,9 +8,9 @@ from .page_bytes import grouped
 from .reader import Entry, shown_path, told_place
 from .runs import Run
 
-KINDS = {"file": "file", "dir": "directory", "link": "link"}
+KINDS = {"file": "file", "dir": "directory", "link": "link", "dev": "device"}
 FIELDS = {"kind": "kind", "mode": "mode", "size": "size", "stamp": "stamp", "inode": "inode", "sha256": "content",
-          "target": "target"}
+          "target": "target", "device": "device"}
 HEADS = ["Kind", "Mode", "Size", "Stamp", "Inode", "SHA-256"]
 FILTER = """<p class="filter scripted" hidden><label for="filter">Filter by path</label>
 <input id="filter" type="search" autocomplete="off" spellcheck="false" aria-describedby="filter-count">
@@ -67,13 +67,18 @@ def path_markup(entry: Entry) -> str:
     return text
 
 
+def told_kind(entry: Entry) -> str:
+    return f"{KINDS[entry.kind]} {entry.device}" if entry.device else KINDS[entry.kind]
+
+
 def line_markup(line: Line, is_of_two: bool) -> str:
     entry = line.entry
 
-    def cell(name: str, text: str, more: str = "") -> str:
-        return f'<td class="{name}{" new" if name in line.differing else ""}{more}">{text}</td>'
+    def cell(name: str, text: str, more: str = "", also: str = "") -> str:
+        is_new = name in line.differing or also in line.differing
+        return f'<td class="{name}{" new" if is_new else ""}{more}">{text}</td>'
 
-    values = [cell("kind", KINDS[entry.kind]), cell("mode", entry.mode or ""),
+    values = [cell("kind", told_kind(entry), also="device"), cell("mode", entry.mode or ""),
               cell("size", "" if entry.size is None else f"{entry.size:,}", " number"),
               cell("stamp", f"{entry.stamp:,}", " number"), cell("inode", str(entry.inode), " number"),
               cell("sha256", entry.sha256 or "")]

@@ -82,6 +82,7 @@ class Entry(NamedTuple):
     sha256: Optional[str]
     path: bytes
     target: Optional[bytes]
+    device: Optional[str] = None
 
 
 class Cut(NamedTuple):
@@ -251,10 +252,14 @@ def read_verdict(cursor: Cursor, may_not_start: bool) -> Verdict:
     return verdict
 
 
-def read_entry(cursor: Cursor, after: bytes) -> Entry:
-    """A line of the tree, behind the one of the path `after`."""
-    mode = size = sha256 = target = None
-    kind = cursor.word(b"file ", b"dir ", b"link ").strip().decode()
+# How lines of the tree begin in a report of each version.
+KINDS = {1: (b"file ", b"dir ", b"link "), 2: (b"file ", b"dir ", b"link ", b"dev ")}
+
+
+def read_entry(cursor: Cursor, after: bytes, version: int) -> Entry:
+    """A line of the tree, behind the one of the path `after`. Only a report of version 2 has devices."""
+    mode = size = sha256 = target = device = None
+    kind = cursor.word(*KINDS[version]).strip().decode()
     inode = cursor.number()
     cursor.word(b" ")
     if kind != "link":
@@ -267,12 +272,14 @@ def read_entry(cursor: Cursor, after: bytes) -> Entry:
         cursor.word(b" ")
         sha256 = cursor.digits(b"0123456789abcdef", 64, "a digest of 64 lower-case hexadecimal digits")
         cursor.word(b" ")
+    if kind == "dev":
+        device = cursor.word(b"null ", b"zero ", b"random ").strip().decode()
     path = cursor.path(after)
     if kind == "link":
         cursor.word(b" ")
         target = cursor.target()
     cursor.word(b"\n")
-    return Entry(kind, inode, mode, stamp, size, sha256, path, target)
+    return Entry(kind, inode, mode, stamp, size, sha256, path, target, device)
 
 
 def fast_entry(text: bytes, after: bytes) -> Optional[Entry]:
@@ -312,6 +319,7 @@ class Reader:
 
     def __init__(self) -> None:
         self.phase = Phase.HEADER
+        self.version = 1
         self.events = self.entries = self.count = 0
         self.verdict: Optional[Verdict] = None
         # How the run's own process ended, which is the first one.
@@ -416,7 +424,7 @@ class Reader:
         if self.phase is Phase.EVENTS:
             return self._event(cursor)
         if self.phase is Phase.ENTRIES:
-            entry = fast_entry(text, self.path) or read_entry(cursor, self.path)
+            entry = fast_entry(text, self.path) or read_entry(cursor, self.path, self.version)
             self.path, self.entries = entry.path, self.entries + 1
             self.phase = Phase.END if self.entries == self.count else Phase.ENTRIES
             return entry
@@ -428,9 +436,9 @@ class Reader:
             return Tree(count)
         if self.phase is Phase.END:
             raise Wrong(0, f"nothing behind {counted(self.count, 'line', 'lines')} of the tree")
-        cursor.word(b"dettrace 1\n")
+        self.version = int(cursor.word(b"dettrace 1\n", b"dettrace 2\n").split()[1])
         self.phase = Phase.EVENTS
-        return Header(1)
+        return Header(self.version)
 
     def _event(self, cursor: Cursor) -> Item:
         word = cursor.word(b"out ", b"exit ", b"verdict ")

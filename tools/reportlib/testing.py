@@ -34,6 +34,18 @@ SMALL = b"".join([
     b"link 5 18446744073709551615 /run %80\n"])
 
 
+# A report of an image of version 2, with each device.
+DEVICES = b"".join([
+    b"dettrace 2\n",
+    b"exit 1 code 0\n",
+    b"verdict ended\n",
+    b"tree 4\n",
+    b"dir 2 0755 0 /dev\n",
+    b"dev 4 0444 18446744073709551615 random /dev/%20\n",
+    b"dev 3 0666 0 null /dev/null\n",
+    b"dev 5 4777 2000 zero /dev/%FF\n"])
+
+
 class Result(NamedTuple):
     status: int
     output: bytes

@@ -10,8 +10,8 @@ from typing import Callable, Dict, Hashable, Iterator, List, Mapping, NamedTuple
 
 from imagelib.errors import ImageError, Outside, reason_of
 from imagelib.folders import is_inside, remove, stops_held
-from imagelib.index import FILE, INDEX, read_image
-from imagelib.pack import Blob, Tree, judge, pack, text_with, tree_of
+from imagelib.index import FILE, INDEX, Blob, read_image
+from imagelib.pack import Tree, judge, pack, text_with, tree_of
 from imagelib.store import PIECE
 from imagelib.texts import shown
 from imagelib.tree import Excluded, Item, Problems, Unreadable
@@ -40,23 +40,24 @@ def cache_folder(environment: Mapping[str, str]) -> str:
 
 
 @contextlib.contextmanager
-def packed(word: str, kind: str, environment: Mapping[str, str], show: Callable[[str], None]) -> Iterator[Packed]:
-    """The image of a folder or an archive, kept if it can be, and else there while the block runs. `show` is told what
-    takes long."""
+def packed(word: str, kind: str, version: int, environment: Mapping[str, str],
+           show: Callable[[str], None]) -> Iterator[Packed]:
+    """The image of a version of a folder or an archive, kept if it can be, and else there while the block runs. `show`
+    is told what takes long."""
     folder = cache_folder(environment)
     if kind != ARCHIVE and is_inside(os.path.join(folder, INDEX), word):
         raise RunError(f"{shown(folder)}, where images are kept, lies inside {shown(word)}, which is packed: "
                        f"name another folder for them by XDG_CACHE_HOME")
     fault = folder_fault(folder)
-    found = None if fault else kept(word, kind, folder)
+    found = None if fault else kept(word, kind, version, folder)
     if found is None:
         show(f"packing {shown(word)}")
     if not fault:
-        yield found or made(word, kind, folder)
+        yield found or made(word, kind, version, folder)
         return
     with scratch() as other:
         image = os.path.join(other, "image")
-        notes = pack(word, image, [])[:-1]
+        notes = pack(word, image, [], version)[:-1]
         yield Packed(image, notes + [f"{shown(folder)} keeps no images, so this one is not kept: {fault}"])
 
 
@@ -69,9 +70,9 @@ def folder_fault(folder: str) -> str:
     return "" if os.access(folder, os.W_OK | os.X_OK) else "it may not be written"
 
 
-def kept(word: str, kind: str, folder: str) -> Optional[Packed]:
+def kept(word: str, kind: str, version: int, folder: str) -> Optional[Packed]:
     """The image that is kept in a folder, if it is."""
-    key = archive_key(word) if kind == ARCHIVE else folder_key(word, folder)
+    key = archive_key(word, version) if kind == ARCHIVE else folder_key(word, version, folder)
     if key:
         place = os.path.join(folder, key)
         if is_whole(place):
@@ -79,7 +80,8 @@ def kept(word: str, kind: str, folder: str) -> Optional[Packed]:
     return None
 
 
-def archive_key(word: str) -> str:
+def archive_key(word: str, version: int) -> str:
+    """The digest of an archive. Behind that of a later version's image stands the version."""
     digest = hashlib.sha256()
     try:
         with open(word, "rb") as file:
@@ -87,20 +89,20 @@ def archive_key(word: str) -> str:
                 digest.update(piece)
     except OSError as error:
         raise RunError(f"{shown(word)} cannot be read: {reason_of(error)}") from error
-    return digest.hexdigest()
+    return digest.hexdigest() + (f".{version}" if version > 1 else "")
 
 
-def folder_key(word: str, folder: str) -> Optional[str]:
+def folder_key(word: str, version: int, folder: str) -> Optional[str]:
     """The digest of the index that packing a folder writes; None where packing says why it cannot be packed."""
     problems = Problems()
     with contextlib.closing(tree_of(word, os.path.join(folder, "image"), Excluded([]), problems)) as tree:
         items = sorted(tree.items, key=lambda item: item.path)
         for item in items:
-            judge(item, problems)
+            judge(item, version, problems)
         if problems.reasons:
             return None
         try:
-            return hashlib.sha256(text_with(items, blobs_of(tree, items)).encode()).hexdigest()
+            return hashlib.sha256(text_with(items, blobs_of(tree, items), version).encode()).hexdigest()
         except Unreadable:
             return None
 
@@ -138,13 +140,13 @@ def is_whole(place: str) -> bool:
         return False
 
 
-def made(word: str, kind: str, folder: str) -> Packed:
+def made(word: str, kind: str, version: int, folder: str) -> Packed:
     """Packs, and puts the image where it is kept."""
     new = os.path.join(folder, f".{secrets.token_hex(8)}.new")
-    before = archive_key(word) if kind == ARCHIVE else ""
+    before = archive_key(word, version) if kind == ARCHIVE else ""
     try:
-        notes = pack(word, new, [])[:-1]
-        key = archive_key(word) if kind == ARCHIVE else index_key(new)
+        notes = pack(word, new, [], version)[:-1]
+        key = archive_key(word, version) if kind == ARCHIVE else index_key(new)
         if before and key != before:
             raise RunError(f"{shown(word)} was changed while it was packed: run it again")
         place = os.path.join(folder, key)

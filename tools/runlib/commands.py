@@ -14,10 +14,11 @@ from reportlib.streams import Refusal
 from .ends import Outcome, outcome
 from .errors import DIFFERENT, FAILED, SIGNALLED, RunError
 from .finding import find_program, has_option, usage_of, version_of
+from .inputs import blob_of
 from .outlets import Outlets, open_all, write_all
 from .progress import EVERY, Progress
 from .reports import Kept, Report, kept_report
-from .running import check, follow, tree_fault
+from .running import Given, check, follow, tree_fault
 from .signals import Stopped, scratch, stop_on_signals
 from .source import IMAGE, kind_of
 from .words import Request, Told, check_text, help_text, read_words
@@ -56,13 +57,15 @@ class Voice:
 class Runs:
     """The runs of a request on an image. The first is shown, and the folders are made of its tree."""
 
-    def __init__(self, request: Request, program: str, image: str, trees: Optional[Trees], voice: Voice) -> None:
-        self.request, self.program, self.image, self.trees, self.voice = request, program, image, trees, voice
+    def __init__(self, request: Request, program: str, given: Given, trees: Optional[Trees], voice: Voice) -> None:
+        self.request, self.program, self.given, self.trees, self.voice = request, program, given, trees, voice
         self.outlets = Outlets(voice.progress)
 
     def words(self, numbers: Dict[str, int], trees: Optional[Trees]) -> List[bytes]:
         options = [word for name, number in numbers.items() for word in (name, str(number))]
-        form = ["export", self.image, trees.export] if trees else ["run", self.image]
+        if self.given.input is not None:
+            options.append(f"--stdin={self.given.input}")
+        form = ["export", self.given.image, trees.export] if trees else ["run", self.given.image]
         words = [self.program, *form, *options, "--", *self.request.command]
         return [os.fsencode(word) for word in words]
 
@@ -85,14 +88,14 @@ class Runs:
         finally:
             progress.hide()
         fault = tree_fault(ended, report) if trees else ""
-        check(ended, report, self.program, self.image, fault != "")
+        check(ended, report, self.program, self.given, fault != "")
         if trees and fault:
             trees.fault = fault
         else:
             self.voice.say([f"dettrace said: {shown(line)}" for line in ended.said.splitlines()])
         for kept in keeps:
             kept.finish()
-        return outcome(self.request, self.image, report.first_end, report.reader.verdict)
+        return outcome(self.request, self.given.image, report.first_end, report.reader.verdict)
 
     def show(self, stream: int, data: bytes) -> None:
         self.outlets.write(stream, data)
@@ -143,13 +146,22 @@ class Runs:
             raise RunError(*(f"{called}: {line}" for line in error.lines)) from error
 
 
+def check_options(request: Request, program: str) -> None:
+    """Ends the tool where an option is for the program, and this one does not have it."""
+    given = {"--workers": "--workers" in request.numbers, "--stdin": request.input is not None}
+    for option, is_given in given.items():
+        if is_given and not has_option(program, option):
+            raise RunError(f"{option}: this dettrace does not have it: {shown(usage_of(program))}")
+
+
 def run(request: Request, voice: Voice) -> int:
     """Does what the words ask for, and answers the status."""
     voice.show_progress(request)
     program = find_program(os.environ)
-    if "--workers" in request.numbers and not has_option(program, "--workers"):
-        raise RunError(f"--workers: this dettrace does not have it: {shown(usage_of(program))}")
+    check_options(request, program)
     kind = kind_of(request.source)
+    if kind == IMAGE and request.profile is not None:
+        raise RunError(f"--profile: {shown(request.source)} is an image, whose version says it: leave it out")
     with contextlib.ExitStack() as stack:
         trees = None
         if request.trees:
@@ -160,12 +172,14 @@ def run(request: Request, voice: Voice) -> int:
         if kind != IMAGE:
             from .cache import packed
 
-            made = stack.enter_context(packed(request.source, kind, os.environ, voice.progress.show))
+            version = request.profile or 1
+            made = stack.enter_context(packed(request.source, kind, version, os.environ, voice.progress.show))
             image = made.image
             voice.note(made.notes)
         check_text(image)
+        given = Given(image, blob_of(request, kind, image))
         keeps = [stack.enter_context(kept_report(request.report))] if request.report is not None else []
-        runs = Runs(request, program, image, trees, voice)
+        runs = Runs(request, program, given, trees, voice)
         status = runs.run_one(keeps) if request.runs == 1 else runs.run_several(keeps)
         fault = runs.outlets.fault()
         if fault:

@@ -22,10 +22,8 @@ ILL, BUS = 4, 7
 
 PLACE = "docs/GUESTS.md, \"The instruction at fault\", finds the place"
 REASONS: Dict[int, str] = {
-    ILL: f"a word that is no instruction of RV64IM, or a jump into data; {PLACE}",
     5: f"ebreak, which is also what the compiler puts where it saw undefined behaviour; {PLACE}",
     6: "abort, or an assert that failed, whose line is on standard error",
-    BUS: f"a jump, or the entry, at no multiple of 4; {PLACE}",
     11: f"memory that is not there or lacks the right, as behind a bad pointer or a stack over 1 MiB; {PLACE}",
     13: "it wrote to a pipe that nobody reads any more",
 }
@@ -88,12 +86,22 @@ def told_signal(request: Request, image: str, number: int) -> str:
     name = f"SIG{SIGNALS[number - 1]}, signal {number}" if number <= len(SIGNALS) else f"signal {number}"
     reason = REASONS.get(number, SENT)
     if number in (ILL, BUS):
-        reason = "; ".join(wrong_instructions(request, image) or [reason])
+        names = names_of(image)
+        version = names.image.version if names else 1
+        reason = "; ".join(wrong_instructions(request, names) or [instruction_reason(number, version)])
     return f"{shown(request.program)} was ended by {name}: {reason}"
 
 
-def wrong_instructions(request: Request, image: str) -> List[str]:
-    names = names_of(image)
+def instruction_reason(number: int, version: int) -> str:
+    """Why a program was ended at an instruction, on an image of this version."""
+    if number == ILL:
+        words = "RV64IM (atomic ones take --profile 2)" if version == 1 else "RV64IMA"
+        return f"a word that is no instruction of {words}, or a jump into data; {PLACE}"
+    more = "" if version == 1 else ", or an atomic instruction at no multiple of its size"
+    return f"a jump, or the entry, at no multiple of 4{more}; {PLACE}"
+
+
+def wrong_instructions(request: Request, names: Optional[Names]) -> List[str]:
     try:
         found = instructions_of(names, request.program) if names else []
     except ImageError:

@@ -4,7 +4,7 @@ from __future__ import annotations
 import difflib
 from typing import List, NamedTuple, Optional, Sequence
 
-from imagelib.index import DIR, NAME_LIMIT, PATH_LIMIT
+from imagelib.index import CALLED, DEV, DIR, NAME_LIMIT, PATH_LIMIT
 from imagelib.texts import shown
 
 from . import elf
@@ -21,8 +21,8 @@ WHY = {
     ENOENT: "nothing is at its path, or at that of its interpreter",
     E2BIG: "its arguments and environment, or its segments, pass their limit",
     ENOEXEC: "its file, or that of its interpreter, is no executable of this kind",
-    EACCES: "its path, or that of its interpreter, is that of a directory",
-    ENOTDIR: "its path, or that of its interpreter, goes through a file",
+    EACCES: "its path, or that of its interpreter, is that of a directory or a device",
+    ENOTDIR: "its path, or that of its interpreter, goes through a file or a device",
     ENAMETOOLONG: "its path, or a name in it, is too long",
     ELOOP: "its path has too many links",
 }
@@ -75,13 +75,13 @@ def path_fault(names: Names, place: Place) -> Optional[Fault]:
     if place.errno == ENOENT:
         reason = f"nothing is at {at}"
     elif place.errno == ENOTDIR:
-        reason = f"its path goes through {at}, which is a file"
+        reason = f"its path goes through {at}, which is {CALLED[names.kind(place.path)]}"
     elif place.errno == ENAMETOOLONG:
         reason = f"a name of its path has {len(place.path.rpartition('/')[2].encode())} bytes, more than {NAME_LIMIT}"
     elif place.errno == ELOOP:
         reason = f"its path has more than 40 links, {at} among them"
-    elif names.kind(place.path) == DIR:
-        return Fault(EACCES, f"{at} is a directory{led(place)}")
+    elif names.kind(place.path) in (DIR, DEV):
+        return Fault(EACCES, f"{at} is {CALLED[names.kind(place.path)]}{led(place)}")
     else:
         return None
     return Fault(place.errno, reason + led(place))

@@ -44,6 +44,13 @@ EXPORT_REFUSALS = {
 }
 
 
+class Given(NamedTuple):
+    """What the program is given: an image, and the name of the blob in it that is the input, if there is one."""
+
+    image: str
+    input: Optional[str]
+
+
 class Ended(NamedTuple):
     """How the program ended, and what it said on standard error."""
 
@@ -107,11 +114,11 @@ def tree_fault(ended: Ended, report: Report) -> str:
     return ""
 
 
-def check(ended: Ended, report: Report, program: str, image: str, lacks_tree: bool = False) -> None:
+def check(ended: Ended, report: Report, program: str, given: Given, lacks_tree: bool = False) -> None:
     """Ends the tool where the run is not over as its report says, or has no whole report. The status may be that of an
     export that failed behind it."""
     if ended.status not in (ENDED, OTHERWISE, UNDECIDED) and not lacks_tree:
-        raise RunError(*fault_lines(ended, program, image))
+        raise RunError(*fault_lines(ended, program, given))
     try:
         cut = report.reader.finish()
     except NotReport as error:
@@ -127,11 +134,11 @@ def check(ended: Ended, report: Report, program: str, image: str, lacks_tree: bo
         raise RunError(f"dettrace ended with {ended.status}, and not with {told}, which its report comes to")
 
 
-def fault_lines(ended: Ended, program: str, image: str) -> List[str]:
+def fault_lines(ended: Ended, program: str, given: Given) -> List[str]:
     """Why there is no whole report."""
     said = " ".join(ended.said.split())
     if ended.status in (REFUSED_IMAGE, STORE_FAULT):
-        return image_lines(image) or [f"dettrace could not take the image {shown(image)}: {shown(said)}"]
+        return image_lines(given) or [f"dettrace could not take the image {shown(given.image)}: {shown(said)}"]
     if ended.status == REFUSED_WORDS:
         return [f"{shown(program)} refuses these words: is it of the same version as this tool? {shown(said)}"]
     if ended.status in FAULTS:
@@ -145,10 +152,10 @@ def fault_lines(ended: Ended, program: str, image: str) -> List[str]:
     return [f"{shown(program)} ended with {ended.status}, as dettrace never does{more}"]
 
 
-def image_lines(image: str) -> List[str]:
+def image_lines(given: Given) -> List[str]:
     """What tools/image check says of an image; nothing where it would be taken."""
     try:
-        read_image(image)
+        read_image(given.image, given.input)
     except ImageError as error:
-        return [f"{shown(image)}: {line}" for line in error.lines]
+        return [f"{shown(given.image)}: {line}" for line in error.lines]
     return []

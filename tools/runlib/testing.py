@@ -23,10 +23,10 @@ TOOLS = Path(__file__).resolve().parent.parent
 SCRIPT = TOOLS / "run"
 EXAMPLES = TOOLS.parent / "examples"
 
-USAGE = ("dettrace: usage: dettrace run IMAGE [--seed N] [--budget N] [--workers N] [--host N] -- "
+USAGE = ("dettrace: usage: dettrace run IMAGE [--seed N] [--budget N] [--workers N] [--host N] [--stdin NAME] -- "
          "[NAME=VALUE ..] PROGRAM [ARG ..]")
 # That of an older program.
-OLD_USAGE = USAGE.replace("[--workers N] ", "")
+OLD_USAGE = USAGE.replace("[--workers N] ", "").replace("[--stdin NAME] ", "")
 
 # Notes its words, and gives the report of this call, or the last one that there is. An export gets the files that are
 # kept for it.

@@ -9,7 +9,7 @@ from typing import Iterator, List, Sequence
 
 from imagelib.errors import ImageError
 from imagelib.folders import is_inside, parent_of
-from imagelib.index import DIR, Image, read_image
+from imagelib.index import CALLED, DIR, Image, read_image
 from imagelib.texts import shown
 from imagelib.unpack import make_tree, place_of
 
@@ -92,7 +92,8 @@ def below(image: Image, path: str) -> Image:
         hint = meant(names, word, place) if fault.errno == ENOENT else ""
         raise RunError(f"in the tree at the end {fault.reason}{hint}")
     if names.kind(place.path) != DIR:
-        raise RunError(f"in the tree at the end {shown(place.path)} is a file: name the directory that it is in")
+        called = CALLED[names.kind(place.path)]
+        raise RunError(f"in the tree at the end {shown(place.path)} is {called}: name the directory that it is in")
     entries = [entry._replace(path=entry.path[len(place.path):]) for entry in image.entries
                if entry.path.startswith(f"{place.path}/")]
     return image._replace(entries=entries)

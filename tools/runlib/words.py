@@ -6,7 +6,7 @@ import os
 import re
 from typing import Dict, List, NamedTuple, Optional, Sequence, Tuple
 
-from imagelib.index import PATH_LIMIT
+from imagelib.index import PATH_LIMIT, TYPES
 from imagelib.texts import shown
 
 from .errors import RunError
@@ -31,9 +31,10 @@ class Range(NamedTuple):
 # The program's own options, and those of this tool; the value of --report is a name, and the others have none.
 PASSED = {"--seed": Range(0, HIGHEST), "--budget": Range(1, BUDGET_LIMIT), "--workers": Range(1, WORKERS_LIMIT),
           "--host": Range(0, HIGHEST)}
-NUMBERS = {**PASSED, "--check": Range(2, RUNS_LIMIT)}
+NUMBERS = {**PASSED, "--profile": Range(min(TYPES), max(TYPES)), "--check": Range(2, RUNS_LIMIT)}
 # What the other options that have a value want there. One of them may stand several times.
-NAMES = {"--report": "the name of a file", "--tree": "the name of a folder", "--take": "PATH=FOLDER"}
+NAMES = {"--stdin": "the name of a file", "--report": "the name of a file", "--tree": "the name of a folder",
+         "--take": "PATH=FOLDER"}
 SEVERAL = "--take"
 FLAGS = ("--twice", "--strict", "--quiet", "--help", "--version")
 OPTIONS = (*NUMBERS, *NAMES, *FLAGS)
@@ -50,10 +51,13 @@ class Wanted(NamedTuple):
 
 
 class Request(NamedTuple):
-    """What the words ask for: `numbers` has the program's own options, `runs` is 1 unless runs are compared."""
+    """What the words ask for: `numbers` has the program's own options, `input` names the file that it reads from
+    standard input, `profile` is that of the image which is packed, and `runs` is 1 unless runs are compared."""
 
     source: str
     numbers: Dict[str, int]
+    input: Optional[str]
+    profile: Optional[int]
     command: List[str]
     report: Optional[str]
     trees: List[Wanted]
@@ -100,9 +104,10 @@ def read_words(words: Sequence[str]) -> Request:
     if "--twice" in options and "--check" in options:
         raise RunError("--twice is --check 2: give one of them")
     runs = 2 if "--twice" in options else int(options.get("--check", "1"))
-    return Request(source, {name: int(options[name]) for name in PASSED if name in options}, command,
-                   options.get("--report"), trees_of(options.get("--tree"), takes), runs, "--strict" in options,
-                   "--quiet" in options)
+    profile = int(options["--profile"]) if "--profile" in options else None
+    return Request(source, {name: int(options[name]) for name in PASSED if name in options}, options.get("--stdin"),
+                   profile, command, options.get("--report"), trees_of(options.get("--tree"), takes), runs,
+                   "--strict" in options, "--quiet" in options)
 
 
 def trees_of(tree: Optional[str], takes: Sequence[str]) -> List[Wanted]:
@@ -164,6 +169,8 @@ def checked(name: str, value: str) -> str:
                        "--report -: standard output has what the program writes; name a file")
     if name == "--tree" and not value:
         raise RunError("--tree: the name of the folder is empty")
+    if name == "--stdin":
+        check_stdin(said, value)
     if name == SEVERAL:
         check_take(said, value)
     if name not in NUMBERS:
@@ -181,14 +188,23 @@ def checked(name: str, value: str) -> str:
     return digits
 
 
+def check_stdin(said: str, value: str) -> None:
+    """A path of what is packed, or the name of a file of an image. Both are text."""
+    length = len(os.fsencode(value))
+    if not value:
+        raise RunError("--stdin: the name of the file is empty")
+    if not is_text(value):
+        raise RunError(f"{said}: the name is no UTF-8, as all names in an image are")
+    if length > PATH_LIMIT:
+        raise RunError(f"--stdin: the name has {length} bytes, more than {PATH_LIMIT}")
+
+
 def check_take(said: str, value: str) -> None:
     """A path of the tree, which is text there, and behind the first `=` the name of a folder."""
     path, equals, folder = value.partition("=")
     length = len(os.fsencode(path))
-    try:
-        os.fsencode(path).decode("utf-8")
-    except UnicodeDecodeError:
-        raise RunError(f"{said}: the path is no UTF-8, as all paths of an image are") from None
+    if not is_text(path):
+        raise RunError(f"{said}: the path is no UTF-8, as all paths of an image are")
     if length > PATH_LIMIT:
         raise RunError(f"--take: the path has {length} bytes, more than {PATH_LIMIT}")
     if not equals:
@@ -217,10 +233,8 @@ def source_of(names: Sequence[str], is_parted: bool) -> str:
 def check_command(command: Sequence[str]) -> None:
     """A word behind `--` has to be text, and one of them is the program."""
     for word in command:
-        try:
-            os.fsencode(word).decode("utf-8")
-        except UnicodeDecodeError:
-            raise RunError(f"{shown(os.fsencode(word))}: a word behind -- that is no UTF-8") from None
+        if not is_text(word):
+            raise RunError(f"{shown(os.fsencode(word))}: a word behind -- that is no UTF-8")
     if variables(command) == len(command):
         behind = "all words behind -- are NAME=VALUE" if command else "nothing stands behind --"
         raise RunError(f"{behind}: the path of the program in the image is missing")
@@ -228,10 +242,16 @@ def check_command(command: Sequence[str]) -> None:
 
 def check_text(name: str) -> None:
     """The name of an image has to be text, as all words of the program."""
+    if not is_text(name):
+        raise RunError(f"{shown(os.fsencode(name))} is no UTF-8, as the name of an image has to be")
+
+
+def is_text(word: str) -> bool:
     try:
-        os.fsencode(name).decode("utf-8")
-    except UnicodeDecodeError as error:
-        raise RunError(f"{shown(os.fsencode(name))} is no UTF-8, as the name of an image has to be") from error
+        os.fsencode(word).decode("utf-8")
+    except UnicodeDecodeError:
+        return False
+    return True
 
 
 def help_text(name: str) -> str:
@@ -249,6 +269,10 @@ options:
   --budget N          how many instructions it may take: 1 to {BUDGET_LIMIT} ({BUDGET_DEFAULT})
   --workers N         how many threads it may use; no report depends on it: 1 to {WORKERS_LIMIT} ({WORKERS_DEFAULT})
   --host N            what the host's choices come from; no report depends on it: 0 to {HIGHEST}
+  --stdin NAME        what the program reads from standard input: a file of FOLDER or ARCHIVE, by its path there, or
+                      of IMAGE; without it there is nothing to read
+  --profile N         what the programs of FOLDER or ARCHIVE have: 1, or with 2 also atomic instructions, devices and
+                      files of up to 64 MiB (1)
   --report FILE       keeps the report, whole or not at all
   --tree FOLDER       makes FOLDER, which must be empty or not exist, with the files as the run left them
   --take PATH=FOLDER  the same with what is below PATH, a directory that it left; it may be given several times

@@ -2,12 +2,17 @@
 use Rattle.std.proofs.Common.{◌≡◌, ℕ, List, [], ◌∷◌, ◌++◌, refl, ap, ◌∙◌, arith}
 use Rattle.dt_base.specs.declared.image.Entry.{Entry}
 use Rattle.dt_base.specs.declared.image.What.{What}
-use Rattle.dt_base.specs.Image.{IsImage}
-use Rattle.dt_asm.specs.Demo.{demo_entries}
+use Rattle.dt_base.specs.declared.profile.TheConstants.{FIRST_VERSION}
+use Rattle.dt_base.specs.Image.{ImageParts, IsImage}
+use Rattle.dt_asm.specs.Demo.{demo_image}
+
+-- these entries, in version 1
+abbrev pub image_with : List Entry → ImageParts
+image_with entries = record { version = FIRST_VERSION; entries = entries }
 
 -- it is one
-pub demo_image_is : (n : ℕ) → IsImage (demo_entries n)
-demo_image_is n = record { few = omega arith; good = refl; rising = refl; parents = refl }
+pub demo_image_is : (n : ℕ) → IsImage (demo_image n)
+demo_image_is n = record { version = refl; few = omega arith; good = refl; rising = refl; parents = refl }
 
 -- two entries pushed one after the other
 pub two_entries : (none one both : List Entry) (a b : Entry) {x y : Entry} → none ≡ [] → one ≡ none ++ (a ∷ []) → both ≡ one ++ (b ∷ []) → a ≡ x → b ≡ y → both ≡ x ∷ y ∷ []

@@ -1,6 +1,8 @@
 -- The demonstration: a program with a number, the image that holds it, and the command that runs it.
 use Rattle.std.specs.Prelude.{ℕ, ◌+◌, ◌*◌, List, [], ◌∷◌, ◌++◌, length, codes, None}
 use Rattle.std.specs.List.{flat_map}
+use Rattle.dt_base.specs.declared.profile.TheConstants.{FIRST_VERSION}
+use Rattle.dt_base.specs.Image.{ImageParts}
 use Rattle.dt_base.specs.declared.image.Entry.{Entry}
 use Rattle.dt_base.specs.declared.image.What.TheVariants.{File, Dir}
 use Rattle.dt_base.specs.Command.{Words}
@@ -121,6 +123,10 @@ abbrev pub demo_entries : ℕ → List Entry
 demo_entries n =
     record { path = codes "/d"; mode = 493; what = Dir } ∷ record { path = codes "/work"; mode = 493; what = File (demo_file n) } ∷ []
 
+-- its image, of version 1
+abbrev pub demo_image : ℕ → ImageParts
+demo_image n = record { version = FIRST_VERSION; entries = demo_entries n }
+
 -- the program alone, with no environment
 abbrev pub demo_command : Words
-demo_command = record { args = codes "/work" ∷ []; env = [] }
+demo_command = record { args = codes "/work" ∷ []; env = []; input = [] }

@@ -2,7 +2,7 @@
 -- Instruction Formats" and "Immediate Encoding Variants").
 use Rattle.std.specs.Prelude.{ℕ, ◌-◌, ◌%◌, ◌^◌, ℤ, pos, neg_ℤ, Bool, false, true, ◌&&◌, ◌==◌, nat_lt, nat_le, int_le, int_lt, unsigned_abs}
 use Rattle.dt_rv64.specs.declared.instruction.Instr.{Instr}
-use Rattle.dt_rv64.specs.declared.instruction.Instr.TheVariants.{Lui, Auipc, Jal, Jalr, Beq, Bne, Blt, Bge, Bltu, Bgeu, Lb, Lh, Lw, Ld, Lbu, Lhu, Lwu, Sb, Sh, Sw, Sd, Addi, Slti, Sltiu, Xori, Ori, Andi, Slli, Srli, Srai, Add, Sub, Sll, Slt, Sltu, Xor, Srl, Sra, Or, And, Mul, Mulh, Mulhsu, Mulhu, Div, Divu, Rem, Remu, Addiw, Slliw, Srliw, Sraiw, Addw, Subw, Sllw, Srlw, Sraw, Mulw, Divw, Divuw, Remw, Remuw, Fence, Ecall, Ebreak, ReadCounter, Unknown}
+use Rattle.dt_rv64.specs.declared.instruction.Instr.TheVariants.{Lui, Auipc, Jal, Jalr, Beq, Bne, Blt, Bge, Bltu, Bgeu, Lb, Lh, Lw, Ld, Lbu, Lhu, Lwu, Sb, Sh, Sw, Sd, Addi, Slti, Sltiu, Xori, Ori, Andi, Slli, Srli, Srai, Add, Sub, Sll, Slt, Sltu, Xor, Srl, Sra, Or, And, Mul, Mulh, Mulhsu, Mulhu, Div, Divu, Rem, Remu, Addiw, Slliw, Srliw, Sraiw, Addw, Subw, Sllw, Srlw, Sraw, Mulw, Divw, Divuw, Remw, Remuw, LrW, ScW, AmoswapW, AmoaddW, AmoxorW, AmoandW, AmoorW, AmominW, AmomaxW, AmominuW, AmomaxuW, LrD, ScD, AmoswapD, AmoaddD, AmoxorD, AmoandD, AmoorD, AmominD, AmomaxD, AmominuD, AmomaxuD, Fence, Ecall, Ebreak, ReadCounter, Unknown}
 
 -- a signed number of so many bits
 abbrev pub is_signed : ℕ → ℤ → Bool
@@ -132,6 +132,28 @@ is_encodable (Divw rd rs1 rs2) = are_r_fields rd rs1 rs2
 is_encodable (Divuw rd rs1 rs2) = are_r_fields rd rs1 rs2
 is_encodable (Remw rd rs1 rs2) = are_r_fields rd rs1 rs2
 is_encodable (Remuw rd rs1 rs2) = are_r_fields rd rs1 rs2
+is_encodable (LrW rd rs1) = are_r_fields rd rs1 0
+is_encodable (ScW rd rs1 rs2) = are_r_fields rd rs1 rs2
+is_encodable (AmoswapW rd rs1 rs2) = are_r_fields rd rs1 rs2
+is_encodable (AmoaddW rd rs1 rs2) = are_r_fields rd rs1 rs2
+is_encodable (AmoxorW rd rs1 rs2) = are_r_fields rd rs1 rs2
+is_encodable (AmoandW rd rs1 rs2) = are_r_fields rd rs1 rs2
+is_encodable (AmoorW rd rs1 rs2) = are_r_fields rd rs1 rs2
+is_encodable (AmominW rd rs1 rs2) = are_r_fields rd rs1 rs2
+is_encodable (AmomaxW rd rs1 rs2) = are_r_fields rd rs1 rs2
+is_encodable (AmominuW rd rs1 rs2) = are_r_fields rd rs1 rs2
+is_encodable (AmomaxuW rd rs1 rs2) = are_r_fields rd rs1 rs2
+is_encodable (LrD rd rs1) = are_r_fields rd rs1 0
+is_encodable (ScD rd rs1 rs2) = are_r_fields rd rs1 rs2
+is_encodable (AmoswapD rd rs1 rs2) = are_r_fields rd rs1 rs2
+is_encodable (AmoaddD rd rs1 rs2) = are_r_fields rd rs1 rs2
+is_encodable (AmoxorD rd rs1 rs2) = are_r_fields rd rs1 rs2
+is_encodable (AmoandD rd rs1 rs2) = are_r_fields rd rs1 rs2
+is_encodable (AmoorD rd rs1 rs2) = are_r_fields rd rs1 rs2
+is_encodable (AmominD rd rs1 rs2) = are_r_fields rd rs1 rs2
+is_encodable (AmomaxD rd rs1 rs2) = are_r_fields rd rs1 rs2
+is_encodable (AmominuD rd rs1 rs2) = are_r_fields rd rs1 rs2
+is_encodable (AmomaxuD rd rs1 rs2) = are_r_fields rd rs1 rs2
 is_encodable Fence = true
 is_encodable Ecall = true
 is_encodable Ebreak = true

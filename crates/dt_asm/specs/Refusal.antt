@@ -1,7 +1,7 @@
 -- Why a guest becomes no file.
 use Rattle.std.specs.Prelude.{ℕ, ◌+◌, List, [], ◌∷◌, Bool, false, ◌||◌, not, Option, Some, None, is_none, is_some, nat_lt, if◌then◌else◌}
 use Rattle.std.specs.List.{list_any}
-use Rattle.dt_base.specs.declared.limits.TheConstants.{FILE_LIMIT}
+use Rattle.dt_base.specs.declared.limits.TheConstants.{FIRST_FILE_LIMIT}
 use Rattle.dt_asm.specs.declared.headers.TheConstants.{HEADERS_SIZE}
 use Rattle.dt_asm.specs.declared.error.AsmErr.{AsmErr}
 use Rattle.dt_asm.specs.declared.error.AsmErr.TheVariants.{NoLabel, TwoLabels, Far, BadField, NoMemory, TooLong}
@@ -58,5 +58,5 @@ refusal_of items =
     else if is_set_twice items then Some TwoLabels
     else if any_out_of_reach items 0 items then Some Far
     else if list_any is_bad (pieces_of items) then Some BadField
-    else if nat_lt FILE_LIMIT (HEADERS_SIZE + total_size items) then Some TooLong
+    else if nat_lt FIRST_FILE_LIMIT (HEADERS_SIZE + total_size items) then Some TooLong
     else None

@@ -6,9 +6,11 @@ ghost use Rattle.dt_rv64.specs.Instruction.{instr};
 ghost use Rattle.dt_asm.specs.Fits.{is_encodable};
 ghost use Rattle.dt_asm.specs.inner.Classes.{is_lui_auipc_or_jump, is_branch, is_load, is_store, is_op_imm, is_op};
 ghost use Rattle.dt_asm.specs.inner.Classes.{is_op_multiply, is_op_imm_32, is_op_32, is_op_32_multiply};
-ghost use Rattle.dt_asm.specs.inner.Classes.{is_fence_or_system};
+ghost use Rattle.dt_asm.specs.inner.Classes.{is_atomic_32, is_atomic_64, is_fence_or_system};
 
-use crate::shapes::{b_type, csr_type, i_type, j_type, r_type, s_type, shift_type, u_type};
+use crate::shapes::{
+    atomic_type, b_type, csr_type, i_type, j_type, r_type, s_type, shift_type, u_type,
+};
 use dt_rv64::Instr;
 
 // The opcodes (RISC-V unprivileged specification, "RV32/64G Instruction Set Listings").
@@ -21,6 +23,8 @@ const AUIPC: u32 = 0x17;
 const OP_IMM_32: u32 = 0x1b;
 
 const STORE: u32 = 0x23;
+
+const AMO: u32 = 0x2f;
 
 const OP: u32 = 0x33;
 
@@ -211,6 +215,50 @@ pub fn op_32_multiply(i: &Instr) -> Option<u32>
         Instr::Divuw { rd, rs1, rs2 } => r_type(OP_32, 5, 1, rd, rs1, rs2),
         Instr::Remw { rd, rs1, rs2 } => r_type(OP_32, 6, 1, rd, rs1, rs2),
         Instr::Remuw { rd, rs1, rs2 } => r_type(OP_32, 7, 1, rd, rs1, rs2),
+        _ => None,
+    }
+}
+
+/// The word of an atomic of 32 bits, if its fields fit.
+#[tactic(auto, unfolding(dt_rv64::specs::Instruction::instr))]
+pub fn atomic_32(i: &Instr) -> Option<u32>
+    ensures round { IfSome result (λ word. instr word ≡ i.now) }
+    ensures some { is_some result ≡ (is_atomic_32 i.now && is_encodable i.now) }
+{
+    match *i {
+        Instr::LrW { rd, rs1 } => atomic_type(AMO, 2, 0x02, rd, rs1, 0),
+        Instr::ScW { rd, rs1, rs2 } => atomic_type(AMO, 2, 0x03, rd, rs1, rs2),
+        Instr::AmoswapW { rd, rs1, rs2 } => atomic_type(AMO, 2, 0x01, rd, rs1, rs2),
+        Instr::AmoaddW { rd, rs1, rs2 } => atomic_type(AMO, 2, 0x00, rd, rs1, rs2),
+        Instr::AmoxorW { rd, rs1, rs2 } => atomic_type(AMO, 2, 0x04, rd, rs1, rs2),
+        Instr::AmoandW { rd, rs1, rs2 } => atomic_type(AMO, 2, 0x0c, rd, rs1, rs2),
+        Instr::AmoorW { rd, rs1, rs2 } => atomic_type(AMO, 2, 0x08, rd, rs1, rs2),
+        Instr::AmominW { rd, rs1, rs2 } => atomic_type(AMO, 2, 0x10, rd, rs1, rs2),
+        Instr::AmomaxW { rd, rs1, rs2 } => atomic_type(AMO, 2, 0x14, rd, rs1, rs2),
+        Instr::AmominuW { rd, rs1, rs2 } => atomic_type(AMO, 2, 0x18, rd, rs1, rs2),
+        Instr::AmomaxuW { rd, rs1, rs2 } => atomic_type(AMO, 2, 0x1c, rd, rs1, rs2),
+        _ => None,
+    }
+}
+
+/// The word of an atomic of 64 bits, if its fields fit.
+#[tactic(auto, unfolding(dt_rv64::specs::Instruction::instr))]
+pub fn atomic_64(i: &Instr) -> Option<u32>
+    ensures round { IfSome result (λ word. instr word ≡ i.now) }
+    ensures some { is_some result ≡ (is_atomic_64 i.now && is_encodable i.now) }
+{
+    match *i {
+        Instr::LrD { rd, rs1 } => atomic_type(AMO, 3, 0x02, rd, rs1, 0),
+        Instr::ScD { rd, rs1, rs2 } => atomic_type(AMO, 3, 0x03, rd, rs1, rs2),
+        Instr::AmoswapD { rd, rs1, rs2 } => atomic_type(AMO, 3, 0x01, rd, rs1, rs2),
+        Instr::AmoaddD { rd, rs1, rs2 } => atomic_type(AMO, 3, 0x00, rd, rs1, rs2),
+        Instr::AmoxorD { rd, rs1, rs2 } => atomic_type(AMO, 3, 0x04, rd, rs1, rs2),
+        Instr::AmoandD { rd, rs1, rs2 } => atomic_type(AMO, 3, 0x0c, rd, rs1, rs2),
+        Instr::AmoorD { rd, rs1, rs2 } => atomic_type(AMO, 3, 0x08, rd, rs1, rs2),
+        Instr::AmominD { rd, rs1, rs2 } => atomic_type(AMO, 3, 0x10, rd, rs1, rs2),
+        Instr::AmomaxD { rd, rs1, rs2 } => atomic_type(AMO, 3, 0x14, rd, rs1, rs2),
+        Instr::AmominuD { rd, rs1, rs2 } => atomic_type(AMO, 3, 0x18, rd, rs1, rs2),
+        Instr::AmomaxuD { rd, rs1, rs2 } => atomic_type(AMO, 3, 0x1c, rd, rs1, rs2),
         _ => None,
     }
 }

@@ -2,10 +2,10 @@
 ghost use Rattle.std.specs.Prelude.{◌≡◌, ◌++◌, IfOk, OnOk};
 ghost use Rattle.std.specs.List.{flat_map};
 ghost use Rattle.dt_base.specs.Fields.{low_bytes};
-ghost use Rattle.dt_asm.specs.Demo.{demo_file, demo_entries, demo_command};
+ghost use Rattle.dt_asm.specs.Demo.{demo_file, demo_image, demo_command};
 
 use crate::headers::{HEADERS_SIZE, headers};
-use dt_base::{Blob, Command, Entry, Image, NoMemory, What};
+use dt_base::{Blob, Command, Entry, FIRST_VERSION, Image, NoMemory, What};
 use std::alloc::Global;
 
 // The words of the instructions. The number stands behind them, in 8 bytes.
@@ -63,7 +63,7 @@ const MODE: u32 = 0o755;
 /// `/d` whose name is the i-th letter from `a`, writes the number's 8 bytes to it, 512 times in one write, and once to the
 /// pipe, and ends with code `i`.
 pub fn demo_image(alloc: Global, n: u64) -> Result<(Image, Command), NoMemory>
-    ensures image { IfOk result (λ made. made.0 ≡ demo_entries n) }
+    ensures image { IfOk result (λ made. made.0 ≡ demo_image n) }
     ensures command { IfOk result (λ made. made.1 ≡ demo_command) }
 {
     let image = image(alloc, n)?;
@@ -71,13 +71,13 @@ pub fn demo_image(alloc: Global, n: u64) -> Result<(Image, Command), NoMemory>
 }
 
 fn image(alloc: Global, n: u64) -> Result<Image, NoMemory>
-    ensures { IfOk result (λ image. image ≡ demo_entries n) }
+    ensures { IfOk result (λ image. image ≡ demo_image n) }
 {
     let mut entries = Vec::new(alloc);
     entries.push(entry(blob(alloc, b"/d")?, What::Dir))?;
     let file = Blob::new(file(alloc, n)?);
     entries.push(entry(blob(alloc, b"/work")?, What::File(file)))?;
-    Ok(Image::new(entries))
+    Ok(Image::new(FIRST_VERSION, entries))
 }
 
 fn command(alloc: Global) -> Result<Command, NoMemory>

@@ -3,11 +3,11 @@ ghost use Rattle.std.specs.Prelude.{◌≡◌, ◌&&◌, is_some, IfSome, Some};
 ghost use Rattle.dt_rv64.specs.declared.instruction.Instr.TheVariants.{Fence};
 ghost use Rattle.dt_rv64.specs.Instruction.{instr};
 ghost use Rattle.dt_asm.specs.Fits.{is_encodable};
-ghost use Rattle.dt_asm.specs.inner.Classes.{is_computational, is_computational_32};
+ghost use Rattle.dt_asm.specs.inner.Classes.{is_computational, is_computational_32, is_computational_or_atomic};
 
 use crate::classes::{
-    branch, fence_or_system, load, lui_auipc_or_jump, op, op_32, op_32_multiply, op_immediate,
-    op_immediate_32, op_multiply, store,
+    atomic_32, atomic_64, branch, fence_or_system, load, lui_auipc_or_jump, op, op_32,
+    op_32_multiply, op_immediate, op_immediate_32, op_multiply, store,
 };
 use dt_rv64::Instr;
 
@@ -39,6 +39,38 @@ pub fn encode(i: &Instr) -> Option<u32>
             i,
         ),
         Instr::Unknown => None,
+        _ => computational_or_atomic(i),
+    }
+}
+
+// The word of an instruction that computes a register or changes memory in one step.
+fn computational_or_atomic(i: &Instr) -> Option<u32>
+    ensures round { IfSome result (λ word. instr word ≡ i.now) }
+    ensures some { is_some result ≡ (is_computational_or_atomic i.now && is_encodable i.now) }
+{
+    match i {
+        Instr::LrW { .. }
+        | Instr::ScW { .. }
+        | Instr::AmoswapW { .. }
+        | Instr::AmoaddW { .. }
+        | Instr::AmoxorW { .. }
+        | Instr::AmoandW { .. }
+        | Instr::AmoorW { .. }
+        | Instr::AmominW { .. }
+        | Instr::AmomaxW { .. }
+        | Instr::AmominuW { .. }
+        | Instr::AmomaxuW { .. } => atomic_32(i),
+        Instr::LrD { .. }
+        | Instr::ScD { .. }
+        | Instr::AmoswapD { .. }
+        | Instr::AmoaddD { .. }
+        | Instr::AmoxorD { .. }
+        | Instr::AmoandD { .. }
+        | Instr::AmoorD { .. }
+        | Instr::AmominD { .. }
+        | Instr::AmomaxD { .. }
+        | Instr::AmominuD { .. }
+        | Instr::AmomaxuD { .. } => atomic_64(i),
         _ => computational(i),
     }
 }

@@ -17,7 +17,7 @@ use crate::item::Item;
 use crate::labels::{any_lost, any_out_of_reach, is_set_twice};
 use crate::loads::add_load_sequence;
 use dt_base::abi::A7;
-use dt_base::{Blob, FILE_LIMIT, NoMemory};
+use dt_base::{Blob, FIRST_FILE_LIMIT, NoMemory};
 use dt_rv64::Instr;
 use std::alloc::Global;
 use std::marker::Model;
@@ -154,7 +154,7 @@ impl Guest {
             return Err(AsmErr::Far);
         }
         let mut code = code_of(self.alloc, &self.items)?;
-        if FILE_LIMIT < self.size {
+        if FIRST_FILE_LIMIT < self.size {
             return Err(AsmErr::TooLong);
         }
         let mut file = headers(self.alloc, self.size, self.memory)?;

@@ -4,7 +4,7 @@ ghost use Rattle.std.specs.Prelude.{◌≡◌, ◌<◌, ◌^◌, ◌/◌, ◌%�
 ghost use Rattle.dt_asm.specs.Fits.{is_b_immediate, is_u_immediate, is_j_immediate, is_i_immediate, is_counter};
 ghost use Rattle.dt_asm.specs.Fits.{is_register, are_r_fields, are_i_fields, are_s_fields, are_b_fields, are_u_fields};
 ghost use Rattle.dt_asm.specs.Fits.{are_j_fields, are_shift_fields};
-ghost use Rattle.dt_asm.specs.inner.Shapes.{IsBits, IsR, IsI, IsShift, IsCsr, IsS, IsB, IsU, IsJ};
+ghost use Rattle.dt_asm.specs.inner.Shapes.{IsBits, IsR, IsAtomic, IsI, IsShift, IsCsr, IsS, IsB, IsU, IsJ};
 
 const REGISTERS: u8 = 32;
 
@@ -21,6 +21,19 @@ pub fn r_type(opcode: u32, funct3: u32, funct7: u32, rd: u8, rs1: u8, rs2: u8) -
     } else {
         None
     }
+}
+
+/// The word of an atomic of three registers, without the bits that order accesses; `None` exactly where a register is
+/// over 31.
+pub fn atomic_type(opcode: u32, funct3: u32, funct5: u32, rd: u8, rs1: u8, rs2: u8) -> Option<u32>
+    requires opcode { opcode < 2 ^ 7 }
+    requires funct3 { funct3 < 2 ^ 3 }
+    requires funct5 { funct5 < 2 ^ 5 }
+    ensures some { is_some result ≡ are_r_fields rd rs1 rs2 }
+    ensures word { IfSome result (IsAtomic opcode funct3 funct5 rd rs1 rs2) }
+{
+    let word = r_type(opcode, funct3, 4 * funct5, rd, rs1, rs2)?;
+    Some(word)
 }
 
 /// The word in I format of two registers and an immediate; `None` exactly where a register is over 31, or the

@@ -36,6 +36,8 @@ impl Job {
             regs: machine.regs,
             pc: machine.pc,
             space: machine.space.fork()?,
+            reserved: machine.reserved,
+            atomics: machine.atomics,
         };
         Ok(Job {
             start,
@@ -50,6 +52,8 @@ impl Job {
     {
         self.start.regs == machine.regs
             && self.start.pc == machine.pc
+            && self.start.reserved == machine.reserved
+            && self.start.atomics == machine.atomics
             && self.start.space.same(&machine.space)
     }
 

@@ -7,7 +7,7 @@ use Rattle.dt_base.specs.declared.answer.Answer.TheVariants.{Value}
 use Rattle.dt_base.specs.declared.caller.Caller.{Caller}
 use Rattle.dt_fds.specs.declared.desc.Desc.{Desc}
 use Rattle.dt_fds.specs.declared.desc.DescKind.{DescKind}
-use Rattle.dt_fds.specs.declared.desc.DescKind.TheVariants.{File, Dir, PipeRead, PipeWrite, Input, Stream}
+use Rattle.dt_fds.specs.declared.desc.DescKind.TheVariants.{File, Dir, Device, PipeRead, PipeWrite, Input, Stream}
 use Rattle.dt_fds.specs.Descriptions.{Descriptions, inode_of, one_if_named}
 use Rattle.dt_fds.specs.Backs.{IsIn, AllIn, IsBacked, KeepsNodes, KeepsOthers as KeepsHolds, OnlyFiles, IsPiped, at, descriptions_of}
 use Rattle.dt_fds.specs.declared.files.Files.{Files}
@@ -23,7 +23,7 @@ use Rattle.dt_base.specs.declared.errno.Errno.{Errno}
 use Rattle.dt_fds.proofs.Backing.{named}
 use Rattle.dt_host.proofs.Asking.{cause-from}
 use Rattle.dt_tables.specs.inner.Weight.{weight}
-use Rattle.dt_host.specs.World.{World, Forest, IsFile, IsDir, OnlyForest}
+use Rattle.dt_host.specs.World.{World, Forest, IsFile, IsDir, IsDevice, OnlyForest}
 use Rattle.dt_host.specs.declared.error.HostErr.{HostErr}
 use Rattle.dt_space.specs.Space.{PageView}
 use Rattle.dt_tree.specs.Calls.{TreeAnswer, KeepsHeld, tree_answer}
@@ -52,13 +52,14 @@ backed_sound fs w caller space sound = record {
   backs = record { enough = λ n. omega (arith, sound.enough n); is_in = sound.all_in; ends = sound.piped.there };
 }
 
--- what is open is in another tree too, where nodes that are open stay files and directories
-pub all_in-through : (f : Descriptions) (v w : Forest) → ((n : ℕ) → 1 ≤ descriptions_of f n → IsFile v n → IsFile w n) → ((n : ℕ) → 1 ≤ descriptions_of f n → IsDir v n → IsDir w n) → AllIn v f → AllIn w f
-all_in-through f v w files dirs all k = by_found (get f.descs k) (λ n. named f k n) (all k)
+-- what is open is in another tree too, where nodes that are open stay files, directories and devices
+pub all_in-through : (f : Descriptions) (v w : Forest) → ((n : ℕ) → 1 ≤ descriptions_of f n → IsFile v n → IsFile w n) → ((n : ℕ) → 1 ≤ descriptions_of f n → IsDir v n → IsDir w n) → ((n : ℕ) → 1 ≤ descriptions_of f n → IsDevice v n → IsDevice w n) → AllIn v f → AllIn w f
+all_in-through f v w files dirs devices all k = by_found (get f.descs k) (λ n. named f k n) (all k)
   where
     by_kind : (kind : DescKind) → ((n : ℕ) → one_if_named n (inode_of kind) ≤ descriptions_of f n) → IsIn v kind → IsIn w kind
     by_kind (File n) named is = files n (omega (arith, named n, one_for-same n)) is
     by_kind (Dir n) named is = dirs n (omega (arith, named n, one_for-same n)) is
+    by_kind (Device n) named is = devices n (omega (arith, named n, one_for-same n)) is
     by_kind (PipeRead q) named is = tt
     by_kind (PipeWrite q) named is = tt
     by_kind Input named is = tt
@@ -75,7 +76,7 @@ sound_kept old new w v caller space pages sound stands kept same piped = record 
   is_dir = kept.dirs caller.cwd (cwd_held old w caller space sound) sound.is_dir;
   all_in = subst (λ (f : Files). AllIn (shape_of new.tree v.forest) f.descriptors) (sym same)
       (all_in-through old.files.descriptors (shape_of old.tree w.forest) (shape_of new.tree v.forest)
-      (λ n named_one. kept.files n (omega (arith, sound.enough n))) (λ n named_one. kept.dirs n (omega (arith, sound.enough n))) sound.all_in);
+      (λ n named_one. kept.files n (omega (arith, sound.enough n))) (λ n named_one. kept.dirs n (omega (arith, sound.enough n))) (λ n named_one. kept.devices n (omega (arith, sound.enough n))) sound.all_in);
   enough = λ n. let files = ap (λ (f : Files). descriptions_of f.descriptors n) same in omega (arith, sound.enough n, kept.holds n);
   piped = subst (λ f. IsPiped f v.pipes) (sym same) (subst (IsPiped old.files) (sym piped) sound.piped);
 }
@@ -90,6 +91,7 @@ others_kept old new same files kept = record {
       omega (arith, kept.holds n);
   files = λ n held. kept.files n (omega arith);
   dirs = λ n held. kept.dirs n (omega arith);
+  devices = λ n held. kept.devices n (omega arith);
 }
 
 -- the table of pipes stands for the host's also then
@@ -120,6 +122,7 @@ others_nodes old new same tree nodes = record {
       omega (arith, nodes.counts n);
   files = λ n held is. subst (λ t. IsFile t.shape n) tree is;
   dirs = λ n held is. subst (λ t. IsDir t.shape n) tree is;
+  devices = λ n held is. subst (λ t. IsDevice t.shape n) tree is;
 }
 
 -- a change of open files and of what they hold
@@ -139,6 +142,7 @@ others_held old new same kept = record {
   holds = λ n. let cwd = ap (λ c. one_for n c.cwd) same in omega (arith, kept.holds n);
   files = λ n held. kept.files n (omega arith);
   dirs = λ n held. kept.dirs n (omega arith);
+  devices = λ n held. kept.devices n (omega arith);
 }
 
 -- what is reached after the host was only asked
@@ -155,9 +159,9 @@ reaches_after defined fs w v caller space new result before mid now stays later 
 pub reaches_kept : (defined : Reply) (old : Fs) (tree : Table) (clock : ℕ) (w v : World) (caller : Caller) (space : List PageView) (answer : Answer) (before now : ℕ)
     → Sound (stage old w caller space) → Stands tree v.forest → KeepsHeld (tree_of old.tree w.forest) (tree_of tree v.forest) → OnlyForest w v → before ≤ now
     → defined ≡ record { next = record (scene (stage old w caller space)) { tree = tree_of tree v.forest; clock = clock }; answer = answer }
-    → HasReply defined (stage old w caller space) (stage (record { tree = tree; files = old.files; clock = clock; rand = old.rand }) v caller space) (Ok answer) before now
+    → HasReply defined (stage old w caller space) (stage (record { tree = tree; files = old.files; clock = clock; rand = old.rand; input = old.input }) v caller space) (Ok answer) before now
 reaches_kept defined old tree clock w v caller space answer before now sound stands kept rest later is =
-    let new : Fs = record { tree = tree; files = old.files; clock = clock; rand = old.rand } in
+    let new : Fs = record { tree = tree; files = old.files; clock = clock; rand = old.rand; input = old.input } in
     record {
       served = is ∙ ap (λ host. record { next = record (scene (stage new v caller space)) { pipes = pipes_at old.files host }; answer = answer }) (sym rest.pipes);
       sound = sound_kept old new w v caller space space sound stands kept refl rest.pipes;
@@ -170,7 +174,7 @@ reaches_kept defined old tree clock w v caller space answer before now sound sta
 pub reaches_done : {A : Type 0} (d : TreeAnswer A) (old : Fs) (tree : Table) (clock : ℕ) (w v : World) (caller : Caller) (space : List PageView) (value : A) (before now : ℕ)
     → Sound (stage old w caller space) → Stands tree v.forest → KeepsHeld (tree_of old.tree w.forest) (tree_of tree v.forest) → OnlyForest w v → before ≤ now
     → clock ≡ stamp (scene (stage old w caller space)) → d ≡ tree_answer (tree_of tree v.forest) value
-    → HasReply (tree_call_reply (scene (stage old w caller space)) d) (stage old w caller space) (stage (record { tree = tree; files = old.files; clock = clock; rand = old.rand }) v caller space) (Ok (Value 0)) before now
+    → HasReply (tree_call_reply (scene (stage old w caller space)) d) (stage old w caller space) (stage (record { tree = tree; files = old.files; clock = clock; rand = old.rand; input = old.input }) v caller space) (Ok (Value 0)) before now
 reaches_done d old tree clock w v caller space value before now sound stands kept rest later at is =
     let s = scene (stage old w caller space) in
     reaches_kept (tree_call_reply s d) old tree clock w v caller space (Value 0) before now sound stands kept rest later
@@ -180,9 +184,9 @@ reaches_done d old tree clock w v caller space value before now sound stands kep
 pub reaches_held : {A : Type 0} (number : A → ℕ) (o : FilesAnswer A) (old : Fs) (tree : Table) (files : Files) (w v : World) (caller : Caller) (space : List PageView) (found : Result A Errno) (before now : ℕ)
     → Sound (stage old w caller space) → IsBacked (at files tree v) → KeepsHolds caller.vpid (holds.holding_at (at old.files old.tree w)) (holds.holding_at (at files tree v)) → OnlyFiles w v → before ≤ now
     → o ≡ record { answer = found; next = holds.holding_at (at files tree v) }
-    → HasReply (files_call_reply number (scene (stage old w caller space)) o) (stage old w caller space) (stage (record { tree = tree; files = files; clock = old.clock; rand = old.rand }) v caller space) (Ok (answer_of number found)) before now
+    → HasReply (files_call_reply number (scene (stage old w caller space)) o) (stage old w caller space) (stage (record { tree = tree; files = files; clock = old.clock; rand = old.rand; input = old.input }) v caller space) (Ok (answer_of number found)) before now
 reaches_held number o old tree files w v caller space found before now sound backed kept rest later is =
-    let new : Fs = record { tree = tree; files = files; clock = old.clock; rand = old.rand } in
+    let new : Fs = record { tree = tree; files = files; clock = old.clock; rand = old.rand; input = old.input } in
     record {
       served = ap (files_call_reply number (scene (stage old w caller space))) is;
       sound = sound_held old new w v caller space space sound backed kept;
@@ -199,6 +203,7 @@ others_both old mid new first second = record {
   holds = λ n. omega (arith, first.holds n, second.holds n);
   files = λ n held is. second.files n (omega (arith, first.holds n)) (first.files n held is);
   dirs = λ n held is. second.dirs n (omega (arith, first.holds n)) (first.dirs n held is);
+  devices = λ n held is. second.devices n (omega (arith, first.holds n)) (first.devices n held is);
 }
 
 -- what is reached after a first step
@@ -254,6 +259,7 @@ reaches_caller defined fs w old new space answer count sound same vpid is = reco
     holds = λ n. let cwd = ap (one_for n) same in omega arith;
     files = λ n held is. is;
     dirs = λ n held is. is;
+    devices = λ n held is. is;
   };
   rest = refl;
   cause = record { later = omega arith; rose = λ failed. cc };

@@ -16,13 +16,15 @@ use Rattle.dt_virt.specs.declared.clock.TheConstants.{READING_TICKS}
 use Rattle.dt_virt.specs.Clock.{ticks_after}
 use Rattle.dt_virt.specs.Words.{SeededWords}
 
--- the file tree, the open files and their pipes, the logical time, the seed's words, the process that calls, and its pages
+-- the file tree, the open files and their pipes, the logical time, the seed's words, the bytes of standard input, the process
+-- that calls, and its pages
 pub record Scene : Type 0 where
   pub tree : FileTree
   pub files : Descriptions
   pub pipes : PipesView
   pub clock : ℕ
   pub rand : SeededWords
+  pub input : List ℕ
   pub caller : Caller
   pub space : List PageView
 

@@ -7,7 +7,7 @@ use Rattle.dt_fds.specs.Backs.{AllIn, IsPiped, KeepsTables, OnlyFiles, descripti
 use Rattle.dt_host.specs.Cause.{HasCause}
 use Rattle.dt_host.specs.declared.error.HostErr.{HostErr}
 use Rattle.dt_host.specs.declared.error.HostErr.TheVariants.{Failed}
-use Rattle.dt_host.specs.World.{World, IsFile, IsDir}
+use Rattle.dt_host.specs.World.{World, IsFile, IsDir, IsDevice}
 use Rattle.dt_space.specs.Space.{PageView}
 use Rattle.dt_tree.specs.Table.{Stands, shape_of, tree_of}
 use Rattle.dt_tree.specs.FileTree.{holds_of}
@@ -34,6 +34,7 @@ scene g = record {
   pipes = pipes_at g.fs.files g.world.pipes;
   clock = g.fs.clock;
   rand = g.fs.rand;
+  input = g.fs.input;
   caller = g.caller;
   space = g.space;
 }
@@ -52,14 +53,15 @@ pub record Sound (g : Stage) : Type 0 where
   pub piped : IsPiped g.fs.files g.world.pipes
 
 -- a call leaves what others hold: the process is the same; the holds of a node that are neither of an open file nor of the
--- process's working directory are as many as before; where there are such, a file stays a file and a directory one; and the
--- descriptors of other processes stay
+-- process's working directory are as many as before; where there are such, a file stays a file, a directory one and a device
+-- one; and the descriptors of other processes stay
 pub record KeepsOthers (old new : Scene) : Type 0 where
   pub vpid : new.caller.vpid ≡ old.caller.vpid
   pub tables : KeepsTables old.caller.vpid old.files new.files
   pub holds : (n : ℕ) → holds_of new.tree n + node_references old n ≡ holds_of old.tree n + node_references new n
   pub files : (n : ℕ) → node_references old n < holds_of old.tree n → IsFile old.tree.shape n → IsFile new.tree.shape n
   pub dirs : (n : ℕ) → node_references old n < holds_of old.tree n → IsDir old.tree.shape n → IsDir new.tree.shape n
+  pub devices : (n : ℕ) → node_references old n < holds_of old.tree n → IsDevice old.tree.shape n → IsDevice new.tree.shape n
 
 -- the code reached what is defined: it answers and leaves that, unless the host fails or memory is wanting
 pub record HasReply (defined : Reply) (old new : Stage) (result : Result Answer HostErr) (before now : ℕ) : Type 0 where

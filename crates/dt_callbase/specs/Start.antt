@@ -8,7 +8,7 @@ use Rattle.dt_base.specs.declared.errno.Errno.TheVariants.{BadF, NotDir}
 use Rattle.dt_base.specs.Path.{begins_with_slash}
 use Rattle.dt_fds.specs.declared.desc.Desc.{Desc}
 use Rattle.dt_fds.specs.declared.desc.DescKind.{DescKind}
-use Rattle.dt_fds.specs.declared.desc.DescKind.TheVariants.{File, Dir, PipeRead, PipeWrite, Input, Stream}
+use Rattle.dt_fds.specs.declared.desc.DescKind.TheVariants.{File, Dir, Device, PipeRead, PipeWrite, Input, Stream}
 use Rattle.dt_callbase.specs.Scene.{Scene, description_of}
 use Rattle.dt_tree.specs.declared.limits.TheConstants.{ROOT}
 
@@ -16,6 +16,7 @@ use Rattle.dt_tree.specs.declared.limits.TheConstants.{ROOT}
 abbrev pub dir_of_kind : DescKind → Result ℕ Errno
 dir_of_kind (File n) = Err NotDir
 dir_of_kind (Dir n) = Ok n
+dir_of_kind (Device n) = Err NotDir
 dir_of_kind (PipeRead q) = Err NotDir
 dir_of_kind (PipeWrite q) = Err NotDir
 dir_of_kind Input = Err NotDir

@@ -34,6 +34,7 @@ fn dir_of_descriptor<H: Host>(
     match desc.kind {
         DescKind::Dir(n) => Ok(n),
         DescKind::File(_)
+        | DescKind::Device(_)
         | DescKind::PipeRead(_)
         | DescKind::PipeWrite(_)
         | DescKind::Input

@@ -23,7 +23,7 @@ use Rattle.dt_tree.specs.FileTree.{FileTree, holds_of}
 use Rattle.dt_tree.specs.Shape.{one_for}
 use Rattle.dt_tree.specs.Changes.{tree_after_release}
 use Rattle.dt_tree.specs.Table.{Stands, shape_of, tree_of}
-use Rattle.dt_tree.proofs.Holding.{holds-released, IsFile-released, IsDir-released}
+use Rattle.dt_tree.proofs.Holding.{holds-released, IsFile-released, IsDir-released, IsDevice-released}
 use Rattle.dt_calls.specs.declared.task.Task.{Task}
 use Rattle.dt_calls.specs.declared.shared.Shared.{Shared as SharedInCode}
 use Rattle.dt_base.specs.declared.abi.TheConstants.{SIGKILL, SIGCHLD}
@@ -114,6 +114,7 @@ module _ (c left new : SharedInCode) (w u v : World) (p : ℕ) (own : Task) (end
           (all_in-through left.fs.files.descriptors between.shape after.shape
           (λ n some is. IsFile-released between own.caller.cwd backed.stands.tree n (λ _. omega (arith, holds-after n)) is)
           (λ n some is. IsDir-released between own.caller.cwd backed.stands.tree n (λ _. omega (arith, holds-after n)) is)
+          (λ n some is. IsDevice-released between own.caller.cwd backed.stands.tree n (λ _. omega (arith, holds-after n)) is)
           backed.backs.is_in));
       directories = λ q. by_other q (λ found. IfSome found (λ x. IsDir (shape_of new.fs.tree v.forest) x.caller.cwd)) tt
           (λ other apart is was. subst (λ t. IsDir t.shape other.caller.cwd) (sym tree) (dir-after q other is was));

@@ -1,21 +1,17 @@
 -- The timers that fire, and what they leave.
 use Rattle.std.proofs.Common.{◌≡◌, ℕ, ◌+◌, ◌<◌, List, [], ◌∷◌, length, drop, drop-cons, add-one, get_or, Option, None, Some, refl, sym, ap, subst, ◌∙◌}
 use Rattle.std.specs.Prelude.{IsSome, IfSome, Ok}
-use Rattle.std.specs.FinMap.{get, insert}
+use Rattle.std.specs.FinMap.{get}
 use Rattle.dt_host.specs.World.{World}
-use Rattle.dt_procs.specs.Members.{vpids_of}
-use Rattle.dt_procs.specs.Table.{members_of}
 use Rattle.dt_rv64.specs.declared.machine.Machine.{Machine}
-use Rattle.dt_virt.specs.Clock.{ticks_reaching}
 use Rattle.dt_calls.specs.declared.call.effect.Effect.{Effect as EffectInCode}
-use Rattle.dt_calls.specs.declared.container.Served.{Served}
 use Rattle.dt_calls.specs.declared.shared.Shared.{Shared}
 use Rattle.dt_calls.specs.declared.task.Task.{Task}
 use Rattle.dt_calls.specs.Container.{Tasks}
 use Rattle.dt_calls.specs.Effect.{Effect}
 use Rattle.dt_calls.specs.InCode.{ContainerView, Lives, shared_of, container_of, effect_as}
 use Rattle.dt_calls.specs.Settle.{shared_after_waiting, container_after_jump}
-use Rattle.dt_calls.specs.Sound.{IsSound, IsSoundContainer, KeepsSound, ChangesTasks, LivesOn, LeavesSound, HasEffect, left}
+use Rattle.dt_calls.specs.Sound.{IsSound, IsSoundContainer, KeepsSound, ChangesTasks, LivesOn, HasEffect, left}
 use Rattle.dt_calls.specs.Timers.{sooner, due_in, earliest_after, earliest_in, task_at_ticks, tasks_after_timer_in, tasks_after_timer, tasks_after_timers, shared_after_timers, shared_after_jump, effect_after_timers}
 use Rattle.dt_calls.proofs.Tasks.{still-insert, keeps-task}
 

@@ -53,10 +53,11 @@ use Rattle.dt_calls.specs.Identity.{getpid_call, getppid_call, set_robust_list_c
 use Rattle.dt_calls.specs.Kill.{is_below_one, is_unsupported_signal, has_member, kill_call, tkill_call, tgkill_call, send_effect_to}
 use Rattle.dt_calls.specs.LateCalls.{setitimer_call, getitimer_call, with_polling, events_of, effect_of_poll, ppoll_call, late_call}
 use Rattle.dt_calls.specs.MemoryCalls.{effect_of_memory_call, brk_call, munmap_call, mmap_call, mprotect_call}
-use Rattle.dt_calls.specs.Settle.{ProcessTurn, machine_after, turn_of_machine}
+use Rattle.dt_calls.specs.Settle.{ProcessTurn, machine_after, turn_of_machine, machine_to_serve}
 use Rattle.dt_calls.specs.SignalCalls.{AfterSigreturn, after_sigreturn, with_signals_of, effect_of_signal_call, sigaction_call, sigprocmask_call, sigreturn_call, effect_of_sigreturn}
 use Rattle.dt_calls.specs.Timers.{effect_after_timers}
 use Rattle.dt_calls.specs.Wait.{is_group, which_child, status_bytes, usage_bytes, wait4_call, effect_of_reaped, reap_effect}
+use Rattle.dt_base.specs.Profile.{has_atomics}
 
 -- a process that lives on has a machine, and one that ended has none
 abbrev pub FitsOwn : Served → Option Machine → Type 0
@@ -301,7 +302,7 @@ module _ (next : ℕ) where
   execve-fits : (c : Shared) (p : ℕ) (m : Machine) → Born next (execve_call c p m)
   unfolding execve_call
   execve-fits c p m = program-fits c p m (execve_program c.tree.shape (task_at c p).caller.cwd m.space
-      (register m A0) (register m A1) (register m A2) (start_bytes c.rand))
+      (register m A0) (register m A1) (register m A2) (start_bytes c.rand) (has_atomics c.tree.version))
 
   reap-fits : (c : Shared) (m : Machine) (status usage vpid : ℕ) (end : End) → Born next (reap_effect c m status usage vpid end)
   reap-fits c m status usage vpid end =
@@ -370,6 +371,6 @@ pub served-fits : (c : Shared) (next p : ℕ) (stop : Stop) (m : Machine) → Fi
 unfolding turn_of_machine
 served-fits c next p stop m = record {
   own = own-fits _ _;
-  child = let born = delivered-fits next (forced_signal stop) p (effect_after_timers (effect_of_stop c next p m stop))
-      (timers-fits next (effect_of_stop c next p m stop) (stop-fits next c p m stop)) in born.fits;
+  child = let served = machine_to_serve stop m in let born = delivered-fits next (forced_signal stop) p (effect_after_timers (effect_of_stop c next p served stop))
+      (timers-fits next (effect_of_stop c next p served stop) (stop-fits next c p served stop)) in born.fits;
 }

@@ -1,5 +1,5 @@
 -- The stop of a process whose machine is at home, served and settled.
-use Rattle.std.proofs.Common.{arith, ◌≡◌, ◌≢◌, ℕ, cond, Option, Some, refl, sym, ap, subst, ◌∙◌}
+use Rattle.std.proofs.Common.{arith, ◌≡◌, ◌≢◌, ℕ, cond, Option, Some, refl, sym, ap, subst, ◌∙◌, List}
 use Rattle.std.specs.Prelude.{IsSome, option_map}
 use Rattle.std.specs.Cmp.{nat_cmp_total}
 use Rattle.std.specs.FinMap.{get, insert, empty, nat_cmp-IsAntisymmetric}
@@ -123,21 +123,37 @@ module _ (v s : ContainerView) (w : World) (p : ℕ) (sound : IsSoundContainer v
         })
         ∙ ap (λ (x : ContainerView). container_turn_as (container_of x w2) e.served) (sym new_is))
 
+-- what is read as standard input is of no other part
+sound-input : (c : SharedInCode) (input : List ℕ) (w : World) → IsSound c w → IsSound (record c { fs = record c.fs { input = input } }) w
+sound-input c input w s = record {
+  stands = s.stands;
+  pids = s.pids;
+  all_in = s.all_in;
+  directories = s.directories;
+  holds = s.holds;
+  piped = s.piped;
+  named = s.named;
+  given = s.given;
+  lives = s.lives;
+  fresh = s.fresh;
+}
+
 -- and so is one whose first process was started
-pub launches : (inside v : ContainerView) (w : World) (m : Machine) (break_start : ℕ) (tasks : Tasks) (new : ContainerView)
+pub launches : (inside v : ContainerView) (w : World) (m : Machine) (break_start : ℕ) (tasks : Tasks) (input : List ℕ) (new : ContainerView)
     → IsSoundContainer v w → inside ≡ v → IsSome (get v.shared.tasks FIRST_PID)
     → tasks ≡ insert inside.shared.tasks FIRST_PID (task_after_start break_start (task_in inside.shared.tasks FIRST_PID))
-    → new ≡ record { shared = record inside.shared { tasks = tasks }; places = insert inside.places FIRST_PID (Some m); events = inside.events }
+    → new ≡ record { shared = record inside.shared { fs = record inside.shared.fs { input = input }; tasks = tasks }; places = insert inside.places FIRST_PID (Some m); events = inside.events }
     → Uncounted new w
-launches inside v w m break_start tasks new sound is there put_is new_is =
+launches inside v w m break_start tasks input new sound is there put_is new_is =
     let own = task_in v.shared.tasks FIRST_PID in
     let started = task_after_start break_start own in
-    let given : new ≡ record { shared = record v.shared { tasks = insert v.shared.tasks FIRST_PID started }; places = insert v.places FIRST_PID (Some m); events = v.events } =
+    let fed : SharedInCode = record v.shared { fs = record v.shared.fs { input = input } } in
+    let given : new ≡ record { shared = record fed { tasks = insert v.shared.tasks FIRST_PID started }; places = insert v.places FIRST_PID (Some m); events = v.events } =
     new_is
-    ∙ ap (λ (x : Tasks). record { shared = record inside.shared { tasks = x }; places = insert inside.places FIRST_PID (Some m); events = inside.events }) put_is
-    ∙ ap (λ (x : ContainerView). record { shared = record x.shared { tasks = insert x.shared.tasks FIRST_PID (task_after_start break_start (task_in x.shared.tasks FIRST_PID)) }; places = insert x.places FIRST_PID (Some m); events = x.events }) is in
+    ∙ ap (λ (x : Tasks). record { shared = record inside.shared { fs = record inside.shared.fs { input = input }; tasks = x }; places = insert inside.places FIRST_PID (Some m); events = inside.events }) put_is
+    ∙ ap (λ (x : ContainerView). record { shared = record x.shared { fs = record x.shared.fs { input = input }; tasks = insert x.shared.tasks FIRST_PID (task_after_start break_start (task_in x.shared.tasks FIRST_PID)) }; places = insert x.places FIRST_PID (Some m); events = x.events }) is in
     record {
-      shared = subst (λ (x : ContainerView). IsSound x.shared w) (sym given) (sound-task v.shared FIRST_PID w own started sound.shared (some-task v.shared.tasks FIRST_PID there) refl refl);
+      shared = subst (λ (x : ContainerView). IsSound x.shared w) (sym given) (sound-task fed FIRST_PID w own started (sound-input v.shared input w sound.shared) (some-task v.shared.tasks FIRST_PID there) refl refl);
       paired = subst IsPaired (sym given)
           (paired-insert (insert v.shared.tasks FIRST_PID started) v.places FIRST_PID (Some m)
           (λ q some. still-insert v.shared.tasks FIRST_PID started q (sound.paired q some))

@@ -1,10 +1,10 @@
 -- What holds when a container begins.
 use Rattle.std.proofs.Common.{arith, ◌≡◌, ◌≢◌, ℕ, ◌+◌, ◌<◌, Option, None, Some, true, false, refl, sym, ap, subst, ◌∙◌}
-use Rattle.std.specs.Prelude.{List, IsSome, IfSome, is_some}
+use Rattle.std.specs.Prelude.{IsSome, IfSome, is_some}
 use Rattle.std.specs.Ordering.{nat_cmp}
 use Rattle.std.specs.Cmp.{nat_cmp_total}
 use Rattle.std.specs.FinMap.{get, insert, empty, get-empty, same_map, nat_cmp-IsAntisymmetric}
-use Rattle.dt_base.specs.declared.image.Entry.{Entry}
+use Rattle.dt_base.specs.Image.{ImageParts}
 use Rattle.dt_fds.specs.declared.desc.Desc.{Desc}
 use Rattle.dt_fds.specs.declared.desc.DescKind.TheVariants.{Input, Stream}
 use Rattle.dt_fds.specs.Descriptions.{Descriptions, empty_descriptions, with_opened_at, with_opened_lowest, first_desc, first_files, with_slot, with_new_description, lowest_free, table_at}
@@ -76,9 +76,9 @@ directories-first n =
     omega arith
 
 -- a container begins: its process holds the root, and nothing is open that names a node
-pub sound-first : (c : SharedInCode) (old : TreeTable) (u w : World) (entries : List Entry) → Stands old u.forest → tree_of old u.forest ≡ image_tree entries → Stands c.fs.tree w.forest → tree_of c.fs.tree w.forest ≡ tree_after_hold (tree_of old u.forest) ROOT → procs.Stands c.pids w.pids
+pub sound-first : (c : SharedInCode) (old : TreeTable) (u w : World) (image : ImageParts) → Stands old u.forest → tree_of old u.forest ≡ image_tree image → Stands c.fs.tree w.forest → tree_of c.fs.tree w.forest ≡ tree_after_hold (tree_of old u.forest) ROOT → procs.Stands c.pids w.pids
     → ((n : ℕ) → descriptions_of c.fs.files.descriptors n ≡ 0) → ((v : Forest) → AllIn v c.fs.files.descriptors) → c.fs.files.descriptors ≡ first_files FIRST_PID → IsPiped c.fs.files w.pipes → c.tasks ≡ first_tasks → members_of c.pids ≡ first_members → c.pids.next ≡ FIRST_PID + 1 → IsSound c w
-sound-first c old u w entries was image stands tree pids nodes all files piped tasks members next =
+sound-first c old u w image was begun stands tree pids nodes all files piped tasks members next =
     let t = tree_of old u.forest in
     let top : IsDir t.shape ROOT = subst (IsDir t.shape) was.tree.root was.tree.shaped.root in
     let dir : IsDir (shape_of c.fs.tree w.forest) ROOT = subst (λ x. IsDir x.shape ROOT) (sym tree) (subst (λ s. IsDir s ROOT) (sym (shape-held t ROOT)) top) in
@@ -91,7 +91,7 @@ sound-first c old u w entries was image stands tree pids nodes all files piped t
       holds = λ n.
           let more = holds-held t was.tree ROOT (IsLive-IsDir t.shape ROOT top) n in
           let now = ap (λ x. holds_of x n) tree in
-          let start = ap (λ x. holds_of x n) image ∙ not_held entries n in
+          let start = ap (λ x. holds_of x n) begun ∙ not_held image.entries n in
           let dirs = ap (λ m. directories_of m n) tasks ∙ directories-first n in
           omega (arith, nodes n, one_for-swap ROOT n);
       piped = piped;

@@ -25,7 +25,7 @@ abbrev pub Tasks : Type 0
 Tasks = FinMap nat_cmp Task
 
 -- what the processes of a container share: the file tree, the open files, the pipes, the logical time, the seed's words, the
--- processes as their kin see them, zombies included, and the task of each that lives
+-- processes as their kin see them, zombies included, the task of each that lives, and the bytes of standard input
 pub record Shared : Type 0 where
   pub tree : FileTree
   pub files : Descriptions
@@ -34,6 +34,7 @@ pub record Shared : Type 0 where
   pub rand : SeededWords
   pub members : List Member
   pub tasks : Tasks
+  pub input : List ℕ
 
 -- machines by the pid of the process
 abbrev pub Machines : Type 0
@@ -94,6 +95,7 @@ first_shared t seed = record {
   rand = words_of_seed seed;
   members = first_members;
   tasks = insert empty FIRST_PID (blank_task FIRST_PID);
+  input = [];
 }
 
 -- a container whose one process has no program yet

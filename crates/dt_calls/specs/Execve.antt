@@ -1,5 +1,6 @@
 -- execve(2): the process goes on as another program.
 use Rattle.std.specs.Prelude.{ℕ, Result, Ok, Err}
+use Rattle.dt_base.specs.Profile.{has_atomics}
 use Rattle.dt_base.specs.declared.abi.TheConstants.{A0, A1, A2}
 use Rattle.dt_base.specs.declared.errno.Errno.{Errno}
 use Rattle.dt_exec.specs.declared.program.Program.{Program}
@@ -41,4 +42,4 @@ effect_of_program c p m (Ok program) = quiet_effect (with_exec c p program.break
 unfoldable pub execve_call : Shared → ℕ → Machine → Effect
 execve_call c p m =
     effect_of_program c p m (execve_program c.tree.shape (task_at c p).caller.cwd m.space
-    (register m A0) (register m A1) (register m A2) (start_bytes c.rand))
+    (register m A0) (register m A1) (register m A2) (start_bytes c.rand) (has_atomics c.tree.version))

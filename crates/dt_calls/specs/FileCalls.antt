@@ -29,13 +29,14 @@ scene_of c p m = record {
   pipes = c.pipes;
   clock = c.clock;
   rand = c.rand;
+  input = c.input;
   caller = (task_at c p).caller;
   space = m.space;
 }
 
 -- what is shared, as such a call leaves it
 abbrev pub with_scene : Shared → Scene → Shared
-with_scene c s = record c { tree = s.tree; files = s.files; pipes = s.pipes; clock = s.clock; rand = s.rand }
+with_scene c s = record c { tree = s.tree; files = s.files; pipes = s.pipes; clock = s.clock; rand = s.rand; input = s.input }
 
 -- the row of the call of a number: one on open files, one on names, one on time or random bytes, or one on paths
 unfoldable pub row_of : ℕ → List ℕ → Scene → Reply

@@ -42,6 +42,7 @@ shared_of c w = record {
   pipes = pipes_at c.fs.files w.pipes;
   clock = c.fs.clock;
   rand = c.fs.rand;
+  input = c.fs.input;
   members = members_of c.pids;
   tasks = c.tasks;
 }

@@ -6,6 +6,8 @@ use Rattle.dt_base.specs.declared.event.Event.{Event}
 use Rattle.dt_base.specs.declared.limits.TheConstants.{FIRST_PID}
 use Rattle.dt_rv64.specs.declared.machine.Machine.{Machine}
 use Rattle.dt_rv64.specs.declared.segments.Stop.{Stop}
+use Rattle.dt_rv64.specs.declared.segments.Stop.TheVariants.{Slice, Call, Counter, Fault}
+use Rattle.dt_rv64.specs.Atomics.{with_reserved}
 use Rattle.dt_calls.specs.declared.container.Served.{Served}
 use Rattle.dt_calls.specs.declared.container.Served.TheVariants.{Done, Child, LastChild, Blocked, Progress, Ended, Unsupported}
 use Rattle.dt_calls.specs.Container.{Shared, Container, Machines}
@@ -38,11 +40,21 @@ process_turn r = record {
   served = r.served;
 }
 
--- a stop of a process with this machine is served, the timers fire that are due, and then a signal is delivered to the process, if
--- one is to be
-abbrev pub effect_of_turn : Shared → ℕ → ℕ → Machine → Stop → Effect
-effect_of_turn c next p m stop =
+-- the machine whose stop is served: only a slice leaves what its load reserved
+abbrev pub machine_to_serve : Stop → Machine → Machine
+machine_to_serve Slice m = m
+machine_to_serve Call m = with_reserved None m
+machine_to_serve (Counter reg) m = with_reserved None m
+machine_to_serve (Fault signal) m = with_reserved None m
+
+-- a stop is served with this machine, the timers fire that are due, and then a signal is delivered to the process, if one is to be
+abbrev pub served_effect : Shared → ℕ → ℕ → Machine → Stop → Effect
+served_effect c next p m stop =
     effect_after_delivery (forced_signal stop) p (effect_after_timers (effect_of_stop c next p m stop))
+
+-- what a turn of a process with this machine comes to
+abbrev pub effect_of_turn : Shared → ℕ → ℕ → Machine → Stop → Effect
+effect_of_turn c next p m stop = served_effect c next p (machine_to_serve stop m) stop
 
 -- a turn of a process with this machine; a call that waits or goes on is served again
 unfoldable pub turn_of_machine : Shared → ℕ → ℕ → Stop → Machine → ProcessTurn

@@ -2,7 +2,7 @@
 ghost use Rattle.std.specs.Prelude.{◌≡◌, IsSome, IfSome, IfOk};
 ghost use Rattle.std.specs.FinMap.{get};
 ghost use Rattle.dt_rv64.specs.Segment.{segment_of};
-ghost use Rattle.dt_calls.specs.Settle.{effect_of_turn};
+ghost use Rattle.dt_calls.specs.Settle.{effect_of_turn, machine_to_serve};
 ghost use Rattle.dt_calls.specs.InCode.{machines_at_home, shared_of};
 ghost use Rattle.dt_calls.specs.AtHome.{RunsAt, HasEffectAt};
 ghost use Rattle.dt_calls.specs.Sound.{IsSound, HasEffect, left};
@@ -85,7 +85,20 @@ fn serve_in<H: Host>(
         (H.count host.old) (H.count host.new))) }
 {
     match place {
-        Some(machine) => serve_and_deliver(alloc, host, shared, vpid, machine, stop),
+        Some(machine) => {
+            drop_reserved(machine, stop);
+            serve_and_deliver(alloc, host, shared, vpid, machine, stop)
+        }
         None => unreachable!(),
+    }
+}
+
+// Drops what a load reserved, unless the stop is a slice's end.
+fn drop_reserved(machine: &mut Machine, stop: Stop)
+    ensures { machine.new ≡ machine_to_serve stop machine.old }
+{
+    match stop {
+        Stop::Slice => {}
+        Stop::Call | Stop::Counter(_) | Stop::Fault(_) => machine.unreserve(),
     }
 }

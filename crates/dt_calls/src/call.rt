@@ -3,7 +3,7 @@ ghost use Rattle.std.specs.Prelude.{IsSome};
 ghost use Rattle.std.specs.FinMap.{get};
 ghost use Rattle.dt_rv64.specs.Effects.{register};
 ghost use Rattle.dt_calls.specs.Call.{effect_of_stop, call_of, memory_call, identity_call, signal_call};
-ghost use Rattle.dt_calls.specs.Settle.{effect_of_turn};
+ghost use Rattle.dt_calls.specs.Settle.{served_effect};
 ghost use Rattle.dt_calls.specs.InCode.{shared_of};
 ghost use Rattle.dt_calls.specs.LateCalls.{late_call};
 ghost use Rattle.dt_calls.specs.Timers.{effect_after_timers};
@@ -53,7 +53,7 @@ pub fn serve_and_deliver<H: Host>(
     requires sound { IsSound shared.old (H.view host.old) }
     requires lives { IsSome (get shared.old.tasks vpid) }
     ensures { HasEffect vpid
-        (effect_of_turn (shared_of shared.old (H.view host.old)) shared.old.pids.next vpid machine.old stop)
+        (served_effect (shared_of shared.old (H.view host.old)) shared.old.pids.next vpid machine.old stop)
         shared.old (left shared.new (H.view host.new) machine.new) result
         (H.count host.old) (H.count host.new) }
 {

@@ -18,7 +18,7 @@ ghost use Rattle.dt_calls.specs.Timers.{earliest_in};
 use crate::at_home::{run_at, serve_at};
 use crate::shared::Shared;
 use crate::task::start_task;
-use dt_base::{Command, End, Errno, Event, FIRST_PID, Image, NoMemory};
+use dt_base::{Command, End, Errno, Event, FIRST_PID, Image, NoMemory, has_atomics};
 use dt_exec::start_program;
 use dt_host::{Host, HostErr};
 use dt_rv64::{Hints, Machine, Seg, Stop};
@@ -122,8 +122,11 @@ impl Container {
         ensures sound { IfOk result (λ _. IsSoundContainer self.new (H.view host.new)) }
         ensures cause { HasCause (H.count host.old) (H.count host.new) (IsErrOf result HostErr.Failed) }
     {
-        let random = self.shared.fs.rand.start16();
-        match start_program(self.alloc, host, &self.shared.fs.tree, command, &random)? {
+        let fs = &mut self.shared.fs;
+        fs.input = command.input().copy()?;
+        let random = fs.rand.start16();
+        let atomics = has_atomics(fs.tree.version());
+        match start_program(self.alloc, host, &fs.tree, command, &random, atomics)? {
             Ok(program) => {
                 start_task(&mut self.shared.tasks, FIRST_PID, program.break_start);
                 self.give_machine(FIRST_PID, program.machine);

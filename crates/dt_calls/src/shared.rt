@@ -1,11 +1,11 @@
 // What the processes of a container share, and the task of each.
-ghost use Rattle.std.specs.Prelude.{◌≡◌, ◌+◌, ◌≤◌, List, IsSome, IfOk, OnOk, IsErrOf};
+ghost use Rattle.std.specs.Prelude.{◌≡◌, ◌+◌, ◌≤◌, IsSome, IfOk, OnOk, IsErrOf};
 ghost use Rattle.std.specs.FinMap.{empty, get};
 ghost use Rattle.std.specs.FinSet as pid_set;
 ghost use Rattle.dt_host.specs.Cause.{HasCause};
 ghost use Rattle.dt_host.specs.World.{IsEmptyStart};
 ghost use Rattle.dt_base.specs.declared.abi.TheConstants.{SIGNAL_LIMIT};
-ghost use Rattle.dt_base.specs.declared.image.Entry.{Entry};
+ghost use Rattle.dt_base.specs.Image.{ImageParts};
 ghost use Rattle.dt_tree.specs.ImageTree.{image_tree};
 ghost use Rattle.dt_tree.specs.Table.{Stands, tree_of};
 ghost use Rattle.dt_calls.specs.Container.{first_shared, task_in, tasks_after_raise};
@@ -13,7 +13,7 @@ ghost use Rattle.dt_calls.specs.InCode.{shared_of};
 ghost use Rattle.dt_calls.specs.Sound.{IsSound, ChangesTasks};
 
 use crate::task::{Task, raise_at};
-use dt_base::FIRST_PID;
+use dt_base::{Blob, FIRST_PID};
 use dt_callbase::Fs;
 use dt_fds::Files;
 use dt_host::{Host, HostErr};
@@ -34,7 +34,7 @@ pub struct Shared {
 
 impl Shared {
     /// What the first process finds on an image's tree, whose root is its working directory: the input and the output
-    /// streams are open, the time is 0, and the words are those of a seed.
+    /// streams are open, the input is empty, the time is 0, and the words are those of a seed.
     pub fn new<H: Host>(
         alloc: Global,
         host: &mut H,
@@ -42,7 +42,7 @@ impl Shared {
         seed: u64,
     ) -> Result<Self, HostErr>
         requires stands { Stands tree (H.view host.old).forest }
-        requires image { (entries : List Entry) × (tree_of tree (H.view host.old).forest ≡ image_tree entries) }
+        requires image { (image : ImageParts) × (tree_of tree (H.view host.old).forest ≡ image_tree image) }
         requires no_pids { (H.view host.old).pids ≡ pid_set.empty }
         requires no_pipes { (H.view host.old).pipes ≡ empty }
         ensures ok { IfOk result (λ c. shared_of c (H.view host.new)
@@ -62,6 +62,7 @@ impl Shared {
                 files: Files::first(alloc, FIRST_PID)?,
                 clock: Clock::new(),
                 rand: Rand::new(seed),
+                input: Blob::new(Vec::new(alloc)),
             },
             pids,
             tasks,

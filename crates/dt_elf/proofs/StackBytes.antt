@@ -1,5 +1,5 @@
 -- The byte at an address of pages that follow one another, and so at an address of the first machine's stack.
-use Rattle.std.proofs.Common.{◌≡◌, ℕ, zero, suc, ◌+◌, ◌-◌, ◌*◌, ◌/◌, ◌%◌, ◌<◌, ◌≤◌, List, [], ◌∷◌, ◌++◌, length, get_or, take, drop, replicate, Some, true, inl, inr, refl, sym, ap, ◌∙◌, length-append, append_assoc, arith}
+use Rattle.std.proofs.Common.{◌≡◌, ℕ, zero, suc, ◌+◌, ◌-◌, ◌*◌, ◌/◌, ◌%◌, ◌<◌, ◌≤◌, Bool, List, [], ◌∷◌, ◌++◌, length, get_or, take, drop, replicate, Some, true, inl, inr, refl, sym, ap, ◌∙◌, length-append, append_assoc, arith}
 use Rattle.std.specs.Prelude.{slice_get}
 use Rattle.std.proofs.lemmas.List.{drop-drop, get_or-take, get_or-drop, get_or_append_left, get_or-append_right, get_or-replicate, get_or_past, length-replicate, length-take}
 use Rattle.std.proofs.lemmas.List.Elements.{All-tail}
@@ -63,8 +63,8 @@ byte-pages_from before after first rights right contents count address below giv
     ap (byte_of right (address % PAGE_SIZE)) page ∙ rw given (byte-zero_padded piece (address % PAGE_SIZE) (omega (arith, length-take PAGE_SIZE (drop (PAGE_SIZE * k) contents))) (omega arith)) ∙ ap Some byte
 
 -- the byte at an address of the first machine's stack is that of the stack's contents, or 0 past the end of these
-pub stack-byte : (program : Executable) (bytes : List ℕ) (given : Invocation) (address : ℕ) → STACK_START ≤ address → address < STACK_TOP → byte_at (first_machine program bytes given).space READ address ≡ Some (get_or (stack_contents program (e_phnum bytes) given) (address - STACK_START) 0)
-stack-byte program bytes given address low high =
+pub stack-byte : (program : Executable) (bytes : List ℕ) (given : Invocation) (atomics : Bool) (address : ℕ) → STACK_START ≤ address → address < STACK_TOP → byte_at (first_machine program bytes given atomics).space READ address ≡ Some (get_or (stack_contents program (e_phnum bytes) given) (address - STACK_START) 0)
+stack-byte program bytes given atomics address low high =
     let ends : EndsBelow (segment_pages program.segments bytes) SEGMENT_PAGES_END = pages-ends program.segments bytes (segment_pages program.segments bytes) SEGMENT_PAGES_END refl in
     let below : EndsBelow (segment_pages program.segments bytes) (STACK_START / PAGE_SIZE) = λ i d within. omega (arith, ends i d within) in
     byte-pages_from (segment_pages program.segments bytes) trampoline_pages (STACK_START / PAGE_SIZE) (granted_rights (READ + WRITE)) READ (stack_contents program (e_phnum bytes) given) STACK_PAGES address below refl low high

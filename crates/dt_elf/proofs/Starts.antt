@@ -1,5 +1,5 @@
 -- What the first machine keeps.
-use Rattle.std.proofs.Common.{◌≡◌, ℕ, zero, suc, ◌+◌, ◌<◌, ◌≤◌, ◌^◌, List, ◌++◌, length, get_or, replicate, sym, subst, ap, set, refl, ◌∙◌, length-append, arith, lit<}
+use Rattle.std.proofs.Common.{◌≡◌, ℕ, zero, suc, ◌+◌, ◌<◌, ◌≤◌, ◌^◌, Bool, None, List, ◌++◌, length, get_or, replicate, sym, subst, ap, set, refl, ◌∙◌, length-append, arith, lit<}
 use Rattle.dt_base.specs.declared.abi.TheConstants.{SP}
 use Rattle.dt_rv64.specs.Valid.{IsMachine}
 use Rattle.dt_rv64.proofs.Kept.{words-set}
@@ -24,11 +24,12 @@ zeros (suc n) zero = lit< tt
 zeros (suc n) (suc i) = zeros n i
 
 -- a machine that starts with a stack pointer is one
-pub is_machine : (pointer entry : ℕ) (space : List PageView) → pointer < 2 ^ 64 → entry < 2 ^ 64 → IsSpace space → IsMachine (record { regs = set (replicate 32 0) SP pointer; pc = entry; space = space })
-is_machine pointer entry space low fits sound = record {
+pub is_machine : (pointer entry : ℕ) (space : List PageView) (atomics : Bool) → pointer < 2 ^ 64 → entry < 2 ^ 64 → IsSpace space → IsMachine (record { regs = set (replicate 32 0) SP pointer; pc = entry; space = space; reserved = None; atomics = atomics })
+is_machine pointer entry space atomics low fits sound = record {
   registers = refl;
   words = λ i. words-set (replicate 32 0) SP pointer i (zeros 32) low;
   zero = refl;
   counter = fits;
   space = sound;
+  pair = tt;
 }

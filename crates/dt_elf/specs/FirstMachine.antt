@@ -24,12 +24,14 @@ stack_pages program bytes given =
 abbrev pub trampoline_pages : List PageView
 trampoline_pages = pages_from (TRAMPOLINE / PAGE_SIZE) (granted_rights (READ + EXECUTE)) TRAMPOLINE_CODE 1
 
--- the first machine: the stack pointer, and all other registers 0
-abbrev pub first_machine : Executable → List ℕ → Invocation → Machine
-first_machine program bytes given = record {
+-- the first machine, with atomics or without: the stack pointer, and all other registers 0
+abbrev pub first_machine : Executable → List ℕ → Invocation → Bool → Machine
+first_machine program bytes given atomics = record {
   regs = slice_set (replicate 32 0) SP (stack_pointer program (e_phnum bytes) given);
   pc = program.entry;
   space = segment_pages program.segments bytes ++ stack_pages program bytes given ++ trampoline_pages;
+  reserved = None;
+  atomics = atomics;
 }
 
 -- the words or the pages pass their limit
@@ -39,5 +41,6 @@ is_too_big program words =
     || nat_lt PAGE_LIMIT (length (page_numbers program.segments) + STACK_PAGES + 1)
 
 -- the machine that starts an executable, where nothing passes its limit
-abbrev pub first : Executable → List ℕ → Invocation → Option Machine
-first program bytes given = if is_too_big program given.words then None else Some (first_machine program bytes given)
+abbrev pub first : Executable → List ℕ → Invocation → Bool → Option Machine
+first program bytes given atomics =
+    if is_too_big program given.words then None else Some (first_machine program bytes given atomics)

@@ -42,7 +42,8 @@ impl From<NoMemory> for StartErr {
 }
 
 /// The machine that starts the executable of a file with a command's words, the path that it is executed by, of at
-/// most 4,095 bytes, and 16 random bytes. `TooBig` comes exactly where the words or the pages pass their limit.
+/// most 4,095 bytes, 16 random bytes, and whether it has atomics. `TooBig` comes exactly where the words or the pages
+/// pass their limit.
 pub fn start(
     alloc: Global,
     elf: &Elf,
@@ -50,19 +51,21 @@ pub fn start(
     command: &Command,
     execfn: &[u8],
     random: &[u8; 16],
+    atomics: bool,
 ) -> Result<Machine, StartErr>
     requires read { exe bytes.now ≡ Ok (executable elf.now) }
     requires short { length execfn.now ≤ PATH_LIMIT }
     ensures machine { IfOk result (λ machine.
-        first (executable elf.now) bytes.now (invocation command.now execfn.now random.now) ≡ Some machine) }
+        first (executable elf.now) bytes.now (invocation command.now execfn.now random.now) atomics
+        ≡ Some machine) }
     ensures sound { IfOk result IsMachine }
     ensures too_big { (result ≡ Err StartErr.TooBig)
-        ↔ (first (executable elf.now) bytes.now (invocation command.now execfn.now random.now) ≡ None) }
+        ↔ (first (executable elf.now) bytes.now (invocation command.now execfn.now random.now) atomics ≡ None) }
 {
     if is_too_big(elf, command) {
         return Err(StartErr::TooBig);
     }
-    Ok(make_machine(alloc, elf, bytes, command, execfn, random)?)
+    Ok(make_machine(alloc, elf, bytes, command, execfn, random, atomics)?)
 }
 
 // Whether the words or the pages pass their limit.
@@ -81,13 +84,14 @@ fn make_machine(
     command: &Command,
     execfn: &[u8],
     random: &[u8; 16],
+    atomics: bool,
 ) -> Result<Machine, NoMemory>
     requires placed { ArePlaced bytes.now elf.now.segments.items }
     requires entry { elf.now.entry < 2 ^ 64 }
     requires short { length execfn.now ≤ PATH_LIMIT }
     requires few { is_too_big (executable elf.now) command.now ≡ false }
     ensures machine { IfOk result (λ machine. machine
-        ≡ first_machine (executable elf.now) bytes.now (invocation command.now execfn.now random.now)) }
+        ≡ first_machine (executable elf.now) bytes.now (invocation command.now execfn.now random.now) atomics) }
     ensures sound { IfOk result IsMachine }
 {
     let segments = load(alloc, &elf.segments, bytes)?;
@@ -99,6 +103,8 @@ fn make_machine(
         regs,
         pc: elf.entry,
         space,
+        reserved: None,
+        atomics,
     })
 }
 

@@ -1,10 +1,10 @@
 -- A run in play before its first turn.
-use Rattle.std.proofs.Common.{◌≡◌, ℕ, List, [], Some, refl, sym, ap, subst, ◌∙◌}
+use Rattle.std.proofs.Common.{◌≡◌, ℕ, [], Some, refl, sym, ap, subst, ◌∙◌}
 use Rattle.std.specs.FinMap.{empty}
 use Rattle.dt_base.specs.declared.errno.Errno.{Errno}
 use Rattle.dt_base.specs.declared.event.Verdict.{Verdict}
 use Rattle.dt_base.specs.declared.event.Verdict.TheVariants as verdict
-use Rattle.dt_base.specs.declared.image.Entry.{Entry}
+use Rattle.dt_base.specs.Image.{ImageParts}
 use Rattle.dt_base.specs.Command.{Words}
 use Rattle.dt_host.specs.World.{World}
 use Rattle.dt_sched.specs.Core.{over_core}
@@ -21,7 +21,7 @@ use Rattle.dt_engine.specs.inner.InCode.{Stops, phase_in, state_of}
 use Rattle.dt_engine.proofs.Works.{works_in-owing}
 
 -- a run before its first turn, by what its parts gave
-pub begun : (c : Container) (image : List Entry) (words : Words) (seed budget : ℕ) (l : ContainerLaunch) (e : Playing)
+pub begun : (c : Container) (image : ImageParts) (words : Words) (seed budget : ℕ) (l : ContainerLaunch) (e : Playing)
     → c ≡ first_container (image_tree image) seed → launch c words ≡ l → playing_from budget l.container l.launch ≡ e
     → first_playing image words seed budget ≡ e
 unfolding first_playing

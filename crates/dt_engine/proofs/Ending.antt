@@ -16,7 +16,7 @@ use Rattle.dt_sched.specs.Core.{first_core, owing_process}
 use Rattle.dt_calls.specs.Container.{Container}
 use Rattle.dt_calls.specs.InCode.{ContainerView, container_of, machines_at_home, container_launch_as}
 use Rattle.dt_calls.specs.Launch as calls
-use Rattle.dt_calls.specs.Launch.{ContainerLaunch, launch}
+use Rattle.dt_calls.specs.Launch.{ContainerLaunch, launch, with_input}
 use Rattle.dt_calls.specs.Sound.{IsSoundContainer}
 use Rattle.dt_calls.specs.declared.container.Launch.{Launch}
 use Rattle.dt_calls.specs.declared.container.Launch.TheVariants.{Started}
@@ -74,4 +74,4 @@ started-home c (Ok program) l is started =
 pub launched-home : (c : Container) (words : Words) (new : ContainerView) (w : World) (l : Launch)
     → launch c words ≡ container_launch_as (container_of new w) l → l ≡ Started → IsSome (get (machines_at_home new.places) FIRST_PID)
 unfolding launch
-launched-home c words new w l is started = started-home c _ (container_launch_as (container_of new w) l) is started
+launched-home c words new w l is started = started-home (record c { shared = with_input words.input c.shared }) _ (container_launch_as (container_of new w) l) is started

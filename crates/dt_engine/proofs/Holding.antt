@@ -2,13 +2,14 @@
 use Rattle.std.proofs.Common.{◌≡◌, ℕ, List, [], ◌∷◌, Option, Some, None, refl, sym, ap, subst, ◌∙◌}
 use Rattle.std.specs.Prelude.{IsSome, option_map, option_and_then, unwrap_or}
 use Rattle.std.specs.FinMap.{get}
-use Rattle.dt_host.specs.World.{World, Forest, Node, file, dir, link, node_at, entry}
+use Rattle.dt_host.specs.World.{World, Forest, Node, file, dir, link, device, node_at, entry}
 use Rattle.dt_tree.specs.declared.inode.Inode.{Inode}
 use Rattle.dt_tree.specs.declared.limits.TheConstants.{ROOT}
 use Rattle.dt_tree.specs.Table.{Table, vino_of, real_of, renumbered_node, shape_of, tree_of, IsPairing, Stands}
 use Rattle.dt_tree.proofs.Mirroring.{node_at-inode, entry-inode, has_number}
 use Rattle.dt_image.specs.Paths.{node_from, node_from_root}
-use Rattle.dt_engine.specs.HoldsTree.{what_of, HoldsTree}
+use Rattle.dt_tree.specs.ImageTree.{what_of}
+use Rattle.dt_engine.specs.HoldsTree.{HoldsTree}
 
 -- a number of the host, if there is one, is for that inode, if there is one
 abbrev Pair : Table → Option ℕ → Option ℕ → Type 0
@@ -27,6 +28,7 @@ what-renumbered f None = refl
 what-renumbered f (Some (file bytes)) = refl
 what-renumbered f (Some (dir names)) = refl
 what-renumbered f (Some (link target)) = refl
+what-renumbered f (Some (device which)) = refl
 
 module _ (t : Table) (v : Forest) (s : IsPairing t v) where
   inode-at : (real n : ℕ) → get t.by_real real ≡ Some n → (inode : Inode) × (get t.inodes n ≡ Some inode) × (inode.real ≡ real)

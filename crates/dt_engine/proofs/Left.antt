@@ -23,7 +23,7 @@ use Rattle.dt_engine.proofs.Numbers.{turn-apart, turn-later}
 use Rattle.dt_engine.proofs.Going.{left-alike, admission-goes, none-away}
 
 pub report-by-parts : ReportByParts
-report-by-parts r = refl
+report-by-parts version r = refl
 
 pub admission-leaves : AdmissionLeaves
 admission-leaves ws e away = admission-goes e ws away

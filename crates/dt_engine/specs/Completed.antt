@@ -10,9 +10,9 @@ pub record Written : Type 0 where
   pub run : Run
   pub text : List ℕ
 
--- a run with its report
-abbrev pub reported : Run → Written
-reported run = record { run = run; text = report_of run }
+-- a run on an image of that version, with its report
+abbrev pub reported : ℕ → Run → Written
+reported version run = record { run = run; text = report_of version run }
 
 -- a run was completed: its status is the answer, what is written of it was added, and the host holds its last tree
 pub record Finishes (written : Written) (answer : ℕ) (old new : Option (List ℕ)) (w : World) : Type 0 where
@@ -21,5 +21,5 @@ pub record Finishes (written : Written) (answer : ℕ) (old new : Option (List �
   pub tree : HoldsTree w written.run.last.tree
 
 -- likewise, and what was added is its report
-abbrev pub Completes : Run → ℕ → Option (List ℕ) → Option (List ℕ) → World → Type 0
-Completes run = Finishes (reported run)
+abbrev pub Completes : ℕ → Run → ℕ → Option (List ℕ) → Option (List ℕ) → World → Type 0
+Completes version run = Finishes (reported version run)

@@ -1,16 +1,10 @@
 -- How a host holds a file tree: read by names from their roots, both are the same.
 use Rattle.std.specs.Prelude.{◌≡◌, ℕ, List, Option, option_map, option_and_then}
 use Rattle.dt_base.specs.declared.image.What.{What}
-use Rattle.dt_base.specs.declared.image.What.TheVariants.{File, Dir, Link}
-use Rattle.dt_host.specs.World.{World, Forest, Node, file, dir, link, node_at}
+use Rattle.dt_host.specs.World.{World, Forest, node_at}
 use Rattle.dt_tree.specs.FileTree.{FileTree}
+use Rattle.dt_tree.specs.ImageTree.{what_of}
 use Rattle.dt_image.specs.Paths.{node_from_root}
-
--- what a node shows: a file its bytes, a link its target, and a directory that it is one
-abbrev pub what_of : Node → What
-what_of (file bytes) = File bytes
-what_of (dir names) = Dir
-what_of (link target) = Link target
 
 -- what the node that names lead to shows
 abbrev pub shown_at : Forest → List (List ℕ) → Option What

@@ -19,7 +19,7 @@ use Rattle.dt_engine.specs.Played.{played}
 
 -- a report is its first line, what the run shows, and its end
 abbrev pub ReportByParts : Type 0
-ReportByParts = (r : Run) → report_of r ≡ header ++ (events_text r.events ++ last_text r.verdict r.last)
+ReportByParts = (version : ℕ) (r : Run) → report_of version r ≡ header version ++ (events_text r.events ++ last_text r.verdict r.last)
 
 -- what happenings show, and what is left after them, was left before
 abbrev pub HappeningsLeave : Type 0

@@ -2,7 +2,7 @@
 use Rattle.std.specs.Prelude.{◌≡◌, ℕ, List, [], ◌++◌, Option, Some, None}
 use Rattle.dt_base.specs.declared.event.Verdict.{Verdict}
 use Rattle.dt_base.specs.declared.event.Verdict.TheVariants as verdict
-use Rattle.dt_base.specs.declared.image.Entry.{Entry}
+use Rattle.dt_base.specs.Image.{ImageParts}
 use Rattle.dt_base.specs.Command.{Words}
 use Rattle.dt_tree.specs.ImageTree.{image_tree}
 use Rattle.dt_calls.specs.declared.container.Launch.{Launch}
@@ -42,8 +42,8 @@ abbrev pub playing_in : ℕ → Container → Words → Playing
 playing_in budget c words = let l = launch c words in playing_from budget l.container l.launch
 
 -- the run of a command on an image, before its first turn
-unfoldable pub first_playing : List Entry → Words → ℕ → ℕ → Playing
-first_playing entries words seed budget = playing_in budget (first_container (image_tree entries) seed) words
+unfoldable pub first_playing : ImageParts → Words → ℕ → ℕ → Playing
+first_playing image words seed budget = playing_in budget (first_container (image_tree image) seed) words
 
 -- what is left of a run in play: its turns, or nothing where a verdict stands
 abbrev pub rest_of : State → Option Verdict → Run
@@ -53,8 +53,8 @@ rest_of s (Some verdict) = record { events = []; verdict = verdict; last = s.sha
 -- all that is left before the first turn is the run
 abbrev pub RestAtFirst : Type 0
 RestAtFirst =
-    (entries : List Entry) (words : Words) (seed budget : ℕ)
-    → let e = first_playing entries words seed budget in rest_of e.state e.verdict ≡ run_of entries words seed budget
+    (image : ImageParts) (words : Words) (seed budget : ℕ)
+    → let e = first_playing image words seed budget in rest_of e.state e.verdict ≡ run_of image words seed budget
 
 -- what a report says last: the verdict, and the tree
 abbrev pub last_text : Verdict → Shared → List ℕ

@@ -1,6 +1,6 @@
 -- A whole run: a function of the image, the command, the seed and the budget.
 use Rattle.std.specs.Prelude.{◌≡◌, ℕ, zero, suc, ◌+◌, ◌==◌, List, [], ◌∷◌, ◌++◌, Option, Some, None, if◌then◌else◌}
-use Rattle.dt_base.specs.declared.image.Entry.{Entry}
+use Rattle.dt_base.specs.Image.{ImageParts}
 use Rattle.dt_base.specs.declared.event.End.{End}
 use Rattle.dt_base.specs.declared.event.End.TheVariants.{Code, Signal}
 use Rattle.dt_base.specs.declared.event.Event.{Event}
@@ -67,8 +67,8 @@ abbrev pub run_in : ℕ → Container → Words → Run
 run_in budget c words = let l = launch c words in run_from budget l.container l.launch
 
 -- the run of a command on an image
-unfoldable pub run_of : List Entry → Words → ℕ → ℕ → Run
-run_of entries words seed budget = run_in budget (first_container (image_tree entries) seed) words
+unfoldable pub run_of : ImageParts → Words → ℕ → ℕ → Run
+run_of image words seed budget = run_in budget (first_container (image_tree image) seed) words
 
 -- the status of a run whose first process ended so
 abbrev pub end_status : End → ℕ
@@ -84,6 +84,6 @@ status_by (Some end) = end_status end
 abbrev pub status_of_run : Run → ℕ
 status_of_run run = status_by (end_of run.last.members FIRST_PID)
 
--- the report of a run
-abbrev pub report_of : Run → List ℕ
-report_of run = report run.events run.verdict run.last.tree
+-- the report of a run on an image of that version
+abbrev pub report_of : ℕ → Run → List ℕ
+report_of version run = report version run.events run.verdict run.last.tree

@@ -50,12 +50,13 @@ pub fn run_to_end<
     requires budget { (1 ≤ budget) × (budget ≤ 1000000000) }
     requires workers { (1 ≤ workers) × (workers ≤ 64) }
 
-    ensures completed { IfOk result (λ ended. Completes (run_of image.now command.now seed budget) ended.status
+    ensures completed { IfOk result (λ ended. Completes image.now.version (run_of image.now command.now seed budget) ended.status
         (O.told out.old) (O.told out.new) (H.view host.new)) }
     ensures left { IfOk result (λ ended. let run = run_of image.now command.now seed budget in
         run.last ≡ shared_of ended.container.shared (H.view host.new)) }
     ensures sound { IfOk result (λ ended. IsSoundContainer ended.container (H.view host.new)) }
-    ensures part { AddsPart (O.told out.old) (O.told out.new) (report_of (run_of image.now command.now seed budget)) }
+    ensures part { AddsPart (O.told out.old) (O.told out.new)
+        (report_of image.now.version (run_of image.now command.now seed budget)) }
     ensures host { HasCause (H.count host.old) (H.count host.new) (IsErrOf result RunErr.Host) }
     ensures sink { HasCause (O.count out.old) (O.count out.new) (IsErrOf result RunErr.Sink) }
 {

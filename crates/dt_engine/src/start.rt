@@ -63,8 +63,8 @@ impl Engine {
         requires { IsEmptyStart (H.view host.old) }
         ensures run { IfOk result
             (λ e. first_playing image.now command.now seed budget ≡ playing_of e (H.view host.new)) }
-        ensures wrote { OnOk result (O.told out.new ≡ added (O.told out.old) header) }
-        ensures part { AddsPart (O.told out.old) (O.told out.new) header }
+        ensures wrote { OnOk result (O.told out.new ≡ added (O.told out.old) (header image.now.version)) }
+        ensures part { AddsPart (O.told out.old) (O.told out.new) (header image.now.version) }
         ensures whole { IfOk result (λ e. IsInPlay e) }
         ensures sound { IfOk result (λ e. IsSoundContainer e.state.container (H.view host.new)) }
         ensures full { IfOk result (λ e. let begun = playing_of e (H.view host.new) in IsFull begun.state) }
@@ -74,7 +74,8 @@ impl Engine {
     {
         let _before = out.faults();
         let engine = Engine::start(alloc, host, image, command, seed, budget)?;
-        sink_all(out, header())?;
+        let first = header(alloc, image.version())?;
+        sink_all(out, first.as_slice())?;
         Ok(engine)
     }
 

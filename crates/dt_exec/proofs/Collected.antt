@@ -127,7 +127,7 @@ unfolding words_size
 size-one_at_least [] = omega arith
 size-one_at_least (word ∷ words) = omega arith
 
-too_many : (args env : List (List ℕ)) → ARGUMENT_LIMIT < words_size args + words_size env → Err TooBig ≡ within_limit (record { args = args; env = env })
+too_many : (args env : List (List ℕ)) → ARGUMENT_LIMIT < words_size args + words_size env → Err TooBig ≡ within_limit (record { args = args; env = env; input = [] })
 too_many args env many = let long : nat_lt ARGUMENT_LIMIT (words_size args + words_size env) ≡ true = grind (arith, nat_tests) in rw long refl
 
 -- either list alone may be past the limit

@@ -52,7 +52,7 @@ within_limit words =
 abbrev pub command_of : Result (List (List ℕ)) Errno → Result (List (List ℕ)) Errno → Result Words Errno
 command_of (Err errno) env = Err errno
 command_of (Ok args) (Err errno) = Err errno
-command_of (Ok args) (Ok env) = within_limit (record { args = one_at_least args; env = env })
+command_of (Ok args) (Ok env) = within_limit (record { args = one_at_least args; env = env; input = [] })
 
 -- the words that execve is handed
 unfoldable pub command_argument : List PageView → ℕ → ℕ → Result Words Errno

@@ -1,5 +1,5 @@
 -- The program that an execution starts (execve(2)).
-use Rattle.std.specs.Prelude.{ℕ, ◌+◌, ◌==◌, List, [], ◌∷◌, length, nat_lt, Option, Some, None, Result, Ok, Err, if◌then◌else◌}
+use Rattle.std.specs.Prelude.{ℕ, ◌+◌, ◌==◌, List, [], ◌∷◌, length, nat_lt, Bool, Option, Some, None, Result, Ok, Err, if◌then◌else◌}
 use Rattle.dt_base.specs.declared.errno.Errno.{Errno}
 use Rattle.dt_base.specs.declared.errno.Errno.TheVariants.{NoEnt, TooBig, NoExec, Acces, NameTooLong}
 use Rattle.dt_base.specs.declared.limits.TheConstants.{PATH_LIMIT, ARGUMENT_LIMIT}
@@ -25,14 +25,14 @@ abbrev pub within_limits : Executable → Option Machine → Result Program Errn
 within_limits program None = Err TooBig
 within_limits program (Some m) = Ok (record { machine = m; break_start = program_break program })
 
--- the program of a file that was read as an executable
-abbrev pub program_of_elf : Invocation → List ℕ → Result Executable ElfErr → Result Program Errno
-program_of_elf given bytes (Err e) = Err NoExec
-program_of_elf given bytes (Ok program) = within_limits program (first program bytes given)
+-- the program of a file that was read as an executable, on a machine with atomics or without, as here in all
+abbrev pub program_of_elf : Invocation → List ℕ → Result Executable ElfErr → Bool → Result Program Errno
+program_of_elf given bytes (Err e) atomics = Err NoExec
+program_of_elf given bytes (Ok program) atomics = within_limits program (first program bytes given atomics)
 
 -- the program of an executable's bytes: its first machine, and where its break starts
-unfoldable pub program_of : Invocation → List ℕ → Result Program Errno
-program_of given bytes = program_of_elf given bytes (exe bytes)
+unfoldable pub program_of : Invocation → List ℕ → Bool → Result Program Errno
+program_of given bytes atomics = program_of_elf given bytes (exe bytes) atomics
 
 -- the bytes of a file, and of nothing else
 abbrev pub file_or_errno : Option (List ℕ) → Result (List ℕ) Errno
@@ -50,30 +50,31 @@ unfoldable pub file_by_path : Forest → ℕ → List ℕ → Result (List ℕ) 
 file_by_path v cwd path = file_reached v (lookup v cwd path)
 
 -- an interpreter's program: it is no script itself
-abbrev pub program_of_interpreter : Invocation → Result (List ℕ) Errno → Result Program Errno
-program_of_interpreter given (Err errno) = Err errno
-program_of_interpreter given (Ok bytes) = if is_script bytes then Err NoExec else program_of given bytes
+abbrev pub program_of_interpreter : Invocation → Result (List ℕ) Errno → Bool → Result Program Errno
+program_of_interpreter given (Err errno) atomics = Err errno
+program_of_interpreter given (Ok bytes) atomics = if is_script bytes then Err NoExec else program_of given bytes atomics
 
--- what a script's interpreter is executed with: other arguments, the same environment and EXECFN
+-- what a script's interpreter is executed with: other arguments, the same environment and EXECFN, and no input, which no
+-- machine shows
 abbrev pub script_invocation : Invocation → Script → Invocation
 script_invocation given script =
-    record given { words = record given.words { args = script_args script given.execfn given.words.args } }
+    record given { words = record given.words { args = script_args script given.execfn given.words.args; input = [] } }
 
 -- a script's program, which is its interpreter's
-abbrev pub program_of_script : Forest → ℕ → Invocation → Option Script → Result Program Errno
-program_of_script v cwd given None = Err NoExec
-program_of_script v cwd given (Some script) =
-    program_of_interpreter (script_invocation given script) (file_by_path v cwd script.interpreter)
+abbrev pub program_of_script : Forest → ℕ → Invocation → Option Script → Bool → Result Program Errno
+program_of_script v cwd given None atomics = Err NoExec
+program_of_script v cwd given (Some script) atomics =
+    program_of_interpreter (script_invocation given script) (file_by_path v cwd script.interpreter) atomics
 
 -- the program of a file's bytes, which are a script or an executable
-abbrev pub program_of_file : Forest → ℕ → Invocation → Result (List ℕ) Errno → Result Program Errno
-program_of_file v cwd given (Err errno) = Err errno
-program_of_file v cwd given (Ok bytes) =
-    if is_script bytes then program_of_script v cwd given (script_of bytes) else program_of given bytes
+abbrev pub program_of_file : Forest → ℕ → Invocation → Result (List ℕ) Errno → Bool → Result Program Errno
+program_of_file v cwd given (Err errno) atomics = Err errno
+program_of_file v cwd given (Ok bytes) atomics =
+    if is_script bytes then program_of_script v cwd given (script_of bytes) atomics else program_of given bytes atomics
 
 -- the program at a path, looked up from a directory
-unfoldable pub program_at : Forest → ℕ → Invocation → Result Program Errno
-program_at v cwd given = program_of_file v cwd given (file_by_path v cwd given.execfn)
+unfoldable pub program_at : Forest → ℕ → Invocation → Bool → Result Program Errno
+program_at v cwd given atomics = program_of_file v cwd given (file_by_path v cwd given.execfn) atomics
 
 -- argv[0], which is the path of the first program
 abbrev pub argv0 : List (List ℕ) → List ℕ
@@ -81,20 +82,20 @@ argv0 [] = []
 argv0 (path ∷ rest) = path
 
 -- the program of a command, whose path of 1 to 4,095 bytes is looked up from the root
-unfoldable pub start_program : Forest → Words → List ℕ → Result Program Errno
-start_program v words random =
+unfoldable pub start_program : Forest → Words → List ℕ → Bool → Result Program Errno
+start_program v words random atomics =
     if length (argv0 words.args) == 0 then Err NoEnt
     else if nat_lt PATH_LIMIT (length (argv0 words.args)) then Err NameTooLong
     else if nat_lt ARGUMENT_LIMIT (words_size words.args + words_size words.env) then Err TooBig
-    else program_at v ROOT (invocation words (argv0 words.args) random)
+    else program_at v ROOT (invocation words (argv0 words.args) random) atomics
 
 -- the program of a path and words that were read
-abbrev pub program_with : Forest → ℕ → List ℕ → Result (List ℕ) Errno → Result Words Errno → Result Program Errno
-program_with v cwd random (Err errno) words = Err errno
-program_with v cwd random (Ok path) (Err errno) = Err errno
-program_with v cwd random (Ok path) (Ok words) = program_at v cwd (invocation words path random)
+abbrev pub program_with : Forest → ℕ → List ℕ → Result (List ℕ) Errno → Result Words Errno → Bool → Result Program Errno
+program_with v cwd random (Err errno) words atomics = Err errno
+program_with v cwd random (Ok path) (Err errno) atomics = Err errno
+program_with v cwd random (Ok path) (Ok words) atomics = program_at v cwd (invocation words path random) atomics
 
 -- the program that a process executes: path, argv and envp are addresses of its memory
-unfoldable pub execve_program : Forest → ℕ → List PageView → ℕ → ℕ → ℕ → List ℕ → Result Program Errno
-execve_program v cwd pages path argv envp random =
-    program_with v cwd random (path_argument pages path) (command_argument pages argv envp)
+unfoldable pub execve_program : Forest → ℕ → List PageView → ℕ → ℕ → ℕ → List ℕ → Bool → Result Program Errno
+execve_program v cwd pages path argv envp random atomics =
+    program_with v cwd random (path_argument pages path) (command_argument pages argv envp) atomics

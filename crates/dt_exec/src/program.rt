@@ -27,8 +27,9 @@ pub struct Program {
     pub break_start: u64,
 }
 
-/// The program of a command, whose first argument is its path from the root, with 16 random bytes; or why it can't be
-/// started: ENOENT, ENAMETOOLONG, E2BIG, EACCES, ENOEXEC, or a refusal of the path (execve(2)).
+/// The program of a command, whose first argument is its path from the root, with 16 random bytes, on a machine with
+/// atomics or without; or why it can't be started: ENOENT, ENAMETOOLONG, E2BIG, EACCES, ENOEXEC, or a refusal of the path
+/// (execve(2)).
 #[tactic(auto, unfolding(crate::specs::Program::start_program))]
 pub fn start_program<H: Host>(
     alloc: Global,
@@ -36,10 +37,11 @@ pub fn start_program<H: Host>(
     tree: &Tree,
     command: &Command,
     random: &[u8; 16],
+    atomics: bool,
 ) -> Result<Result<Program, Errno>, HostErr>
     requires { Stands tree.now (H.view host.old).forest }
     ensures ok { IfOk result (λ started. started
-        ≡ start_program (shape_of tree.now (H.view host.old).forest) command.now random.now) }
+        ≡ start_program (shape_of tree.now (H.view host.old).forest) command.now random.now atomics) }
     ensures asks { Asks H.view H.count host.old host.new result }
 {
     let _before = host.faults();
@@ -53,7 +55,7 @@ pub fn start_program<H: Host>(
     if are_too_many(command) {
         return Ok(Err(Errno::TooBig));
     }
-    program_at(alloc, host, tree, ROOT, command, path, random)
+    program_at(alloc, host, tree, ROOT, command, path, random, atomics)
 }
 
 /// The program that a process executes in a working directory, with 16 random bytes; path, argv and envp are addresses
@@ -69,11 +71,12 @@ pub fn execve_program<H: Host>(
     argv: u64,
     envp: u64,
     random: &[u8; 16],
+    atomics: bool,
 ) -> Result<Result<Program, Errno>, HostErr>
     requires stands { Stands tree.now (H.view host.old).forest }
     requires directory { IsDir (shape_of tree.now (H.view host.old).forest) cwd }
     ensures ok { IfOk result (λ started. started ≡ execve_program
-        (shape_of tree.now (H.view host.old).forest) cwd space.now path argv envp random.now) }
+        (shape_of tree.now (H.view host.old).forest) cwd space.now path argv envp random.now atomics) }
     ensures asks { Asks H.view H.count host.old host.new result }
 {
     let _before = host.faults();
@@ -82,7 +85,16 @@ pub fn execve_program<H: Host>(
         Err(errno) => return Ok(Err(errno)),
     };
     match command_argument(alloc, space, argv, envp)? {
-        Ok(command) => program_at(alloc, host, tree, cwd, &command, path.as_slice(), random),
+        Ok(command) => program_at(
+            alloc,
+            host,
+            tree,
+            cwd,
+            &command,
+            path.as_slice(),
+            random,
+            atomics,
+        ),
         Err(errno) => Ok(Err(errno)),
     }
 }
@@ -104,13 +116,14 @@ fn program_at<H: Host>(
     command: &Command,
     path: &[u8],
     random: &[u8; 16],
+    atomics: bool,
 ) -> Result<Result<Program, Errno>, HostErr>
     requires stands { Stands tree.now (H.view host.old).forest }
     requires directory { IsDir (shape_of tree.now (H.view host.old).forest) cwd }
     requires short { length path.now ≤ PATH_LIMIT }
     requires no_nul { IsTrue (has_no_nul path.now) }
     ensures ok { IfOk result (λ started. started ≡ program_at
-        (shape_of tree.now (H.view host.old).forest) cwd (invocation command.now path.now random.now)) }
+        (shape_of tree.now (H.view host.old).forest) cwd (invocation command.now path.now random.now) atomics) }
     ensures asks { Asks H.view H.count host.old host.new result }
 {
     let _before = host.faults();
@@ -121,9 +134,11 @@ fn program_at<H: Host>(
     let bytes = file.as_slice();
     if is_script(bytes) {
         let script = script_of(alloc, bytes)?;
-        return program_of_script(alloc, host, tree, cwd, command, path, random, script);
+        return program_of_script(
+            alloc, host, tree, cwd, command, path, random, script, atomics,
+        );
     }
-    Ok(program_of(alloc, bytes, command, path, random)?)
+    Ok(program_of(alloc, bytes, command, path, random, atomics)?)
 }
 
 // The program of a script, which is None where its first line is bad.
@@ -136,6 +151,7 @@ fn program_of_script<H: Host>(
     path: &[u8],
     random: &[u8; 16],
     script: Option<Script>,
+    atomics: bool,
 ) -> Result<Result<Program, Errno>, HostErr>
     requires stands { Stands tree.now (H.view host.old).forest }
     requires directory { IsDir (shape_of tree.now (H.view host.old).forest) cwd }
@@ -143,7 +159,7 @@ fn program_of_script<H: Host>(
     requires no_nul { IsTrue (has_no_nul path.now) }
     requires script { IfSome script HasNoNul }
     ensures ok { IfOk result (λ started. started ≡ program_of_script
-        (shape_of tree.now (H.view host.old).forest) cwd (invocation command.now path.now random.now) script) }
+        (shape_of tree.now (H.view host.old).forest) cwd (invocation command.now path.now random.now) script atomics) }
     ensures asks { Asks H.view H.count host.old host.new result }
 {
     let _before = host.faults();
@@ -152,7 +168,7 @@ fn program_of_script<H: Host>(
     };
     let file = file_by_path(alloc, host, tree, cwd, script.interpreter.as_slice())?;
     let command = script_command(alloc, script, path, command)?;
-    Ok(program_of_interpreter(alloc, file, &command, path, random)?)
+    Ok(program_of_interpreter(alloc, file, &command, path, random, atomics)?)
 }
 
 // The program of an interpreter's file.
@@ -162,14 +178,15 @@ fn program_of_interpreter(
     command: &Command,
     path: &[u8],
     random: &[u8; 16],
+    atomics: bool,
 ) -> Result<Result<Program, Errno>, NoMemory>
     requires { length path.now ≤ PATH_LIMIT }
     ensures { IfOk result (λ started. started
-        ≡ program_of_interpreter (invocation command.now path.now random.now) file) }
+        ≡ program_of_interpreter (invocation command.now path.now random.now) file atomics) }
 {
     match file {
         Ok(bytes) if is_script(bytes.as_slice()) => Ok(Err(Errno::NoExec)),
-        Ok(bytes) => program_of(alloc, bytes.as_slice(), command, path, random),
+        Ok(bytes) => program_of(alloc, bytes.as_slice(), command, path, random, atomics),
         Err(errno) => Ok(Err(errno)),
     }
 }
@@ -205,7 +222,7 @@ fn file_of<H: Host>(host: &mut H, tree: &Tree, inode: u64) -> Result<Result<Blob
         ≡ file_or_errno (file_at (shape_of tree.now (H.view host.old).forest) inode)) }
     ensures asks { Asks H.view H.count host.old host.new result }
 {
-    if tree.is_dir(inode) || tree.is_link(inode) {
+    if tree.is_dir(inode) || tree.is_link(inode) || tree.device(inode).is_some() {
         return Ok(Err(Errno::Acces));
     }
     Ok(Ok(Blob::new(tree.read_file(host, inode)?)))
@@ -219,17 +236,18 @@ fn program_of(
     command: &Command,
     path: &[u8],
     random: &[u8; 16],
+    atomics: bool,
 ) -> Result<Result<Program, Errno>, NoMemory>
     requires { length path.now ≤ PATH_LIMIT }
     ensures { IfOk result (λ started.
-        started ≡ program_of (invocation command.now path.now random.now) bytes.now) }
+        started ≡ program_of (invocation command.now path.now random.now) bytes.now atomics) }
 {
     let elf = match read_elf(alloc, bytes) {
         Ok(elf) => elf,
         Err(ElfErr::NoMemory) => return Err(NoMemory),
         Err(_) => return Ok(Err(Errno::NoExec)),
     };
-    match start(alloc, &elf, bytes, command, path, random) {
+    match start(alloc, &elf, bytes, command, path, random, atomics) {
         Ok(machine) => Ok(Ok(Program {
             machine,
             break_start: elf.program_break(),

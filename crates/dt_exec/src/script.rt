@@ -1,5 +1,5 @@
 // Scripts, whose first line names the interpreter that runs them (execve(2), "Interpreter scripts").
-ghost use Rattle.std.specs.Prelude.{◌≡◌, ◌<◌, ◌++◌, length, IfOk, IfSome, OnOk, IsTrue};
+ghost use Rattle.std.specs.Prelude.{◌≡◌, ◌<◌, ◌++◌, [], length, IfOk, IfSome, OnOk, IsTrue};
 ghost use Rattle.std.specs.List.{position, position_or_len};
 ghost use Rattle.dt_base.specs.Path.{has_no_nul};
 ghost use Rattle.dt_exec.specs.Script.{HasNoNul, is_script, is_lf, is_blank, first_line, without_leading_blanks};
@@ -44,6 +44,7 @@ pub fn script_command(
     requires path { IsTrue (has_no_nul path.now) }
     ensures args { IfOk result (λ run. run.args ≡ script_args script path.now command.now.args) }
     ensures env { IfOk result (λ run. run.env ≡ command.now.env) }
+    ensures input { IfOk result (λ run. run.input ≡ []) }
 {
     let args = script_args(alloc, script, path, command.args())?;
     let mut env = Vec::new(alloc);

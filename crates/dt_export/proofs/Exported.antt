@@ -13,10 +13,11 @@ use Rattle.std.specs.Cmp.Lexicographic.{slice_cmp}
 use Rattle.std.specs.FinMap.{get, entries, entries_sorted}
 use Rattle.std.specs.FinMap.Entries.{is_sorted}
 use Rattle.dt_base.specs.declared.image.What.TheVariants.{Dir}
-use Rattle.dt_base.specs.declared.limits.TheConstants.{PATH_LIMIT, ENTRY_LIMIT, FILE_LIMIT, MODE_LIMIT, LINK_MODE}
+use Rattle.dt_base.specs.declared.limits.TheConstants.{PATH_LIMIT, ENTRY_LIMIT, MODE_LIMIT, LINK_MODE}
 use Rattle.dt_base.specs.Image.{IsImage, is_dir, is_dir_at, is_target, is_good_what, is_good_entry, is_rising, has_parent}
+use Rattle.dt_base.specs.Profile.{file_limit, has_devices}
 use Rattle.dt_base.specs.Path.{is_path, is_top, parent_of}
-use Rattle.dt_host.specs.World.{Node, file, dir, link, node_at, IsLive}
+use Rattle.dt_host.specs.World.{Node, file, dir, link, device, node_at, IsLive}
 use Rattle.dt_host.proofs.Spots.{IsDir-entry}
 use Rattle.dt_tables.proofs.Conjuncts.{first, second, either-last}
 use Rattle.dt_tree.specs.Above.{joined_names}
@@ -28,7 +29,8 @@ use Rattle.dt_tree.specs.declared.limits.TheConstants.{NODE_LIMIT}
 use Rattle.dt_image.specs.declared.paths.TreePath.{TreePath}
 use Rattle.dt_export.specs.declared.refusal.ExportRefusal.{ExportRefusal}
 use Rattle.dt_export.specs.declared.refusal.ExportRefusal.TheVariants.{LongPath, TooMany}
-use Rattle.dt_export.specs.ExportedImage.{what_of, mode_at, what_at, entry_at, exported_entries, has_long_path, has_too_many_paths, path_refusal, unless_refused, image_of_tree}
+use Rattle.dt_tree.specs.ImageTree.{what_of}
+use Rattle.dt_export.specs.ExportedImage.{mode_at, what_at, entry_at, exported_entries, exported_image, has_long_path, has_too_many_paths, path_refusal, unless_refused, image_of_tree}
 use Rattle.dt_export.proofs.GoodPaths.{path_good, top_good, parent_joined, last_apart, led_apart, names_led, entry_named}
 use Rattle.dt_export.proofs.Nodes.{dir_told}
 
@@ -45,12 +47,13 @@ rising t (e ∷ next ∷ es) h =
     and_from (is_lt (slice_cmp nat_cmp e.0 next.0)) (is_rising (map (entry_at t) (next ∷ es))) below (rising t (next ∷ es) (second _ _ h))
 
 -- a node of a tree is one of an image
-good_what : (node : Node) (mode : ℕ) → IsGoodNode node mode → is_good_what (what_of node) mode ≡ true
-good_what (file bytes) mode good = and_from (nat_le (length bytes) FILE_LIMIT) (nat_le mode MODE_LIMIT) (le-leb _ _ good.0) (le-leb _ _ good.1)
-good_what (dir names) mode good = le-leb mode MODE_LIMIT good.1
-good_what (link target) mode good =
+good_what : (version : ℕ) (node : Node) (mode : ℕ) → IsGoodNode version node mode → is_good_what version (what_of node) mode ≡ true
+good_what version (file bytes) mode good = and_from (nat_le (length bytes) (file_limit version)) (nat_le mode MODE_LIMIT) (le-leb _ _ good.0) (le-leb _ _ good.1)
+good_what version (dir names) mode good = le-leb mode MODE_LIMIT good.1
+good_what version (link target) mode good =
     let same : (mode == LINK_MODE) ≡ true = grind (arith, nat_tests, good.1) in
     and_from (is_target target) (mode == LINK_MODE) good.0 same
+good_what version (device which) mode good = and_from (has_devices version) (nat_le mode MODE_LIMIT) good.0 (le-leb _ _ good.1)
 
 pub each_not : {X : Type 0} (p : X → Bool) (xs : List X) → list_any p xs ≡ false → All (λ x. p x ≡ false) xs
 each_not p [] h = All-nil (λ x. p x ≡ false)
@@ -82,20 +85,20 @@ module _ (t : FileTree) (s : IsTree t) where
   pub led : All (λ at. LeadsTo t.shape at.0 at.1) (paths_of t.shape)
   led = All-weaker (Contains (paths_of t.shape)) (λ at. LeadsTo t.shape at.0 at.1) (λ at there. (exact_paths t s at.0 at.1).0 there) (paths_of t.shape) (All-contains_itself (paths_of t.shape))
 
-  pub good_node : (n : ℕ) → IsLive t.shape n → is_good_what (what_at t n) (mode_at t n) ≡ true
+  pub good_node : (n : ℕ) → IsLive t.shape n → is_good_what t.version (what_at t n) (mode_at t n) ≡ true
   good_node n live = by_node (node_at t.shape n) (get t.attributes n) refl refl live
     where
-      by_node : (found : Option Node) (a : Option Attributes) → node_at t.shape n ≡ found → get t.attributes n ≡ a → is_some found ≡ true → is_good_what (what_of (unwrap_or found (file []))) (unwrap_or (option_map (λ a. a.mode) a) 0) ≡ true
+      by_node : (found : Option Node) (a : Option Attributes) → node_at t.shape n ≡ found → get t.attributes n ≡ a → is_some found ≡ true → is_good_what t.version (what_of (unwrap_or found (file []))) (unwrap_or (option_map (λ a. a.mode) a) 0) ≡ true
       by_node None a at with_a there = absurd (cc)
       by_node (Some node) None at with_a there = let same = sym (ap is_some with_a) ∙ s.same n ∙ ap is_some at in absurd (cc)
-      by_node (Some node) (Some a) at with_a there = good_what node a.mode (s.good n node a at with_a)
+      by_node (Some node) (Some a) at with_a there = good_what t.version node a.mode (s.good n node a at with_a)
 
   pub good_path : (at : List ℕ × ℕ) (to : LeadsTo t.shape at.0 at.1) → nat_lt PATH_LIMIT (length at.0) ≡ false → is_path (joined_names to.0) ≡ true
   good_path at to short = path_good to.0 to.1 (names_led t s to.0 t.shape.root at.1 to.3) (subst (λ path. length path ≤ PATH_LIMIT) to.2 (ltb-false PATH_LIMIT (length at.0) short))
 
   -- a path to a node makes a good entry, if it is short
-  good_entry : (at : List ℕ × ℕ) → LeadsTo t.shape at.0 at.1 → IsLive t.shape at.1 → nat_lt PATH_LIMIT (length at.0) ≡ false → is_good_entry (entry_at t at) ≡ true
-  good_entry at to live short = and_from (is_path at.0) (is_good_what (what_at t at.1) (mode_at t at.1)) (ap is_path to.2 ∙ good_path at to short) (good_node at.1 live)
+  good_entry : (at : List ℕ × ℕ) → LeadsTo t.shape at.0 at.1 → IsLive t.shape at.1 → nat_lt PATH_LIMIT (length at.0) ≡ false → is_good_entry t.version (entry_at t at) ≡ true
+  good_entry at to live short = and_from (is_path at.0) (is_good_what t.version (what_at t at.1) (mode_at t at.1)) (ap is_path to.2 ∙ good_path at to short) (good_node at.1 live)
 
   parent_there : (before : List (List ℕ)) (last : List ℕ) (n : ℕ) → is_path (joined_names (before ++ last ∷ [])) ≡ true → node_from_root t.shape (before ++ last ∷ []) ≡ Some n → has_parent (exported_entries t) (entry_at t (joined_names (before ++ last ∷ []), n)) ≡ true
   parent_there [] last n good to =
@@ -129,14 +132,15 @@ module _ (t : FileTree) (s : IsTree t) where
   unfolding paths_of
   rising_paths = rising t (entries (paths_to t.shape NODE_LIMIT)) (entries_sorted (paths_to t.shape NODE_LIMIT))
 
-  pub IsImage-exported : path_refusal (paths_of t.shape) ≡ None → IsImage (exported_entries t)
+  pub IsImage-exported : path_refusal (paths_of t.shape) ≡ None → IsImage (exported_image t)
   IsImage-exported none =
       let kept = short_and_few (paths_of t.shape) none in
       let not_long = each_not (λ (at : List ℕ × ℕ). nat_lt PATH_LIMIT (length at.0)) (paths_of t.shape) kept.0 in
       let live = live_paths t.shape s.shaped in
       record {
+        version = s.version;
         few = omega (arith, length-map (paths_of t.shape) (entry_at t), ltb-false ENTRY_LIMIT (length (paths_of t.shape)) kept.1);
-        good = list_all-map is_good_entry (entry_at t) (paths_of t.shape) ∙ each (λ at. is_good_entry (entry_at t at)) good_entry (paths_of t.shape) led live not_long;
+        good = list_all-map (is_good_entry t.version) (entry_at t) (paths_of t.shape) ∙ each (λ at. is_good_entry t.version (entry_at t at)) good_entry (paths_of t.shape) led live not_long;
         rising = rising_paths;
         parents = list_all-map (has_parent (exported_entries t)) (entry_at t) (paths_of t.shape) ∙ each (λ at. has_parent (exported_entries t) (entry_at t at)) parent_entry (paths_of t.shape) led live not_long;
       }
@@ -171,10 +175,10 @@ live_shown t paths same s = unmap (λ at. IsLive t.shape at.1) path_pair paths (
 
 -- the image of a tree, by what is said of its paths
 module _ (t : FileTree) (paths : List (List ℕ × ℕ)) (same : paths ≡ paths_of t.shape) where
-  pub some_image : path_refusal paths ≡ None → image_of_tree t ≡ Ok (exported_entries t)
+  pub some_image : path_refusal paths ≡ None → image_of_tree t ≡ Ok (exported_image t)
   unfolding image_of_tree
-  some_image none = ap (λ refusal. unless_refused refusal (Ok (exported_entries t))) (ap path_refusal (sym same) ∙ none)
+  some_image none = ap (λ refusal. unless_refused refusal (Ok (exported_image t))) (ap path_refusal (sym same) ∙ none)
 
   pub no_image : (r : ExportRefusal) → path_refusal paths ≡ Some r → image_of_tree t ≡ Err r
   unfolding image_of_tree
-  no_image r is = ap (λ refusal. unless_refused refusal (Ok (exported_entries t))) (ap path_refusal (sym same) ∙ is)
+  no_image r is = ap (λ refusal. unless_refused refusal (Ok (exported_image t))) (ap path_refusal (sym same) ∙ is)

@@ -8,7 +8,7 @@ use Rattle.serde_json.specs.Data.{depth, items_depth}
 use Rattle.serde_json.specs.View.{items_of}
 use Rattle.serde_json.specs.Written.{has_float, items_have_float, compact_text}
 use Rattle.dt_base.specs.declared.image.What.{What}
-use Rattle.dt_base.specs.declared.image.What.TheVariants.{File, Dir, Link}
+use Rattle.dt_base.specs.declared.image.What.TheVariants.{File, Dir, Link, Dev}
 use Rattle.dt_base.specs.declared.limits.TheConstants.{INDEX_LIMIT}
 use Rattle.dt_export.specs.declared.refusal.ExportRefusal.TheVariants.{NotText, BigIndex}
 use Rattle.dt_tree.specs.FileTree.{FileTree}
@@ -19,6 +19,7 @@ no_float : (inode mode : ℕ) (path : List ℕ) (what : What) → has_float (wha
 no_float inode mode path (File bytes) = refl
 no_float inode mode path Dir = refl
 no_float inode mode path (Link target) = refl
+no_float inode mode path (Dev which) = refl
 
 -- none has a float
 pub no_floats : (t : FileTree) (ats : List (List ℕ × ℕ)) → items_have_float (items_of (map (object_at t) ats)) ≡ false
@@ -29,6 +30,7 @@ flat : (inode mode : ℕ) (path : List ℕ) (what : What) → depth (what_object
 flat inode mode path (File bytes) = omega arith
 flat inode mode path Dir = omega arith
 flat inode mode path (Link target) = omega arith
+flat inode mode path (Dev which) = omega arith
 
 -- none has an array or an object inside
 pub all_flat : (t : FileTree) (ats : List (List ℕ × ℕ)) → items_depth (items_of (map (object_at t) ats)) ≤ 1

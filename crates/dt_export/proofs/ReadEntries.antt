@@ -1,9 +1,9 @@
 -- The entries that are read from the index of a tree.
-use Rattle.std.proofs.Common.{◌≡◌, ℕ, ◌≤◌, false, cond, ◌&&◌, ◌||◌, List, [], ◌∷◌, ◌++◌, map, fold, Some, refl, sym, ap, subst, ◌∙◌, append_assoc, append-nil}
-use Rattle.std.proofs.lemmas.Bool.{or_from, le-leb}
+use Rattle.std.proofs.Common.{◌≡◌, ℕ, ◌≤◌, false, cond, ◌&&◌, ◌||◌, List, [], ◌∷◌, ◌++◌, map, fold, Some, refl, sym, ap, subst, ◌∙◌, append_assoc, append-nil, true, ◌==◌, length, arith}
+use Rattle.std.proofs.lemmas.Bool.{or_from, le-leb, leb-true, eqb-true, and_parts}
 use Rattle.std.proofs.lemmas.List.Elements.{All-head, All-tail}
 use Rattle.std.proofs.lemmas.Map.Text.{is_eq-slice_cmp}
-use Rattle.std.specs.Prelude.{T, option_and_then}
+use Rattle.std.specs.Prelude.{T, option_and_then, option_map, nat_le}
 use Rattle.std.specs.List.{All, list_any}
 use Rattle.std.specs.Str.{bytes_eq}
 use Rattle.std.specs.Ordering.{nat_cmp, is_lt, is_eq, ordering_reverse}
@@ -13,12 +13,15 @@ use Rattle.std.specs.Cmp.Lexicographic.{slice_cmp, nat_list_cmp_total}
 use Rattle.std.specs.FinMap.Entries.{below_all, is_sorted}
 use Rattle.serde_json.specs.View.{items_of}
 use Rattle.dt_base.specs.declared.image.What.{What}
-use Rattle.dt_base.specs.declared.image.What.TheVariants.{File, Dir, Link}
-use Rattle.dt_base.specs.declared.limits.TheConstants.{MODE_LIMIT}
-use Rattle.dt_base.specs.Image.{is_dir, is_dir_at}
+use Rattle.dt_base.specs.declared.image.What.TheVariants.{File, Dir, Link, Dev}
+use Rattle.dt_base.specs.declared.limits.TheConstants.{MODE_LIMIT, LINK_MODE}
+use Rattle.dt_base.specs.declared.image.Device.TheVariants.{Null, Zero, Random}
+use Rattle.dt_base.specs.Profile.{is_version, file_limit, has_devices}
+use Rattle.dt_base.specs.Image.{is_dir, is_dir_at, is_target, is_good_what}
 use Rattle.dt_tables.proofs.Conjuncts.{first, second}
 use Rattle.dt_tree.specs.FileTree.{FileTree}
-use Rattle.dt_image.specs.Index.{Source, file, dir, link, IndexEntry, entry_of, entries_of, versioned_items, index_of, file_of, dir_of, link_of}
+use Rattle.dt_image.specs.Index.{Source, file, dir, link, dev, IndexEntry, entry_of, entries_of, versioned_items, index_of, file_of, dir_of, link_of, dev_of}
+use Rattle.dt_image.proofs.Indexed.{parts}
 use Rattle.dt_image.specs.ImageOf.{has_path, has_twice, is_dir_source, is_dir_of_path, with_index_entry, sorted_entries}
 use Rattle.dt_image.specs.Paths.{paths_of}
 use Rattle.dt_export.specs.ExportedImage.{mode_at, what_at, entry_at}
@@ -29,29 +32,39 @@ abbrev pub source_of : ℕ → ℕ → What → Source
 source_of inode mode (File bytes) = file mode (blob_name inode)
 source_of inode mode Dir = dir mode
 source_of inode mode (Link target) = link target
+source_of inode mode (Dev which) = dev mode which
 
 -- the entry that is read of a path
 abbrev pub read_at : FileTree → List ℕ × ℕ → IndexEntry
 read_at t at = record { path = at.0; source = source_of at.1 (mode_at t at.1) (what_at t at.1) }
 
-entry_read : (inode mode : ℕ) (path : List ℕ) (what : What) → mode ≤ MODE_LIMIT → entry_of (what_object inode mode path what) ≡ Some (record { path = path; source = source_of inode mode what })
-unfolding entry_of file_of dir_of link_of
-entry_read inode mode path (File bytes) small = rw (le-leb mode MODE_LIMIT small)
-entry_read inode mode path Dir small = rw (le-leb mode MODE_LIMIT small)
-entry_read inode mode path (Link target) small = refl
+pub small_mode : (version : ℕ) (what : What) (mode : ℕ) → is_good_what version what mode ≡ true → mode ≤ MODE_LIMIT
+small_mode version (File bytes) mode good = leb-true mode MODE_LIMIT (and_parts (nat_le (length bytes) (file_limit version)) (nat_le mode MODE_LIMIT) good).1
+small_mode version Dir mode good = leb-true mode MODE_LIMIT good
+small_mode version (Link target) mode good = let same = eqb-true mode LINK_MODE (and_parts (is_target target) (mode == LINK_MODE) good).1 in omega (arith, same)
+small_mode version (Dev which) mode good = leb-true mode MODE_LIMIT (and_parts (has_devices version) (nat_le mode MODE_LIMIT) good).1
 
-entries_read : (t : FileTree) (ats : List (List ℕ × ℕ)) → All (λ at. mode_at t at.1 ≤ MODE_LIMIT) ats → entries_of (items_of (map (object_at t) ats)) ≡ Some (map (read_at t) ats)
-entries_read t [] small = refl
-entries_read t (at ∷ ats) small =
-    let here = entry_read at.1 (mode_at t at.1) at.0 (what_at t at.1) (All-head (λ (at : List ℕ × ℕ). mode_at t at.1 ≤ MODE_LIMIT) at ats small) in
-    let rest = entries_read t ats (All-tail (λ (at : List ℕ × ℕ). mode_at t at.1 ≤ MODE_LIMIT) at ats small) in
-    ap (option_and_then (λ entry. option_and_then (λ entries. Some (entry ∷ entries)) (entries_of (items_of (map (object_at t) ats))))) here
+entry_read : (version inode mode : ℕ) (path : List ℕ) (what : What) → is_good_what version what mode ≡ true → entry_of version (what_object inode mode path what) ≡ Some (record { path = path; source = source_of inode mode what })
+unfolding entry_of file_of dir_of link_of dev_of
+entry_read version inode mode path (File bytes) good = rw (le-leb mode MODE_LIMIT (small_mode version (File bytes) mode good))
+entry_read version inode mode path Dir good = rw (le-leb mode MODE_LIMIT (small_mode version Dir mode good))
+entry_read version inode mode path (Link target) good = refl
+entry_read version inode mode path (Dev Null) good = rw ((and_parts (has_devices version) (nat_le mode MODE_LIMIT) good).0, le-leb mode MODE_LIMIT (small_mode version (Dev Null) mode good))
+entry_read version inode mode path (Dev Zero) good = rw ((and_parts (has_devices version) (nat_le mode MODE_LIMIT) good).0, le-leb mode MODE_LIMIT (small_mode version (Dev Zero) mode good))
+entry_read version inode mode path (Dev Random) good = rw ((and_parts (has_devices version) (nat_le mode MODE_LIMIT) good).0, le-leb mode MODE_LIMIT (small_mode version (Dev Random) mode good))
+
+entries_read : (version : ℕ) (t : FileTree) (ats : List (List ℕ × ℕ)) → All (λ at. is_good_what version (what_at t at.1) (mode_at t at.1) ≡ true) ats → entries_of version (items_of (map (object_at t) ats)) ≡ Some (map (read_at t) ats)
+entries_read version t [] good = refl
+entries_read version t (at ∷ ats) good =
+    let here = entry_read version at.1 (mode_at t at.1) at.0 (what_at t at.1) (All-head (λ (at : List ℕ × ℕ). is_good_what version (what_at t at.1) (mode_at t at.1) ≡ true) at ats good) in
+    let rest = entries_read version t ats (All-tail (λ (at : List ℕ × ℕ). is_good_what version (what_at t at.1) (mode_at t at.1) ≡ true) at ats good) in
+    ap (option_and_then (λ entry. option_and_then (λ entries. Some (entry ∷ entries)) (entries_of version (items_of (map (object_at t) ats))))) here
     ∙ ap (option_and_then (λ entries. Some (read_at t at ∷ entries))) rest
 
--- the index is read as those entries
-pub index_read : (t : FileTree) → All (λ at. mode_at t at.1 ≤ MODE_LIMIT) (paths_of t.shape) → index_of (exported_index 1 t) ≡ Some (map (read_at t) (paths_of t.shape))
+-- the index is read as that version with those entries
+pub index_read : (t : FileTree) → is_version t.version ≡ true → All (λ at. is_good_what t.version (what_at t at.1) (mode_at t at.1) ≡ true) (paths_of t.shape) → index_of (exported_index t.version t) ≡ Some (parts t.version (map (read_at t) (paths_of t.shape)))
 unfolding index_of versioned_items
-index_read t small = entries_read t (paths_of t.shape) small
+index_read t known good = rw known (ap (option_map (parts t.version)) (entries_read t.version t (paths_of t.shape) good))
 
 less : (r : Ordering) → T (is_lt r) → r ≡ Less
 less Less h = refl
@@ -73,6 +86,7 @@ same_kind : (inode mode : ℕ) (what : What) → is_dir_source (source_of inode 
 same_kind inode mode (File bytes) = refl
 same_kind inode mode Dir = refl
 same_kind inode mode (Link target) = refl
+same_kind inode mode (Dev which) = refl
 
 -- the directories are those of the image
 pub dirs_read : (t : FileTree) (path : List ℕ) (ats : List (List ℕ × ℕ)) → list_any (is_dir_of_path path) (map (read_at t) ats) ≡ list_any (is_dir_at path) (map (entry_at t) ats)

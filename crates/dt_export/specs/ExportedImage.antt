@@ -2,21 +2,16 @@
 use Rattle.std.specs.Prelude.{ℕ, nat_lt, Bool, List, [], length, map, Option, None, Some, unwrap_or, option_map, Result, Ok, Err, if◌then◌else◌}
 use Rattle.std.specs.List.{list_any}
 use Rattle.std.specs.FinMap.{get}
+use Rattle.dt_base.specs.Image.{ImageParts}
 use Rattle.dt_base.specs.declared.image.Entry.{Entry}
 use Rattle.dt_base.specs.declared.image.What.{What}
-use Rattle.dt_base.specs.declared.image.What.TheVariants.{File, Dir, Link}
 use Rattle.dt_base.specs.declared.limits.TheConstants.{PATH_LIMIT, ENTRY_LIMIT}
-use Rattle.dt_host.specs.World.{Node, file, dir, link, node_at}
+use Rattle.dt_host.specs.World.{file, node_at}
 use Rattle.dt_tree.specs.FileTree.{FileTree}
+use Rattle.dt_tree.specs.ImageTree.{what_of}
 use Rattle.dt_image.specs.Paths.{paths_of}
 use Rattle.dt_export.specs.declared.refusal.ExportRefusal.{ExportRefusal}
 use Rattle.dt_export.specs.declared.refusal.ExportRefusal.TheVariants.{LongPath, TooMany}
-
--- how an image shows a node: a file by its bytes, a directory without its entries, a link by its target
-abbrev pub what_of : Node → What
-what_of (file bytes) = File bytes
-what_of (dir names) = Dir
-what_of (link target) = Link target
 
 -- the mode of a node. Where there is no node a default stands, here and below; each path of a tree leads to a node
 abbrev pub mode_at : FileTree → ℕ → ℕ
@@ -34,6 +29,10 @@ entry_at t at = record { path = at.0; mode = mode_at t at.1; what = what_at t at
 -- order. Two names of one file are two entries
 abbrev pub exported_entries : FileTree → List Entry
 exported_entries t = map (entry_at t) (paths_of t.shape)
+
+-- these, with the version of the tree
+abbrev pub exported_image : FileTree → ImageParts
+exported_image t = record { version = t.version; entries = exported_entries t }
 
 -- one of these paths has more bytes than a path may have
 abbrev pub has_long_path : List (List ℕ × ℕ) → Bool
@@ -56,5 +55,5 @@ unless_refused None answer = answer
 unless_refused (Some refusal) answer = Err refusal
 
 -- the image of a tree, or why it has none
-unfoldable pub image_of_tree : FileTree → Result (List Entry) ExportRefusal
-image_of_tree t = unless_refused (path_refusal (paths_of t.shape)) (Ok (exported_entries t))
+unfoldable pub image_of_tree : FileTree → Result ImageParts ExportRefusal
+image_of_tree t = unless_refused (path_refusal (paths_of t.shape)) (Ok (exported_image t))

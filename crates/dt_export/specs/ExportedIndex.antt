@@ -5,9 +5,11 @@ use Rattle.std.specs.Str.{is_utf8}
 use Rattle.serde_json.specs.Data.{Data, number, unsigned, string, array, object, no_members, member}
 use Rattle.serde_json.specs.View.{items_of}
 use Rattle.serde_json.specs.Written.{compact_text}
+use Rattle.dt_base.specs.declared.image.Device.{Device}
+use Rattle.dt_image.specs.Report.{device_name}
 use Rattle.dt_base.specs.declared.image.Entry.{Entry}
 use Rattle.dt_base.specs.declared.image.What.{What}
-use Rattle.dt_base.specs.declared.image.What.TheVariants.{File, Dir, Link}
+use Rattle.dt_base.specs.declared.image.What.TheVariants.{File, Dir, Link, Dev}
 use Rattle.dt_base.specs.declared.limits.TheConstants.{INDEX_LIMIT}
 use Rattle.dt_tree.specs.FileTree.{FileTree}
 use Rattle.dt_image.specs.Paths.{paths_of}
@@ -41,11 +43,20 @@ link_object path target =
     (member (codes "target") (string target)
     (member (codes "type") (string (codes "link")) no_members)))
 
+-- the object for a device
+abbrev pub dev_object : ℕ → List ℕ → Device → Data
+dev_object mode path device =
+    object (member (codes "device") (string (device_name device))
+    (member (codes "mode") (number (unsigned mode))
+    (member (codes "path") (string path)
+    (member (codes "type") (string (codes "dev")) no_members))))
+
 -- the object for what stands at a path
 abbrev pub what_object : ℕ → ℕ → List ℕ → What → Data
 what_object inode mode path (File bytes) = file_object inode mode path
 what_object inode mode path Dir = dir_object mode path
 what_object inode mode path (Link target) = link_object path target
+what_object inode mode path (Dev device) = dev_object mode path device
 
 -- the object for a path that leads to an inode
 abbrev pub object_at : FileTree → List ℕ × ℕ → Data
@@ -66,6 +77,7 @@ abbrev pub is_text_what : What → Bool
 is_text_what (File bytes) = true
 is_text_what Dir = true
 is_text_what (Link target) = is_utf8 target
+is_text_what (Dev device) = true
 
 -- the path of an entry is UTF-8, and so is its target if it is a link
 abbrev pub is_text_entry : Entry → Bool

@@ -43,7 +43,7 @@ unfoldable pub step_words : Data → Option Words
 step_words value = do
   args ← option_and_then texts_of (member (codes "args") value)
   env ← env_by (member (codes "env") value)
-  if_step (record { args = args; env = env })
+  if_step (record { args = args; env = env; input = [] })
 
 -- the steps that these values are, if each is one
 abbrev pub steps_in : Items → Option (List Words)

@@ -6,7 +6,7 @@ ghost use Rattle.dt_host.specs.World.{IsLive};
 ghost use Rattle.dt_tree.specs.Table.{Stands, shape_of, tree_of};
 ghost use Rattle.dt_image.specs.Paths.{paths_of, path_pair};
 ghost use Rattle.dt_export.specs.declared.refusal.ExportRefusal.{ExportRefusal};
-ghost use Rattle.dt_export.specs.ExportedImage.{image_of_tree, exported_entries, entry_at, what_at, path_refusal};
+ghost use Rattle.dt_export.specs.ExportedImage.{image_of_tree, exported_entries, exported_image, entry_at, what_at, path_refusal};
 
 use crate::limits::path_refusal;
 use crate::refusal::ExportErr;
@@ -16,11 +16,8 @@ use dt_image::{TreePath, paths_of};
 use dt_tree::Tree;
 use std::alloc::Global;
 
-/// The version of the images of this profile.
-pub const IMAGE_VERSION: u64 = 1;
-
 /// The image of a tree: an entry for each path below the root, in byte order; or LongPath or TooMany. Two names of one
-/// file are two entries. `version` is that of the tree's profile; an image does not hold it.
+/// file are two entries. `version` is that of the tree.
 pub fn image_of_tree<H: Host>(
     alloc: Global,
     host: &mut H,
@@ -28,7 +25,7 @@ pub fn image_of_tree<H: Host>(
     version: u64,
 ) -> Result<Image, ExportErr>
     requires stands { Stands tree.now (H.view host.old).forest }
-    requires profile { version ≡ IMAGE_VERSION }
+    requires profile { let t = tree_of tree.now (H.view host.old).forest in version ≡ t.version }
     ensures ok { IfOk result (λ image. image_of_tree (tree_of tree.now (H.view host.old).forest) ≡ Ok image) }
     ensures refused { (r : ExportRefusal) → result ≡ Err (ExportErr.Refused r) →
         image_of_tree (tree_of tree.now (H.view host.old).forest) ≡ Err r }
@@ -37,7 +34,7 @@ pub fn image_of_tree<H: Host>(
     let paths = paths_of(alloc, host, tree)?;
     match path_refusal(&paths) {
         Some(refusal) => Err(ExportErr::Refused(refusal)),
-        None => Ok(image_of_paths(alloc, host, tree, &paths)?),
+        None => Ok(image_of_paths(alloc, host, tree, version, &paths)?),
     }
 }
 
@@ -46,15 +43,17 @@ fn image_of_paths<H: Host>(
     alloc: Global,
     host: &mut H,
     tree: &Tree,
+    version: u64,
     paths: &[TreePath],
 ) -> Result<Image, HostErr>
     requires stands { Stands tree.now (H.view host.old).forest }
     requires paths { map path_pair paths.now ≡ paths_of (shape_of tree.now (H.view host.old).forest) }
     requires good { path_refusal (map path_pair paths.now) ≡ None }
-    ensures ok { IfOk result (λ image. image ≡ exported_entries (tree_of tree.now (H.view host.old).forest)) }
+    requires profile { let t = tree_of tree.now (H.view host.old).forest in version ≡ t.version }
+    ensures ok { IfOk result (λ image. image ≡ exported_image (tree_of tree.now (H.view host.old).forest)) }
     ensures asks { Asks H.view H.count host.old host.new result }
 {
-    Ok(Image::new(read_entries(alloc, host, tree, paths)?))
+    Ok(Image::new(version, read_entries(alloc, host, tree, paths)?))
 }
 
 // The entries of these paths.
@@ -107,5 +106,8 @@ fn read_what<H: Host>(host: &mut H, tree: &Tree, inode: u64) -> Result<What, Hos
     if tree.is_link(inode) {
         return Ok(What::Link(tree.target(host, inode)?));
     }
-    Ok(What::File(Blob::new(tree.read_file(host, inode)?)))
+    match tree.device(inode) {
+        Some(device) => Ok(What::Dev(device)),
+        None => Ok(What::File(Blob::new(tree.read_file(host, inode)?))),
+    }
 }

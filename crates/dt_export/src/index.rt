@@ -13,21 +13,20 @@ ghost use Rattle.dt_image.specs.ImageOf.{value_of};
 ghost use Rattle.dt_image.specs.Paths.{paths_of, path_pair};
 ghost use Rattle.dt_export.specs.declared.refusal.ExportRefusal.{ExportRefusal};
 ghost use Rattle.dt_export.specs.ExportedImage.{entry_at};
-ghost use Rattle.dt_export.specs.ExportedIndex.{blob_name, file_object, dir_object, link_object, object_at};
+ghost use Rattle.dt_export.specs.ExportedIndex.{blob_name, file_object, dir_object, link_object, dev_object, object_at};
 ghost use Rattle.dt_export.specs.ExportedIndex.{index_of_objects, exported_index, is_text_entry, index_text};
 
-use crate::image::IMAGE_VERSION;
 use crate::refusal::{ExportErr, ExportRefusal};
-use dt_base::{Blob, INDEX_LIMIT};
+use dt_base::{Blob, Device, INDEX_LIMIT};
 use dt_host::Host;
-use dt_image::{TreePath, paths_of};
+use dt_image::{TreePath, device_name, paths_of};
 use dt_tree::Tree;
 use serde_json::{Value, json};
 use std::alloc::{AllocError, Global};
 
 /// The text of the index that lists a tree's paths, or NotText or BigIndex. Paths that are too long or too many are not
 /// refused here, so the text may be no image's: `prepare_export` tries those first. The text names the blob of each
-/// file by `b` and the file's inode. `version` is that of the tree's profile.
+/// file by `b` and the file's inode. `version` is that of the tree.
 pub fn index_text<H: Host>(
     alloc: Global,
     host: &mut H,
@@ -35,7 +34,7 @@ pub fn index_text<H: Host>(
     version: u64,
 ) -> Result<Blob, ExportErr>
     requires stands { Stands tree.now (H.view host.old).forest }
-    requires profile { version ≡ IMAGE_VERSION }
+    requires profile { let t = tree_of tree.now (H.view host.old).forest in version ≡ t.version }
     ensures ok { IfOk result (λ text. index_text version (tree_of tree.now (H.view host.old).forest) ≡ Ok text) }
     ensures refused { (r : ExportRefusal) → result ≡ Err (ExportErr.Refused r) →
         index_text version (tree_of tree.now (H.view host.old).forest) ≡ Err r }
@@ -143,7 +142,10 @@ fn object_at<H: Host>(
         let target = tree.target(host, at.inode)?;
         return Ok(link_object(alloc, path, text_of(target.as_slice())?)?);
     }
-    Ok(file_object(alloc, at.inode, mode, path)?)
+    match tree.device(at.inode) {
+        Some(device) => Ok(dev_object(alloc, mode, path, device)?),
+        None => Ok(file_object(alloc, at.inode, mode, path)?),
+    }
 }
 
 // Bytes as a text.
@@ -176,6 +178,13 @@ fn link_object(alloc: Global, path: &str, target: &str) -> Result<Value, AllocEr
     ensures { IfOk result (λ object. view object ≡ link_object path.now target.now) }
 {
     json!(in alloc; {"type": "link", "path": path, "target": target})
+}
+
+fn dev_object(alloc: Global, mode: u32, path: &str, device: Device) -> Result<Value, AllocError>
+    ensures { IfOk result (λ object. view object ≡ dev_object mode path.now device) }
+{
+    let name = device_name(device);
+    json!(in alloc; {"type": "dev", "path": path, "mode": mode, "device": name})
 }
 
 // The name of the blob with the bytes of a file.

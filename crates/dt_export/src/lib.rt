@@ -11,7 +11,7 @@ mod refusal;
 mod steps;
 
 pub use folder::has_index;
-pub use image::{IMAGE_VERSION, image_of_tree};
+pub use image::image_of_tree;
 pub use index::index_text;
 pub use prepare::{Export, prepare_export};
 pub use refusal::{ExportErr, ExportRefusal};

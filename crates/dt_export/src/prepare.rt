@@ -7,12 +7,11 @@ ghost use Rattle.dt_host.specs.World.{Forest, IsLive};
 ghost use Rattle.dt_tree.specs.Table.{Stands, shape_of, tree_of};
 ghost use Rattle.dt_image.specs.Paths.{paths_of, path_pair};
 ghost use Rattle.dt_export.specs.declared.refusal.ExportRefusal.{ExportRefusal};
-ghost use Rattle.dt_export.specs.ExportedImage.{exported_entries, image_of_tree, path_refusal};
+ghost use Rattle.dt_export.specs.ExportedImage.{exported_image, image_of_tree, path_refusal};
 ghost use Rattle.dt_export.specs.ExportedFiles.{exported_inodes, exported_text};
 ghost use Rattle.dt_export.specs.ReadBack.{IsReadAs};
 ghost use Rattle.dt_export.specs.inner.Inodes.{inodes_of_files, with_inode};
 
-use crate::image::IMAGE_VERSION;
 use crate::index::text_of_paths;
 use crate::limits::path_refusal;
 use crate::refusal::{ExportErr, ExportRefusal};
@@ -30,7 +29,7 @@ pub struct Export {
     pub index: Blob,
 }
 
-/// What the export of a tree puts, of the version of the tree's profile; or the first that holds of LongPath, TooMany,
+/// What the export of a tree puts, of the version of the tree; or the first that holds of LongPath, TooMany,
 /// NotText and BigIndex. Exists is asked of the folder: `has_index`.
 pub fn prepare_export<H: Host>(
     alloc: Global,
@@ -39,7 +38,7 @@ pub fn prepare_export<H: Host>(
     version: u64,
 ) -> Result<Export, ExportErr>
     requires stands { Stands tree.now (H.view host.old).forest }
-    requires profile { version ≡ IMAGE_VERSION }
+    requires profile { let t = tree_of tree.now (H.view host.old).forest in version ≡ t.version }
     ensures index { IfOk result (λ export.
         exported_text version (tree_of tree.now (H.view host.old).forest) ≡ Ok export.index) }
     ensures inodes { IfOk result (λ export.
@@ -47,9 +46,9 @@ pub fn prepare_export<H: Host>(
     ensures refused { (r : ExportRefusal) → result ≡ Err (ExportErr.Refused r) →
         exported_text version (tree_of tree.now (H.view host.old).forest) ≡ Err r }
     ensures image { OnOk result (image_of_tree (tree_of tree.now (H.view host.old).forest)
-        ≡ Ok (exported_entries (tree_of tree.now (H.view host.old).forest))) }
+        ≡ Ok (exported_image (tree_of tree.now (H.view host.old).forest))) }
     ensures read_back { IfOk result (λ export. IsReadAs (tree_of tree.now (H.view host.old).forest) export.index
-        (exported_entries (tree_of tree.now (H.view host.old).forest))) }
+        (exported_image (tree_of tree.now (H.view host.old).forest))) }
     ensures asks { AsksOr H.view H.count ExportErr.Host host.old host.new result }
 {
     let paths = paths_of(alloc, host, tree)?;
@@ -68,7 +67,7 @@ fn prepare_paths<H: Host>(
     paths: &[TreePath],
 ) -> Result<Export, ExportErr>
     requires stands { Stands tree.now (H.view host.old).forest }
-    requires profile { version ≡ IMAGE_VERSION }
+    requires profile { let t = tree_of tree.now (H.view host.old).forest in version ≡ t.version }
     requires paths { map path_pair paths.now ≡ paths_of (shape_of tree.now (H.view host.old).forest) }
     requires good { path_refusal (map path_pair paths.now) ≡ None }
     ensures index { IfOk result (λ export.
@@ -78,9 +77,9 @@ fn prepare_paths<H: Host>(
     ensures refused { (r : ExportRefusal) → result ≡ Err (ExportErr.Refused r) →
         exported_text version (tree_of tree.now (H.view host.old).forest) ≡ Err r }
     ensures image { OnOk result (image_of_tree (tree_of tree.now (H.view host.old).forest)
-        ≡ Ok (exported_entries (tree_of tree.now (H.view host.old).forest))) }
+        ≡ Ok (exported_image (tree_of tree.now (H.view host.old).forest))) }
     ensures read_back { IfOk result (λ export. IsReadAs (tree_of tree.now (H.view host.old).forest) export.index
-        (exported_entries (tree_of tree.now (H.view host.old).forest))) }
+        (exported_image (tree_of tree.now (H.view host.old).forest))) }
     ensures asks { AsksOr H.view H.count ExportErr.Host host.old host.new result }
 {
     let index = text_of_paths(alloc, host, tree, version, paths)?;
@@ -112,7 +111,7 @@ fn add_inode(inodes: &mut BTreeSet<u64>, tree: &Tree, inode: u64) -> Result<(), 
     ensures { (v : Forest) → Stands tree.now v → IsLive (shape_of tree.now v) inode
         → OnOk result (keys inodes.new ≡ with_inode (shape_of tree.now v) (keys inodes.old) inode) }
 {
-    if !tree.is_dir(inode) && !tree.is_link(inode) {
+    if !tree.is_dir(inode) && !tree.is_link(inode) && tree.device(inode).is_none() {
         inodes.insert(inode)?;
     }
     Ok(())

@@ -1,6 +1,6 @@
 // The steps of a run of several commands, read from a file in an image's folder.
 ghost use Rattle.std.specs.Prelude.{◌≡◌, ◌≤◌, ℕ, Some, None, Err, IfOk, IfSome, length, option_map, option_and_then, vec_items, vec_len};
-ghost use Rattle.std.specs.Prelude.{codes, nat_le, ◌&&◌};
+ghost use Rattle.std.specs.Prelude.{codes, nat_le, ◌&&◌, []};
 ghost use Rattle.std.specs.List.{list_all};
 ghost use Rattle.std.specs.FinMap.{get};
 ghost use Rattle.serde_json.specs.Find.{get as member, as_array};
@@ -218,7 +218,7 @@ fn items_of(value: &Value) -> Option<&[Value]>
 
 // Whether a step may have these words.
 fn is_step(args: &[Blob], env: &[Blob]) -> bool
-    ensures { result ≡ is_step (record { args = args.now; env = env.now }) }
+    ensures { result ≡ is_step (record { args = args.now; env = env.now; input = [] }) }
 {
     !args.is_empty() && have_no_nul(args) && have_no_nul(env) && are_assignments(env)
 }

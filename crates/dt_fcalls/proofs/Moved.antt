@@ -3,7 +3,7 @@ use Rattle.std.proofs.Common.{◌≡◌, ℕ, ◌+◌, ◌<◌, ◌≤◌, List,
 use Rattle.std.proofs.lemmas.Bool.{cases_eq}
 use Rattle.dt_base.specs.declared.answer.Answer.TheVariants.{Value}
 use Rattle.dt_base.specs.declared.caller.Caller.{Caller}
-use Rattle.dt_host.specs.World.{World, Forest, OnlyForest, IsFile, IsDir, IsLive}
+use Rattle.dt_host.specs.World.{World, Forest, OnlyForest, IsFile, IsDir, IsDevice, IsLive}
 use Rattle.dt_host.proofs.Spots.{IsLive-IsDir}
 use Rattle.dt_space.specs.Space.{PageView}
 use Rattle.dt_tree.specs.Changes.{attributes_with_hold, tree_after_hold, tree_after_release}
@@ -11,7 +11,7 @@ use Rattle.dt_tree.specs.FileTree.{FileTree, holds_of, IsTree}
 use Rattle.dt_tree.specs.Shape.{one_for}
 use Rattle.dt_tree.specs.Table.{Table, Stands, shape_of, tree_of}
 use Rattle.dt_tree.proofs.Changing.{IsTreeBut-with_attributes}
-use Rattle.dt_tree.proofs.Holding.{holds-held, holds-released, shape-held, IsFile-released, IsDir-released}
+use Rattle.dt_tree.proofs.Holding.{holds-held, holds-released, shape-held, IsFile-released, IsDir-released, IsDevice-released}
 use Rattle.dt_tree.proofs.Namings.{one_for-same, one_for-other}
 use Rattle.dt_callbase.specs.declared.fs.Fs.{Fs}
 use Rattle.dt_fcalls.specs.Nodes.{cwd_reply}
@@ -49,6 +49,9 @@ module _ (t : FileTree) (n c : ℕ) (tree : IsTree t) (live : IsLive t.shape n) 
   pub dirs-moved : (q : ℕ) → 1 + one_for q c ≤ holds_of t q → IsDir t.shape q → (let new = tree_after_release (tree_after_hold t n) c in IsDir new.shape q)
   dirs-moved q enough is = IsDir-released (tree_after_hold t n) c held_tree q (λ _. held-moved q enough) (subst (λ v. IsDir v q) (sym (shape-held t n)) is)
 
+  pub devices-moved : (q : ℕ) → 1 + one_for q c ≤ holds_of t q → IsDevice t.shape q → (let new = tree_after_release (tree_after_hold t n) c in IsDevice new.shape q)
+  devices-moved q enough is = IsDevice-released (tree_after_hold t n) c held_tree q (λ _. held-moved q enough) (subst (λ v. IsDevice v q) (sym (shape-held t n)) is)
+
   -- the new working directory is held
   pub new-held : 1 ≤ holds_of (tree_after_release (tree_after_hold t n) c) n
   new-held =
@@ -78,7 +81,7 @@ reaches_moved fs new w v caller space n before now sound is stands tree rest lat
         let f = fs.files.descriptors in
         let new = tree_after_release (tree_after_hold t n) caller.cwd in
         subst (λ t. AllIn t.shape f) (sym tree)
-        (all_in-through f t.shape new.shape open-file open-dir sound.all_in);
+        (all_in-through f t.shape new.shape open-file open-dir open-device sound.all_in);
     enough = λ q.
         let now = ap (λ t. holds_of t q) tree in
         omega (arith, sound.enough q, holds-moved t n caller.cwd sound.stands.tree live some q);
@@ -92,6 +95,7 @@ reaches_moved fs new w v caller space n before now sound is stands tree rest lat
         omega (arith, holds-moved t n caller.cwd sound.stands.tree live some q);
     files = λ q enough file. subst (λ t. IsFile t.shape q) (sym tree) (files-moved t n caller.cwd sound.stands.tree live some q (omega arith) file);
     dirs = λ q enough dir. subst (λ t. IsDir t.shape q) (sym tree) (dirs-moved t n caller.cwd sound.stands.tree live some q (omega arith) dir);
+    devices = λ q enough device. subst (λ t. IsDevice t.shape q) (sym tree) (devices-moved t n caller.cwd sound.stands.tree live some q (omega arith) device);
   };
   rest = rest.pids;
   cause = record { later = later; rose = λ failed. cc };
@@ -113,3 +117,7 @@ reaches_moved fs new w v caller space n before now sound is stands tree rest lat
     open-dir : (q : ℕ) → 1 ≤ descriptions_of fs.files.descriptors q → IsDir t.shape q
         → (let new = tree_after_release (tree_after_hold t n) caller.cwd in IsDir new.shape q)
     open-dir q one dir = dirs-moved t n caller.cwd sound.stands.tree live some q (omega (arith, sound.enough q)) dir
+
+    open-device : (q : ℕ) → 1 ≤ descriptions_of fs.files.descriptors q → IsDevice t.shape q
+        → (let new = tree_after_release (tree_after_hold t n) caller.cwd in IsDevice new.shape q)
+    open-device q one device = devices-moved t n caller.cwd sound.stands.tree live some q (omega (arith, sound.enough q)) device

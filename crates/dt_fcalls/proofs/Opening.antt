@@ -6,7 +6,7 @@ use Rattle.dt_base.specs.declared.caller.Caller.{Caller}
 use Rattle.dt_base.specs.declared.errno.Errno.{Errno}
 use Rattle.dt_base.specs.declared.errno.Errno.TheVariants.{NoEnt, NoSpc, FBig}
 use Rattle.dt_base.specs.declared.image.What.TheVariants.{File}
-use Rattle.dt_base.specs.declared.limits.TheConstants.{FILE_LIMIT}
+use Rattle.dt_base.specs.Profile.{file_limit}
 use Rattle.dt_base.specs.Bytes.{with_length}
 use Rattle.dt_fds.specs.OpenFiles.{pipes_at}
 use Rattle.dt_host.specs.World.{World, Forest, OnlyForest, file, dir, IsFile, IsDir, node_at, names_at, content, with_node, with_entry}
@@ -30,10 +30,10 @@ use Rattle.dt_callbase.proofs.Kept.{sound_kept, others_kept}
 pub steps_done : {A : Type 0} (d : Scene → TreeAnswer A) (old : Fs) (tree : Table) (clock : ℕ) (w v : World) (caller : Caller) (space : List PageView) (value : A) (before now : ℕ)
     → Sound (stage old w caller space) → Stands tree v.forest → KeepsHeld (tree_of old.tree w.forest) (tree_of tree v.forest) → OnlyForest w v → before ≤ now → clock ≡ stamp (scene (stage old w caller space))
     → d (scene (stage old w caller space)) ≡ tree_answer (tree_of tree v.forest) value
-    → Steps d (stage old w caller space) (stage (record { tree = tree; files = old.files; clock = clock; rand = old.rand }) v caller space) (Ok (Ok value)) before now
+    → Steps d (stage old w caller space) (stage (record { tree = tree; files = old.files; clock = clock; rand = old.rand; input = old.input }) v caller space) (Ok (Ok value)) before now
 steps_done d old tree clock w v caller space value before now sound stands kept rest later at is =
     let s = scene (stage old w caller space) in
-    let new : Fs = record { tree = tree; files = old.files; clock = clock; rand = old.rand } in
+    let new : Fs = record { tree = tree; files = old.files; clock = clock; rand = old.rand; input = old.input } in
     let after = scene (stage new v caller space) in
     record {
       next = λ row.
@@ -82,7 +82,7 @@ unfolding tree_after_truncate with_attributes
 file-truncated t n len stamp = IsFile-with_bytes t.shape n (with_length (content t.shape n) len)
 
 pub file_cut : (t u : FileTree) (n len stamp : ℕ) → cut_of t n len stamp ≡ tree_answer u tt → IsFile u.shape n
-file_cut t u n len stamp e = by_test (nat_lt FILE_LIMIT len) e
+file_cut t u n len stamp e = by_test (nat_lt (file_limit t.version) len) e
   where
     by_test : (over : Bool) → ◌≡◌ {A = TreeAnswer (Unit {0})} (if over then tree_refusal t FBig else tree_answer (tree_after_truncate t n len stamp) tt) (tree_answer u tt) → IsFile u.shape n
     by_test true e = absurd (not_both (ap (λ (x : TreeAnswer (Unit {0})). x.answer) e))

@@ -9,7 +9,7 @@ use Rattle.dt_base.specs.declared.image.What.TheVariants as what
 use Rattle.dt_base.specs.declared.limits.TheConstants.{MODE_LIMIT}
 use Rattle.dt_fds.specs.declared.desc.Desc.{Desc}
 use Rattle.dt_fds.specs.declared.desc.DescKind.{DescKind}
-use Rattle.dt_fds.specs.declared.desc.DescKind.TheVariants.{File, Dir}
+use Rattle.dt_fds.specs.declared.desc.DescKind.TheVariants.{File, Dir, Device}
 use Rattle.dt_fds.specs.declared.desc.Spot.{Spot}
 use Rattle.dt_fds.specs.declared.desc.Spot.TheVariants.{At, After}
 use Rattle.dt_fds.specs.Descriptions.{table_at, lowest_free}
@@ -17,7 +17,7 @@ use Rattle.dt_fds.specs.Holding.{add_call}
 use Rattle.dt_host.specs.World.{Forest}
 use Rattle.dt_tree.specs.Calls.{TreeAnswer, make_node_of, cut_of}
 use Rattle.dt_tree.specs.FileTree.{FileTree}
-use Rattle.dt_tree.specs.Shape.{is_dir, is_link}
+use Rattle.dt_tree.specs.Shape.{is_dir, is_link, is_device}
 use Rattle.dt_walk.specs.declared.place.Place.{Place}
 use Rattle.dt_fcalls.specs.declared.open.TheConstants.{OPEN_FLAGS}
 use Rattle.dt_callbase.specs.declared.places.LastLink.{LastLink}
@@ -59,6 +59,10 @@ file_desc flags n = desc_of (File n) (At 0) flags
 abbrev pub dir_desc : ℕ → ℕ → Desc
 dir_desc flags n = desc_of (Dir n) (After None) flags
 
+-- a device is opened, at an offset that nothing asks for
+abbrev pub device_desc : ℕ → ℕ → Desc
+device_desc flags n = desc_of (Device n) (At 0) flags
+
 -- a description is opened under the lowest free descriptor, which is the answer
 abbrev pub open_reply : ℕ → Desc → Scene → Reply
 open_reply flags desc s = files_call_reply (λ fd. fd) s (add_call s.caller.vpid desc (has_flag flags O_CLOEXEC) (holding s))
@@ -90,7 +94,7 @@ open_missing_reply flags mode place s =
     else create_reply flags mode place s
 
 -- why a node is not opened, if so: EEXIST where only a new file is; ELOOP for a link; EISDIR for a directory that is to be
--- written, made or cut; ENOTDIR for a file where only a directory is
+-- written, made or cut; ENOTDIR for a file or a device where only a directory is
 abbrev pub open_refusal : Forest → ℕ → ℕ → Option Errno
 open_refusal v flags n =
     if is_exclusive flags then Some Exist
@@ -107,10 +111,11 @@ file_truncation n s = cut_of s.tree n 0 (stamp s)
 abbrev pub truncate_reply : ℕ → ℕ → Scene → Reply
 truncate_reply flags n s = on_done s (file_truncation n s) (λ done next. open_reply flags (file_desc flags n) next)
 
--- a node that may be opened is
+-- a node that may be opened is: O_TRUNC has no effect on a device
 abbrev pub open_node_reply : ℕ → ℕ → Scene → Reply
 open_node_reply flags n s =
     if is_dir s.tree.shape n then open_reply flags (dir_desc flags n) s
+    else if is_device s.tree.shape n then open_reply flags (device_desc flags n) s
     else if has_flag flags O_TRUNC then truncate_reply flags n s
     else open_reply flags (file_desc flags n) s
 

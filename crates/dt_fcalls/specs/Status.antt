@@ -6,8 +6,8 @@ use Rattle.dt_base.specs.declared.abi.TheConstants.{AT_FDCWD, AT_EMPTY_PATH, AT_
 use Rattle.dt_base.specs.declared.errno.Errno.{Errno}
 use Rattle.dt_base.specs.declared.errno.Errno.TheVariants.{NoEnt, Inval, Range}
 use Rattle.dt_fds.specs.declared.desc.DescKind.{DescKind}
-use Rattle.dt_fds.specs.declared.desc.DescKind.TheVariants.{File, Dir, PipeRead, PipeWrite, Input, Stream}
-use Rattle.dt_host.specs.World.{target_at}
+use Rattle.dt_fds.specs.declared.desc.DescKind.TheVariants.{File, Dir, Device, PipeRead, PipeWrite, Input, Stream}
+use Rattle.dt_host.specs.World.{target_at, device_at}
 use Rattle.dt_space.specs.Space.{PageView}
 use Rattle.dt_tree.specs.Above.{path_of}
 use Rattle.dt_tree.specs.declared.meta.Meta.{Meta}
@@ -54,7 +54,7 @@ readlinkat_row args s =
 -- the status of a node goes to a buffer: ENOENT where there is none
 abbrev pub status_fill_reply : Scene → ℕ → ℕ → Option Meta → Reply
 status_fill_reply s buffer n None = refused_reply s NoEnt
-status_fill_reply s buffer n (Some meta) = fill_reply s buffer (stat_of n meta) 0
+status_fill_reply s buffer n (Some meta) = fill_reply s buffer (stat_of n meta (device_at s.tree.shape n)) 0
 
 -- the status of a node is told
 abbrev pub status_reply : ℕ → ℕ → Scene → Reply
@@ -64,6 +64,7 @@ status_reply buffer n s = status_fill_reply s buffer n (meta_of s.tree n)
 abbrev pub status_reply_by_kind : ℕ → DescKind → Scene → Reply
 status_reply_by_kind buffer (File n) s = status_reply buffer n s
 status_reply_by_kind buffer (Dir n) s = status_reply buffer n s
+status_reply_by_kind buffer (Device n) s = status_reply buffer n s
 status_reply_by_kind buffer (PipeRead q) s = fill_reply s buffer (pipe_stat q) 0
 status_reply_by_kind buffer (PipeWrite q) s = fill_reply s buffer (pipe_stat q) 0
 status_reply_by_kind buffer Input s = fill_reply s buffer stream_stat 0

@@ -6,10 +6,10 @@ ghost use Rattle.dt_fds.specs.Descriptions.{IsDesc, pipe_of};
 ghost use Rattle.dt_host.specs.Asks.{Asks};
 ghost use Rattle.dt_base.specs.declared.limits.TheConstants.{MODE_LIMIT as MOST};
 ghost use Rattle.dt_fcalls.specs.inner.Steps.{Steps};
-ghost use Rattle.dt_host.specs.World.{Forest, IsFile, IsDir, IsLive};
+ghost use Rattle.dt_host.specs.World.{Forest, IsFile, IsDir, IsDevice, IsLive};
 ghost use Rattle.dt_tree.specs.Calls.{IsNewName};
 ghost use Rattle.dt_tree.specs.Table.{Stands, shape_of, tree_of};
-ghost use Rattle.dt_fcalls.specs.Open.{access_of, is_exclusive, open_rule, desc_of, file_desc, dir_desc, open_reply};
+ghost use Rattle.dt_fcalls.specs.Open.{access_of, is_exclusive, open_rule, desc_of, file_desc, dir_desc, device_desc, open_reply};
 ghost use Rattle.dt_fcalls.specs.Open.{file_creation, create_reply, open_missing_reply, open_refusal, file_truncation};
 ghost use Rattle.dt_fcalls.specs.Open.{truncate_reply, open_found_reply};
 ghost use Rattle.dt_fcalls.specs.Open.{open_at_reply, is_full, place_of_path, open_path_reply, openat_row};
@@ -149,6 +149,25 @@ fn open_dir<H: Host>(
         (stage fs.new (H.view host.now) caller.now space.now) result (H.count host.now) (H.count host.now) }
 {
     let desc = desc_of(DescKind::Dir(n), Spot::After(None), flags);
+    open_desc(fs, host, caller, space, desc, flags)
+}
+
+// Opens a device.
+fn open_device<H: Host>(
+    fs: &mut Fs,
+    host: &H,
+    caller: &Caller,
+    space: &Space,
+    flags: u32,
+    n: u64,
+) -> Result<Answer, HostErr>
+    requires sound { Sound (stage fs.old (H.view host.now) caller.now space.now) }
+    requires device { IsDevice (shape_of fs.old.tree (H.view host.now).forest) n }
+    requires access { access_of flags ≤ 2 }
+    ensures { HasReplyOf (open_reply flags (device_desc flags n)) (stage fs.old (H.view host.now) caller.now space.now)
+        (stage fs.new (H.view host.now) caller.now space.now) result (H.count host.now) (H.count host.now) }
+{
+    let desc = desc_of(DescKind::Device(n), Spot::At(0), flags);
     open_desc(fs, host, caller, space, desc, flags)
 }
 
@@ -333,6 +352,9 @@ fn open_node<H: Host>(
     }
     if fs.tree.is_dir(n) {
         return open_dir(fs, host, caller, space, flags, n);
+    }
+    if fs.tree.device(n).is_some() {
+        return open_device(fs, host, caller, space, flags, n);
     }
     if has_flag(flags, O_TRUNC) {
         return cut_and_open(fs, host, caller, space, flags, n);

@@ -2,15 +2,15 @@
 ghost use Rattle.std.specs.Prelude.{◌≡◌, ◌+◌, ◌≤◌, length};
 ghost use Rattle.dt_fcalls.specs.declared.stat.TheConstants.{STAT_LEN as LEN};
 ghost use Rattle.dt_callbase.specs.declared.wall_time.TheConstants.{NANOSECONDS as HALF};
-ghost use Rattle.dt_fcalls.specs.Stat.{type_bits, st_blocks, node_status, outer_status, stream_status, pipe_status};
+ghost use Rattle.dt_fcalls.specs.Stat.{type_bits, device_number, st_blocks, node_status, outer_status, stream_status, pipe_status};
 ghost use Rattle.dt_fcalls.specs.Stat.{with_identity, with_size_fields, with_time, stat_bytes};
 ghost use Rattle.dt_fcalls.specs.Stat.{stat_of, stream_stat, pipe_stat};
 
 use dt_base::abi::{
-    AT_EMPTY_PATH, AT_NO_AUTOMOUNT, AT_SYMLINK_NOFOLLOW, DT_DIR, DT_LNK, DT_REG, S_IFCHR, S_IFDIR,
-    S_IFIFO, S_IFLNK, S_IFREG,
+    AT_EMPTY_PATH, AT_NO_AUTOMOUNT, AT_SYMLINK_NOFOLLOW, DT_CHR, DT_DIR, DT_LNK, DT_REG, S_IFCHR,
+    S_IFDIR, S_IFIFO, S_IFLNK, S_IFREG,
 };
-use dt_base::{put32, put64};
+use dt_base::{Device, put32, put64};
 use dt_callbase::wall_time::{FIRST_SECOND, NANOSECONDS, SECOND_TICKS};
 use dt_tree::Meta;
 
@@ -31,6 +31,9 @@ pub const ST_MODE: usize = 16;
 
 /// The link count, 4 bytes.
 pub const ST_NLINK: usize = 20;
+
+/// Which device it is, 8 bytes; 0 where it is none.
+pub const ST_RDEV: usize = 32;
 
 /// The size in bytes, 8 bytes.
 pub const ST_SIZE: usize = 48;
@@ -63,6 +66,15 @@ pub const STREAM_INODE: u64 = 0x1_0000_0000;
 /// The number of the one device.
 pub const DEVICE: u64 = 1;
 
+/// The number of the null device: major 1, minor 3 (null(4), makedev(3), as the next two).
+pub const NULL_DEVICE: u64 = 0x103;
+
+/// The number of the device of zeros.
+pub const ZERO_DEVICE: u64 = 0x105;
+
+/// The number of the device of random bytes (random(4)).
+pub const RANDOM_DEVICE: u64 = 0x108;
+
 /// What st_blksize says.
 pub const BLOCK_SIZE: u32 = 4_096;
 
@@ -76,7 +88,20 @@ fn type_bits(kind: u8) -> u32
     match kind {
         DT_DIR => S_IFDIR,
         DT_LNK => S_IFLNK,
+        DT_CHR => S_IFCHR,
         _ => S_IFREG,
+    }
+}
+
+// The number of a device; 0 of what is none.
+fn device_number(device: Option<Device>) -> u64
+    ensures { result ≡ device_number device }
+{
+    match device {
+        Some(Device::Null) => NULL_DEVICE,
+        Some(Device::Zero) => ZERO_DEVICE,
+        Some(Device::Random) => RANDOM_DEVICE,
+        None => 0,
     }
 }
 
@@ -98,6 +123,8 @@ pub struct Status {
     /// The type and the mode.
     pub mode: u32,
     pub nlink: u32,
+    /// The number of the device that it is; 0 where it is none.
+    pub device: u64,
     /// The size in bytes.
     pub size: u64,
     /// The sectors that it takes.
@@ -107,13 +134,14 @@ pub struct Status {
 }
 
 impl Status {
-    fn of_node(inode: u64, meta: &Meta) -> Self
-        ensures { result ≡ node_status inode meta.now }
+    fn of_node(inode: u64, meta: &Meta, device: Option<Device>) -> Self
+        ensures { result ≡ node_status inode meta.now device }
     {
         Status {
             inode,
             mode: type_bits(meta.kind) | meta.mode,
             nlink: meta.nlink,
+            device: device_number(device),
             size: meta.size,
             blocks: blocks(meta),
             stamp: meta.stamp,
@@ -128,6 +156,7 @@ impl Status {
             inode,
             mode,
             nlink: 1,
+            device: 0,
             size: 0,
             blocks: 0,
             stamp: 0,
@@ -158,6 +187,7 @@ impl Status {
         put64(bytes, ST_INO, self.inode);
         put32(bytes, ST_MODE, self.mode);
         put32(bytes, ST_NLINK, self.nlink);
+        put64(bytes, ST_RDEV, self.device);
     }
 
     // Puts what tells its size.
@@ -198,10 +228,10 @@ fn put_time(bytes: &mut [u8], at: usize, stamp: u64)
 }
 
 /// The bytes of a node's status.
-pub(crate) fn stat_of(inode: u64, meta: &Meta) -> [u8; STAT_LEN]
-    ensures { result ≡ stat_of inode meta.now }
+pub(crate) fn stat_of(inode: u64, meta: &Meta, device: Option<Device>) -> [u8; STAT_LEN]
+    ensures { result ≡ stat_of inode meta.now device }
 {
-    Status::of_node(inode, meta).bytes()
+    Status::of_node(inode, meta, device).bytes()
 }
 
 /// The bytes of the status of the input and of the output streams.

@@ -4,9 +4,9 @@ use Rattle.std.proofs.lemmas.Bool.Decides.{nat_tests}
 use Rattle.std.specs.Prelude.{IfSome, IsSome, option_map, slice_set}
 use Rattle.std.specs.Cmp.{nat_cmp_total}
 use Rattle.std.specs.FinMap.{get, remove, nat_cmp-IsAntisymmetric}
-use Rattle.dt_host.specs.World.{Forest, IsFile, IsDir, IsLive}
+use Rattle.dt_host.specs.World.{Forest, IsFile, IsDir, IsDevice, IsLive}
 use Rattle.dt_tables.proofs.Maps.{at_insert, at_remove, get-insert_other, get-remove_other}
-use Rattle.dt_host.proofs.Spots.{IsLive-IsDir, IsLive-IsFile}
+use Rattle.dt_host.proofs.Spots.{IsLive-IsDir, IsLive-IsDevice, IsLive-IsFile}
 use Rattle.dt_tables.proofs.Totals.{total-insert, total-remove}
 use Rattle.dt_tables.specs.Total.{total}
 use Rattle.dt_tables.specs.inner.Weight.{weight}
@@ -15,10 +15,10 @@ use Rattle.dt_tree.specs.FileTree.{FileTree, IsTree, holds_of}
 use Rattle.dt_tree.specs.Shape.{one_for}
 use Rattle.dt_tree.specs.Changes.{tree_after_hold, with_some}
 use Rattle.dt_tree.specs.Calls.{KeepsHeld}
-use Rattle.dt_tree.proofs.Holding.{holds-held, shape-held, holds-released, IsFile-released, IsDir-released}
+use Rattle.dt_tree.proofs.Holding.{holds-held, shape-held, holds-released, IsFile-released, IsDir-released, IsDevice-released}
 use Rattle.dt_fds.specs.declared.desc.Desc.{Desc}
 use Rattle.dt_fds.specs.declared.desc.DescKind.{DescKind}
-use Rattle.dt_fds.specs.declared.desc.DescKind.TheVariants.{File, Dir, PipeRead, PipeWrite, Input, Stream}
+use Rattle.dt_fds.specs.declared.desc.DescKind.TheVariants.{File, Dir, Device, PipeRead, PipeWrite, Input, Stream}
 use Rattle.dt_fds.specs.declared.desc.Slot.{Slot}
 use Rattle.dt_fds.specs.Pipes.{PipesView, without_pipe}
 use Rattle.dt_fds.specs.Descriptions.{Descriptions, Table, inode_of, pipe_of, read_pipe, write_pipe, one_if_named, readers, writers, descriptors_of, table_at, with_slot, with_table, with_new_description, with_opened, without_unreferenced, without_slot, unreferenced, with_description, without_table}
@@ -92,6 +92,7 @@ kept-let_go t (Some desc) s kind some is = by_node (inode_of desc.kind) kind som
     by_node None kind some is = is
     by_node (Some m) (File n) some is = IsFile-released t m s n (λ _. some) is
     by_node (Some m) (Dir n) some is = IsDir-released t m s n (λ _. some) is
+    by_node (Some m) (Device n) some is = IsDevice-released t m s n (λ _. some) is
     by_node (Some m) (PipeRead q) some is = tt
     by_node (Some m) (PipeWrite q) some is = tt
     by_node (Some m) Input some is = tt
@@ -122,6 +123,7 @@ backs-held f t u held h =
     kept : (kind : DescKind) → IfSome (inode_of kind) (λ n. 1 ≤ holds_of u n) → IsIn t.shape kind → IsIn u.shape kind
     kept (File n) some is = held.files n (before n some) is
     kept (Dir n) some is = held.dirs n (before n some) is
+    kept (Device n) some is = held.devices n (before n some) is
     kept (PipeRead q) some is = tt
     kept (PipeWrite q) some is = tt
     kept Input some is = tt
@@ -145,6 +147,7 @@ end-counted f k q = by_found (get f.descs k) refl
             → IfSome (pipe_of kind) (λ r. r ≡ q → 0 < total (names_read q) f.descs + total (names_written q) f.descs)
         by_kind (File n) a b = tt
         by_kind (Dir n) a b = tt
+        by_kind (Device n) a b = tt
         by_kind (PipeRead r) a b = λ is. let one : one_for r q ≡ 1 = subst (λ x. one_for r x ≡ 1) is (one_for-same r) in omega arith
         by_kind (PipeWrite r) a b = λ is. let one : one_for r q ≡ 1 = subst (λ x. one_for r x ≡ 1) is (one_for-same r) in omega arith
         by_kind Input a b = tt
@@ -208,6 +211,7 @@ others-swept p f t k s h =
       holds = holds;
       files = λ n less is. kept-let_go t (unreferenced f k) s (File n) (omega (arith, holds n)) is;
       dirs = λ n less is. kept-let_go t (unreferenced f k) s (Dir n) (omega (arith, holds n)) is;
+      devices = λ n less is. kept-let_go t (unreferenced f k) s (Device n) (omega (arith, holds n)) is;
     }
 
 -- what a change of descriptions alone leaves
@@ -290,6 +294,7 @@ others-kept p f g t kept = record {
   holds = λ n. omega (arith, kept.counts n);
   files = λ n less is. is;
   dirs = λ n less is. is;
+  devices = λ n less is. is;
 }
 
 -- over two changes that leave what others hold it stays
@@ -299,6 +304,7 @@ KeepsOthers-then p a b c first second = record {
   holds = λ n. omega (arith, first.holds n, second.holds n);
   files = λ n less is. second.files n (omega (arith, first.holds n)) (first.files n less is);
   dirs = λ n less is. second.dirs n (omega (arith, first.holds n)) (first.dirs n less is);
+  devices = λ n less is. second.devices n (omega (arith, first.holds n)) (first.devices n less is);
 }
 
 -- so far some descriptors are closed, what others hold stays, nothing but the forest changed, and no fault was taken back
@@ -328,6 +334,7 @@ both f g t u p r q = λ i. record { files = p i; pipes = r i; tree = q i }
 pub live-in : (v : Forest) (kind : DescKind) → IsIn v kind → IfSome (inode_of kind) (λ n. IsLive v n)
 live-in v (File n) is = IsLive-IsFile v n is
 live-in v (Dir n) is = IsLive-IsDir v n is
+live-in v (Device n) is = IsLive-IsDevice v n is
 live-in v (PipeRead q) is = tt
 live-in v (PipeWrite q) is = tt
 live-in v Input is = tt
@@ -382,6 +389,7 @@ others-new p f t desc s fresh is = record {
   holds = λ n. omega (arith, nodes-new f desc n fresh, holds-with_hold t s n (inode_of desc.kind) (live-in t.shape desc.kind is));
   files = λ n less there. subst (λ v. IsFile v n) (sym (shape-with_hold t (inode_of desc.kind))) there;
   dirs = λ n less there. subst (λ v. IsDir v n) (sym (shape-with_hold t (inode_of desc.kind))) there;
+  devices = λ n less there. subst (λ v. IsDevice v n) (sym (shape-with_hold t (inode_of desc.kind))) there;
 }
 
 -- under a descriptor

@@ -23,7 +23,7 @@ use Rattle.dt_fds.specs.Descriptions.{description_at, slot_description, slot_at}
 use Rattle.dt_fds.specs.Holding.{Holding, without_end, pipes_after_end, pipes_without_description, read_of_content, read_from_pipe, read_by_description, pipe_content_by, write_to_pipe, write_by_description}
 use Rattle.dt_fds.specs.Ends.{AreCounted, is_read, is_written, one_if}
 use Rattle.dt_fds.specs.inner.Ends.{one_if_end, without_ends, last_end, without_last, pipe_end_by}
-use Rattle.dt_fds.specs.declared.desc.DescKind.TheVariants.{File, Dir, PipeRead, PipeWrite, Input, Stream}
+use Rattle.dt_fds.specs.declared.desc.DescKind.TheVariants.{File, Dir, Device, PipeRead, PipeWrite, Input, Stream}
 use Rattle.dt_fds.specs.Descriptions.{with_new_description, with_opened}
 use Rattle.dt_fds.specs.Backs.{AllEnds, KeepsNodes}
 use Rattle.dt_fds.proofs.Backing.{names_read, names_written, KeepsNodes-with_slot}
@@ -111,6 +111,7 @@ left-last f ends m (Some desc) counted = by_pipe (pipe_of desc.kind)
 no-end : (kind : DescKind) (q : ℕ) → pipe_of kind ≡ None → (one_if_named q (read_pipe kind) ≡ 0) × (one_if_named q (write_pipe kind) ≡ 0)
 no-end (File n) q e = (refl, refl)
 no-end (Dir n) q e = (refl, refl)
+no-end (Device n) q e = (refl, refl)
 no-end (PipeRead r) q e = cc
 no-end (PipeWrite r) q e = cc
 no-end Input q e = (refl, refl)
@@ -206,6 +207,7 @@ read-named (PipeRead r) q P h e = let same : r ≡ q = cc in subst P same h
 read-named (PipeWrite r) q P h e = cc
 read-named (File n) q P h e = cc
 read-named (Dir n) q P h e = cc
+read-named (Device n) q P h e = cc
 read-named Input q P h e = cc
 read-named (Stream stream) q P h e = cc
 
@@ -214,6 +216,7 @@ write-named (PipeWrite r) q P h e = let same : r ≡ q = cc in subst P same h
 write-named (PipeRead r) q P h e = cc
 write-named (File n) q P h e = cc
 write-named (Dir n) q P h e = cc
+write-named (Device n) q P h e = cc
 write-named Input q P h e = cc
 write-named (Stream stream) q P h e = cc
 

@@ -14,7 +14,7 @@ use Rattle.dt_tables.specs.Total.{total_in, total}
 use Rattle.dt_tables.specs.inner.Weight.{weight}
 use Rattle.dt_fds.specs.declared.desc.Desc.{Desc}
 use Rattle.dt_fds.specs.declared.desc.DescKind.{DescKind}
-use Rattle.dt_fds.specs.declared.desc.DescKind.TheVariants.{File, Dir, PipeRead, PipeWrite, Input, Stream}
+use Rattle.dt_fds.specs.declared.desc.DescKind.TheVariants.{File, Dir, Device, PipeRead, PipeWrite, Input, Stream}
 use Rattle.dt_fds.specs.Pipes.{PipesView}
 use Rattle.dt_fds.specs.Descriptions.{Descriptions, pipe_of, read_pipe, write_pipe, one_if_named, readers, writers}
 use Rattle.dt_fds.specs.Backs.{AllEnds}
@@ -67,6 +67,7 @@ read-its (PipeRead r) q e = e
 read-its (PipeWrite r) q e = cc
 read-its (File n) q e = cc
 read-its (Dir n) q e = cc
+read-its (Device n) q e = cc
 read-its Input q e = cc
 read-its (Stream stream) q e = cc
 
@@ -75,6 +76,7 @@ write-its (PipeWrite r) q e = e
 write-its (PipeRead r) q e = cc
 write-its (File n) q e = cc
 write-its (Dir n) q e = cc
+write-its (Device n) q e = cc
 write-its Input q e = cc
 write-its (Stream stream) q e = cc
 

@@ -4,7 +4,7 @@ use Rattle.std.specs.FinMap.{get}
 use Rattle.dt_host.specs.Cause.{HasCause}
 use Rattle.dt_tables.specs.Total.{total}
 use Rattle.dt_host.specs.World as host
-use Rattle.dt_host.specs.World.{World, Forest, IsFile, IsDir}
+use Rattle.dt_host.specs.World.{World, Forest, IsFile, IsDir, IsDevice}
 use Rattle.dt_host.specs.declared.error.HostErr.{HostErr}
 use Rattle.dt_host.specs.declared.error.HostErr.TheVariants.{Failed, NoMemory}
 use Rattle.dt_host.specs.declared.error.CallErr.{CallErr}
@@ -13,7 +13,7 @@ use Rattle.dt_tree.specs.FileTree.{holds_of}
 use Rattle.dt_tree.specs.Calls.{UnlessFailed}
 use Rattle.dt_tree.specs.Table.{Table, Stands, tree_of}
 use Rattle.dt_fds.specs.declared.desc.DescKind.{DescKind}
-use Rattle.dt_fds.specs.declared.desc.DescKind.TheVariants.{File, Dir, PipeRead, PipeWrite, Input, Stream}
+use Rattle.dt_fds.specs.declared.desc.DescKind.TheVariants.{File, Dir, Device, PipeRead, PipeWrite, Input, Stream}
 use Rattle.dt_fds.specs.Descriptions.{Descriptions, inode_of, pipe_of, one_if_named, readers, writers}
 use Rattle.dt_fds.specs.declared.files.Files.{Files}
 use Rattle.dt_fds.specs.Ends.{AreCounted}
@@ -30,6 +30,7 @@ descriptions_of f n = total (λ desc. one_if_named n (inode_of desc.kind)) f.des
 abbrev pub IsIn : Forest → DescKind → Type 0
 IsIn v (File n) = IsFile v n
 IsIn v (Dir n) = IsDir v n
+IsIn v (Device n) = IsDevice v n
 IsIn v (PipeRead q) = Unit {0}
 IsIn v (PipeWrite q) = Unit {0}
 IsIn v Input = Unit {0}
@@ -65,12 +66,13 @@ pub record KeepsNodes (p : ℕ) (old new : Descriptions) : Type 0 where
   pub all_ends : (pipes : PipesView) → AllEnds pipes old → AllEnds pipes new
 
 -- what others hold stays: the holds of a node that are of no description are as many as before, and where there are such,
--- a file stays a file and a directory a directory; and the tables of other processes stay
+-- a file stays a file, a directory a directory and a device a device; and the tables of other processes stay
 pub record KeepsOthers (p : ℕ) (old new : Holding) : Type 0 where
   pub tables : KeepsTables p old.files new.files
   pub holds : (n : ℕ) → holds_of new.tree n + descriptions_of old.files n ≡ holds_of old.tree n + descriptions_of new.files n
   pub files : (n : ℕ) → descriptions_of old.files n < holds_of old.tree n → IsFile old.tree.shape n → IsFile new.tree.shape n
   pub dirs : (n : ℕ) → descriptions_of old.files n < holds_of old.tree n → IsDir old.tree.shape n → IsDir new.tree.shape n
+  pub devices : (n : ℕ) → descriptions_of old.files n < holds_of old.tree n → IsDevice old.tree.shape n → IsDevice new.tree.shape n
 
 -- where the code stands: its open files, its tree's table, and what its host keeps
 pub record At : Type 0 where

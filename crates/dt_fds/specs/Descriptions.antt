@@ -11,15 +11,16 @@ use Rattle.dt_tree.specs.Shape.{one_for}
 use Rattle.dt_fds.specs.declared.desc.TheConstants.{DESCRIPTOR_LIMIT}
 use Rattle.dt_fds.specs.declared.desc.Desc.{Desc}
 use Rattle.dt_fds.specs.declared.desc.DescKind.{DescKind}
-use Rattle.dt_fds.specs.declared.desc.DescKind.TheVariants.{File, Dir, PipeRead, PipeWrite, Input, Stream}
+use Rattle.dt_fds.specs.declared.desc.DescKind.TheVariants.{File, Dir, Device, PipeRead, PipeWrite, Input, Stream}
 use Rattle.dt_fds.specs.declared.desc.Spot.{Spot}
 use Rattle.dt_fds.specs.declared.desc.Spot.TheVariants.{At, After}
 use Rattle.dt_fds.specs.declared.desc.Slot.{Slot}
 
--- the inode of a description, if it is of a file or a directory
+-- the inode of a description, if it is of a file, a directory or a device
 abbrev pub inode_of : DescKind → Option ℕ
 inode_of (File n) = Some n
 inode_of (Dir n) = Some n
+inode_of (Device n) = Some n
 inode_of (PipeRead q) = None
 inode_of (PipeWrite q) = None
 inode_of Input = None
@@ -29,6 +30,7 @@ inode_of (Stream stream) = None
 abbrev pub pipe_of : DescKind → Option ℕ
 pipe_of (File n) = None
 pipe_of (Dir n) = None
+pipe_of (Device n) = None
 pipe_of (PipeRead q) = Some q
 pipe_of (PipeWrite q) = Some q
 pipe_of Input = None
@@ -38,6 +40,7 @@ pipe_of (Stream stream) = None
 abbrev pub read_pipe : DescKind → Option ℕ
 read_pipe (File n) = None
 read_pipe (Dir n) = None
+read_pipe (Device n) = None
 read_pipe (PipeRead q) = Some q
 read_pipe (PipeWrite q) = None
 read_pipe Input = None
@@ -47,6 +50,7 @@ read_pipe (Stream stream) = None
 abbrev pub write_pipe : DescKind → Option ℕ
 write_pipe (File n) = None
 write_pipe (Dir n) = None
+write_pipe (Device n) = None
 write_pipe (PipeRead q) = None
 write_pipe (PipeWrite q) = Some q
 write_pipe Input = None
@@ -61,6 +65,7 @@ one_if_named n (Some m) = one_for m n
 abbrev pub is_of_dir : DescKind → Bool
 is_of_dir (File n) = false
 is_of_dir (Dir n) = true
+is_of_dir (Device n) = false
 is_of_dir (PipeRead q) = false
 is_of_dir (PipeWrite q) = false
 is_of_dir Input = false
@@ -75,6 +80,7 @@ is_after (After name) = true
 abbrev pub IsKind : DescKind → Type 0
 IsKind (File n) = Unit {0}
 IsKind (Dir n) = Unit {0}
+IsKind (Device n) = Unit {0}
 IsKind (PipeRead q) = Unit {0}
 IsKind (PipeWrite q) = Unit {0}
 IsKind Input = Unit {0}

@@ -6,7 +6,7 @@ use Rattle.dt_base.specs.Abi.{has_flag}
 use Rattle.dt_fds.specs.declared.poll.TheConstants.{POLLIN, POLLOUT, POLLERR, POLLHUP, POLLNVAL}
 use Rattle.dt_fds.specs.declared.desc.Desc.{Desc}
 use Rattle.dt_fds.specs.declared.desc.DescKind.{DescKind}
-use Rattle.dt_fds.specs.declared.desc.DescKind.TheVariants.{File, Dir, PipeRead, PipeWrite, Input, Stream}
+use Rattle.dt_fds.specs.declared.desc.DescKind.TheVariants.{File, Dir, Device, PipeRead, PipeWrite, Input, Stream}
 use Rattle.dt_fds.specs.Descriptions.{Descriptions, description_at, readers, writers}
 use Rattle.dt_fds.specs.Pipes.{PipesView, pipe_content, room}
 
@@ -34,6 +34,7 @@ unfailing_events asked = bit_or (event_if (has_flag asked POLLIN) POLLIN) (event
 abbrev pub events_of_kind : ℕ → Descriptions → PipesView → DescKind → ℕ
 events_of_kind asked f pipes (File n) = unfailing_events asked
 events_of_kind asked f pipes (Dir n) = unfailing_events asked
+events_of_kind asked f pipes (Device n) = unfailing_events asked
 events_of_kind asked f pipes (PipeRead q) = read_end_events asked (length (pipe_content pipes q)) (writers f q)
 events_of_kind asked f pipes (PipeWrite q) = write_end_events asked (length (pipe_content pipes q)) (readers f q)
 events_of_kind asked f pipes Input = unfailing_events asked

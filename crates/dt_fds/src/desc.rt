@@ -14,6 +14,8 @@ pub enum DescKind {
     File(u64),
     /// A directory of the tree, by its inode.
     Dir(u64),
+    /// A device of the tree, by its inode.
+    Device(u64),
     /// The end of a pipe that is read from, by the pipe's number (pipe(2)).
     PipeRead(u32),
     /// The end of a pipe that is written to, by the pipe's number.
@@ -25,12 +27,12 @@ pub enum DescKind {
 }
 
 impl DescKind {
-    /// The inode of the file or directory.
+    /// The inode of the file, directory or device.
     pub fn inode(self) -> Option<u64>
         ensures { result ≡ inode_of self }
     {
         match self {
-            DescKind::File(n) | DescKind::Dir(n) => Some(n),
+            DescKind::File(n) | DescKind::Dir(n) | DescKind::Device(n) => Some(n),
             DescKind::PipeRead(_)
             | DescKind::PipeWrite(_)
             | DescKind::Input
@@ -44,7 +46,11 @@ impl DescKind {
     {
         match self {
             DescKind::PipeRead(q) | DescKind::PipeWrite(q) => Some(q),
-            DescKind::File(_) | DescKind::Dir(_) | DescKind::Input | DescKind::Stream(_) => None,
+            DescKind::File(_)
+            | DescKind::Dir(_)
+            | DescKind::Device(_)
+            | DescKind::Input
+            | DescKind::Stream(_) => None,
         }
     }
 
@@ -56,6 +62,7 @@ impl DescKind {
             DescKind::PipeRead(q) => Some(q),
             DescKind::File(_)
             | DescKind::Dir(_)
+            | DescKind::Device(_)
             | DescKind::PipeWrite(_)
             | DescKind::Input
             | DescKind::Stream(_) => None,
@@ -70,6 +77,7 @@ impl DescKind {
             DescKind::PipeWrite(q) => Some(q),
             DescKind::File(_)
             | DescKind::Dir(_)
+            | DescKind::Device(_)
             | DescKind::PipeRead(_)
             | DescKind::Input
             | DescKind::Stream(_) => None,

@@ -54,8 +54,14 @@ pub(crate) fn close_end(ends: &mut Numbered<Ends>, kind: Option<DescKind>) -> Op
     match kind {
         Some(DescKind::PipeRead(q)) => close_read(ends, q),
         Some(DescKind::PipeWrite(q)) => close_write(ends, q),
-        Some(DescKind::File(_) | DescKind::Dir(_) | DescKind::Input | DescKind::Stream(_)) | None =>
-            None,
+        Some(
+            DescKind::File(_)
+            | DescKind::Dir(_)
+            | DescKind::Device(_)
+            | DescKind::Input
+            | DescKind::Stream(_),
+        )
+        | None => None,
     }
 }
 

@@ -59,8 +59,11 @@ impl Files {
         match kind {
             DescKind::PipeRead(q) => self.ready_to_read(q, events),
             DescKind::PipeWrite(q) => self.ready_to_write(q, events),
-            DescKind::File(_) | DescKind::Dir(_) | DescKind::Input | DescKind::Stream(_) =>
-                unfailing_events(events),
+            DescKind::File(_)
+            | DescKind::Dir(_)
+            | DescKind::Device(_)
+            | DescKind::Input
+            | DescKind::Stream(_) => unfailing_events(events),
         }
     }
 

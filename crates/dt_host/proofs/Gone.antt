@@ -6,10 +6,10 @@ use Rattle.std.specs.Cmp.{nat_cmp_total}
 use Rattle.std.specs.Cmp.Lexicographic.{slice_cmp, nat_list_cmp_total}
 use Rattle.std.specs.Ordering.{nat_cmp}
 use Rattle.std.specs.FinMap.{empty, same_map, len, get, insert, remove, get-empty, nat_cmp-IsAntisymmetric}
-use Rattle.dt_host.specs.World.{Forest, Node, Names, file, dir, link, node_at, file_bytes, dir_names, names_at, entry, with_node, with_entry, without_entry, without_node, IsDir, IsFile, IsLive, IsBare}
+use Rattle.dt_host.specs.World.{Forest, Node, Names, file, dir, link, device, node_at, file_bytes, dir_names, names_at, entry, with_node, with_entry, without_entry, without_node, IsDir, IsFile, IsLive, IsBare, node_device, IsDevice}
 use Rattle.dt_tables.proofs.Maps.{at_insert, at_remove, names_tie, remove_none, put_back, insert_same, get-insert_same, get-insert_other, get-remove_other, get-remove_same}
 use Rattle.dt_host.proofs.Worlds.{node_at-with_node}
-use Rattle.dt_host.proofs.Changes.{entry_alike, apart_from_file}
+use Rattle.dt_host.proofs.Changes.{entry_alike, apart_from_file, apart_from_device}
 use Rattle.dt_host.proofs.Spots.{at_node, entry_here, entry_other, IsLive-IsDir, is_some-with_node, len-with_node}
 
 module _ (v : Forest) (d : ℕ) (name : List ℕ) where
@@ -31,6 +31,10 @@ module _ (v : Forest) (d : ℕ) (name : List ℕ) where
   pub IsDir-from_without_entry : IsDir v d → (q : ℕ) → IsDir (without_entry v d name) q → IsDir v q
   unfolding without_entry
   IsDir-from_without_entry is q = at_node v d _ (λ found. IsSome (option_and_then dir_names found) → IsDir v q) q (λ same _. subst (IsDir v) (sym same) is) (λ _ h. h)
+
+  pub IsDevice-without_entry : IsDir v d → (q : ℕ) → IsDevice v q → IsDevice (without_entry v d name) q
+  unfolding without_entry
+  IsDevice-without_entry is q h = at_node v d _ (λ found. IsSome (option_and_then node_device found)) q (λ same. absurd (apart_from_device v d q is h (sym same))) (λ _. h)
 
   pub IsFile-without_entry : IsDir v d → (q : ℕ) → IsFile v q → IsFile (without_entry v d name) q
   unfolding without_entry
@@ -62,6 +66,9 @@ module _ (v : Forest) (n : ℕ) (bare : IsBare v n) where
   pub IsDir-without_node : (q : ℕ) → q ≢ n → IsDir v q → IsDir (without_node v n) q
   IsDir-without_node q apart h = at_remove nat_cmp_total nat_cmp-IsAntisymmetric (λ found. IsSome (option_and_then dir_names found)) v.nodes n q (λ same. absurd (apart same)) (λ _. h)
 
+  pub IsDevice-without_node : (q : ℕ) → q ≢ n → IsDevice v q → IsDevice (without_node v n) q
+  IsDevice-without_node q apart h = at_remove nat_cmp_total nat_cmp-IsAntisymmetric (λ found. IsSome (option_and_then node_device found)) v.nodes n q (λ same. absurd (apart same)) (λ _. h)
+
   pub IsFile-without_node : (q : ℕ) → q ≢ n → IsFile v q → IsFile (without_node v n) q
   IsFile-without_node q apart h = at_remove nat_cmp_total nat_cmp-IsAntisymmetric (λ found. IsSome (option_and_then file_bytes found)) v.nodes n q (λ same. absurd (apart same)) (λ _. h)
 
@@ -82,6 +89,7 @@ dir_node None h = cc
 dir_node (Some (file bytes)) h = cc
 dir_node (Some (dir names)) h = refl
 dir_node (Some (link target)) h = cc
+dir_node (Some (device which)) h = cc
 
 -- to take away an entry that isn't there changes nothing
 pub without_entry-none : (v : Forest) (d : ℕ) (name : List ℕ) → IsDir v d → entry v d name ≡ None → without_entry v d name ≡ v

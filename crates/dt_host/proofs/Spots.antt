@@ -6,7 +6,7 @@ use Rattle.std.specs.Cmp.{nat_cmp_total}
 use Rattle.std.specs.Cmp.Lexicographic.{slice_cmp, nat_list_cmp_total}
 use Rattle.std.specs.Ordering.{nat_cmp}
 use Rattle.std.specs.FinMap.{empty, len, len-insert, get, insert, get-empty, nat_cmp-IsAntisymmetric}
-use Rattle.dt_host.specs.World.{Forest, Node, file, dir, link, node_at, file_bytes, dir_names, names_at, entry, with_node, with_entry, IsDir, IsFile, IsLive}
+use Rattle.dt_host.specs.World.{Forest, Node, file, dir, link, device, node_at, file_bytes, dir_names, names_at, entry, with_node, with_entry, IsDir, IsFile, IsLive, node_device, IsDevice}
 use Rattle.dt_tables.proofs.Found.{none_within, not_both, some_true}
 use Rattle.dt_tables.proofs.Maps.{at_insert, names_tie}
 use Rattle.dt_host.proofs.Worlds.{node_at-with_node, node_at-with_node_other}
@@ -22,6 +22,7 @@ IsDir-entry v d name n e = by_node (node_at v d) e
     by_node (Some (file bytes)) h = absurd (not_both _ n (get-empty (slice_cmp nat_cmp) name) h)
     by_node (Some (dir names)) h = refl
     by_node (Some (link target)) h = absurd (not_both _ n (get-empty (slice_cmp nat_cmp) name) h)
+    by_node (Some (device which)) h = absurd (not_both _ n (get-empty (slice_cmp nat_cmp) name) h)
 
 -- a directory and a file are live
 pub IsLive-IsDir : (v : Forest) (d : ℕ) → IsDir v d → IsLive v d
@@ -35,6 +36,13 @@ pub IsLive-IsFile : (v : Forest) (n : ℕ) → IsFile v n → IsLive v n
 IsLive-IsFile v n h = by_node (node_at v n) h
   where
     by_node : (found : Option Node) → IsSome (option_and_then file_bytes found) → IsSome found
+    by_node None h = cc
+    by_node (Some node) h = refl
+
+pub IsLive-IsDevice : (v : Forest) (n : ℕ) → IsDevice v n → IsLive v n
+IsLive-IsDevice v n h = by_node (node_at v n) h
+  where
+    by_node : (found : Option Node) → IsSome (option_and_then node_device found) → IsSome found
     by_node None h = cc
     by_node (Some node) h = refl
 
@@ -92,6 +100,9 @@ module _ (v : Forest) (n : ℕ) (node : Node) (free : node_at v n ≡ None) (non
 
   pub IsDir-from_with_new : (q : ℕ) → q ≢ n → IsDir (with_node v n node) q → IsDir v q
   IsDir-from_with_new q apart = at_node v n node (λ found. IsSome (option_and_then dir_names found) → IsDir v q) q (λ same _. absurd (apart same)) (λ _ h. h)
+
+  pub IsDevice-with_new : (q : ℕ) → IsDevice v q → IsDevice (with_node v n node) q
+  IsDevice-with_new q h = at_node v n node (λ found. IsSome (option_and_then node_device found)) q (λ same. absurd (none_within node_device (node_at v q) (ap (node_at v) same ∙ free) h)) (λ _. h)
 
   pub IsFile-with_new : (q : ℕ) → IsFile v q → IsFile (with_node v n node) q
   IsFile-with_new q h = at_node v n node (λ found. IsSome (option_and_then file_bytes found)) q (λ same. absurd (none_within file_bytes (node_at v q) (ap (node_at v) same ∙ free) h)) (λ _. h)

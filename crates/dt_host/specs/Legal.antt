@@ -6,20 +6,21 @@ use Rattle.std.specs.FinMap.{empty, get}
 use Rattle.std.specs.FinSet.{contains, insert, remove}
 use Rattle.dt_host.specs.declared.entry.HostEntry.{HostEntry}
 use Rattle.dt_host.specs.declared.kind.NodeKind.{NodeKind}
-use Rattle.dt_host.specs.declared.kind.NodeKind.TheVariants.{File, Dir, Pipe, Link}
+use Rattle.dt_host.specs.declared.kind.NodeKind.TheVariants.{File, Dir, Pipe, Link, Device}
 use Rattle.dt_host.specs.Sink.{MovesSome}
-use Rattle.dt_host.specs.World.{World, Forest, file, dir, link, node_at, with_node, with_forest, with_pids, with_pipe}
+use Rattle.dt_host.specs.World.{World, Forest, file, dir, link, device, node_at, with_node, with_forest, with_pids, with_pipe}
 use Rattle.dt_host.specs.World.{without_pipe, with_entry, without_entry, without_node, with_bytes, content, pipe_bytes}
 use Rattle.dt_host.specs.World.{IsLive, IsNameless, IsBare}
 use Rattle.dt_base.specs.Bytes.{with_bytes_at, with_length}
 
 -- the world with something new of that kind, under this number: an empty file, a directory without entries, an empty pipe,
--- or a link
+-- a link, or a device
 abbrev pub with_new : World → ℕ → NodeKind → World
 with_new w n File = with_forest w (with_node w.forest n (file []))
 with_new w n Dir = with_forest w (with_node w.forest n (dir empty))
 with_new w n Pipe = with_pipe w n []
 with_new w n (Link target) = with_forest w (with_node w.forest n (link target))
+with_new w n (Device which) = with_forest w (with_node w.forest n (device which))
 
 -- a new node or pipe was made under a number that was free
 pub record MadeAt (old : World) (kind : NodeKind) (new : World) (n : ℕ) : Type 0 where

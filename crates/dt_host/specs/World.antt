@@ -5,16 +5,18 @@ use Rattle.std.specs.Cmp.Lexicographic.{slice_cmp}
 use Rattle.std.specs.FinMap.{FinMap, empty, get, insert, remove}
 use Rattle.std.specs.FinSet as set
 use Rattle.std.specs.FinSet.{FinSet, contains}
+use Rattle.dt_base.specs.declared.image.Device.{Device}
 
 -- the entries of a directory: a node's number by the bytes of its name
 abbrev pub Names : Type 0
 Names = FinMap (slice_cmp nat_cmp) ℕ
 
--- the bytes of a file, the entries of a directory, or the target of a link
+-- the bytes of a file, the entries of a directory, the target of a link, or which device it is
 pub data Node : Type 0 where
   file : List ℕ → Node
   dir : Names → Node
   link : List ℕ → Node
+  device : Device → Node
 
 -- the live nodes by number, and the number of the root
 pub record Forest : Type 0 where
@@ -48,18 +50,28 @@ abbrev pub file_bytes : Node → Option (List ℕ)
 file_bytes (file bytes) = Some bytes
 file_bytes (dir names) = None
 file_bytes (link target) = None
+file_bytes (device which) = None
 
 -- the entries of a node that is a directory
 abbrev pub dir_names : Node → Option Names
 dir_names (file bytes) = None
 dir_names (dir names) = Some names
 dir_names (link target) = None
+dir_names (device which) = None
 
 -- the target of a node that is a link
 abbrev pub link_target : Node → Option (List ℕ)
 link_target (file bytes) = None
 link_target (dir names) = None
 link_target (link target) = Some target
+link_target (device which) = None
+
+-- which device a node is that is one
+abbrev pub node_device : Node → Option Device
+node_device (file bytes) = None
+node_device (dir names) = None
+node_device (link target) = None
+node_device (device which) = Some which
 
 -- the bytes of the file of that number
 abbrev pub file_at : Forest → ℕ → Option (List ℕ)
@@ -73,6 +85,10 @@ dir_at v n = option_and_then dir_names (node_at v n)
 abbrev pub target_at : Forest → ℕ → Option (List ℕ)
 target_at v n = option_and_then link_target (node_at v n)
 
+-- the device of that number
+abbrev pub device_at : Forest → ℕ → Option Device
+device_at v n = option_and_then node_device (node_at v n)
+
 -- the number is one of a file
 abbrev pub IsFile : Forest → ℕ → Type 0
 IsFile v n = IsSome (file_at v n)
@@ -84,6 +100,10 @@ IsDir v n = IsSome (dir_at v n)
 -- the number is one of a link
 abbrev pub IsLink : Forest → ℕ → Type 0
 IsLink v n = IsSome (target_at v n)
+
+-- the number is one of a device
+abbrev pub IsDevice : Forest → ℕ → Type 0
+IsDevice v n = IsSome (device_at v n)
 
 -- the bytes of a file; none where there is no file
 unfoldable pub content : Forest → ℕ → List ℕ

@@ -1,5 +1,5 @@
 // The kinds of what a host makes.
-use dt_base::Blob;
+use dt_base::{Blob, Device};
 
 /// What a host makes.
 #[derive(Debug, Drop)]
@@ -12,4 +12,6 @@ pub enum NodeKind {
     Pipe,
     /// A symbolic link with this target.
     Link(Blob),
+    /// A device.
+    Device(Device),
 }

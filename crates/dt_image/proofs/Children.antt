@@ -12,7 +12,7 @@ use Rattle.std.proofs.lemmas.List.{length-map, nil_from_length}
 use Rattle.std.proofs.lemmas.List.Elements.{All-nil, All-cons, All-head, All-tail, All-append}
 use Rattle.std.proofs.lemmas.Bool.{and_parts, not-true}
 use Rattle.dt_base.specs.Path.{is_name, has_no_nul}
-use Rattle.dt_host.specs.World.{Forest, Names, Node, file, dir, link, node_at, dir_at, dir_names, names_at, entry, IsLive}
+use Rattle.dt_host.specs.World.{Forest, Names, Node, file, dir, link, device, node_at, dir_at, dir_names, names_at, entry, IsLive}
 use Rattle.dt_tables.proofs.Maps.{at_insert, names_tie}
 use Rattle.dt_tree.specs.declared.limits.TheConstants.{NAMES_LIMIT}
 use Rattle.dt_tree.specs.Shape.{name_count_of, IsShaped}
@@ -41,6 +41,7 @@ names_good t d s name there = by_node (node_at t.shape d) (get t.attributes d) r
     by_node None a at with_a here = let none = get-empty (slice_cmp nat_cmp) name in let no : false ≡ true = subst IsSome none here in absurd (cc)
     by_node (Some (file bytes)) a at with_a here = let none = get-empty (slice_cmp nat_cmp) name in let no : false ≡ true = subst IsSome none here in absurd (cc)
     by_node (Some (link target)) a at with_a here = let none = get-empty (slice_cmp nat_cmp) name in let no : false ≡ true = subst IsSome none here in absurd (cc)
+    by_node (Some (device which)) a at with_a here = let none = get-empty (slice_cmp nat_cmp) name in let no : false ≡ true = subst IsSome none here in absurd (cc)
     by_node (Some (dir names)) None at with_a here = let same = sym (ap is_some with_a) ∙ s.same d ∙ ap is_some at in absurd (cc)
     by_node (Some (dir names)) (Some a) at with_a here = (s.good d (dir names) a at with_a).0 name here
 

@@ -28,18 +28,18 @@ pub value_of_long : (bytes : List ℕ) → INDEX_LIMIT < length bytes → value_
 unfolding value_of
 value_of_long bytes long = rw (lt-leb (length bytes) INDEX_LIMIT long)
 
-long_index : (files : StoreFiles) (folder : List ℕ) (found : Option (List ℕ)) (size : ℕ) → Some size ≡ option_map length found → INDEX_LIMIT < size → image_by files folder found ≡ Err BadIndex
-long_index files folder None size e long = absurd (cc)
-long_index files folder (Some bytes) size e long =
+long_index : (files : StoreFiles) (folder : List ℕ) (input : Option (List ℕ)) (found : Option (List ℕ)) (size : ℕ) → Some size ≡ option_map length found → INDEX_LIMIT < size → image_by files folder input found ≡ Err BadIndex
+long_index files folder input None size e long = absurd (cc)
+long_index files folder input (Some bytes) size e long =
     let same : size ≡ length bytes = cc in
     rw (value_of_long bytes (omega arith))
 
 pub too_long : (told : Option StoreFiles) (name : List ℕ) (size : ℕ) → IfSome told (λ files. Some size ≡ size_of files name) → INDEX_LIMIT < size
-    → IfSome told (λ files. (folder : List ℕ) → image_by files folder (get files name) ≡ Err BadIndex)
+    → IfSome told (λ files. (folder : List ℕ) (input : Option (List ℕ)) → image_by files folder input (get files name) ≡ Err BadIndex)
 too_long None name size h long = tt
-too_long (Some files) name size h long = λ folder. long_index files folder (get files name) size h long
+too_long (Some files) name size h long = λ folder input. long_index files folder input (get files name) size h long
 
 pub by_name : (told : Option StoreFiles) (name folder : List ℕ) (r : Refusal) → name ≡ name_below folder (codes "image.json")
-    → IfSome told (λ files. (any : List ℕ) → image_by files any (get files name) ≡ Err r) → IfSome told (λ files. image_of files folder ≡ Err r)
+    → IfSome told (λ files. (any : List ℕ) (input : Option (List ℕ)) → image_by files any input (get files name) ≡ Err r) → IfSome told (λ files. (input : Option (List ℕ)) → image_of files folder input ≡ Err r)
 by_name None name folder r e h = tt
-by_name (Some files) name folder r e h = rw e at (h folder)
+by_name (Some files) name folder r e h = λ input. rw e at (h folder input)

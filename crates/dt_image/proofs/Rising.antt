@@ -10,6 +10,7 @@ use Rattle.std.proofs.lemmas.Bool.{and_from}
 use Rattle.dt_base.specs.declared.image.Entry.{Entry}
 use Rattle.dt_base.specs.declared.limits.TheConstants.{ENTRY_LIMIT}
 use Rattle.dt_base.specs.Image.{IsImage, is_good_entry, is_rising, has_parent, is_dir_at}
+use Rattle.dt_base.specs.Profile.{is_version}
 use Rattle.dt_base.specs.Path.{is_top, parent_of}
 use Rattle.dt_image.specs.declared.index.EntryRef.{EntryRef}
 use Rattle.dt_image.specs.declared.blobs.Measured.{Measured}
@@ -70,14 +71,15 @@ parents-order all (entry ∷ order) =
     ap (λ found. (is_top entry.path.now || found) && list_all (λ entry. has_listed_parent (map entry_in all) (entry_in entry)) order) (dirs-order (parent_of entry.path.now) all)
     ∙ ap (λ rest. parent_in (spots all) (path_kind_of (entry_in entry)) && rest) (parents-order all order)
 
-pub IsImage-made : (entries : List Entry) (blobs : List Measured) (order : List EntryRef) → map (λ blob. blob.entry) blobs ≡ order
+pub IsImage-made : (version : ℕ) (entries : List Entry) (blobs : List Measured) (order : List EntryRef) → map (λ blob. blob.entry) blobs ≡ order
     → map path_kind entries ≡ map (λ blob. path_kind_of (entry_in blob.entry)) blobs → length blobs ≤ ENTRY_LIMIT
-    → IsTrue (list_all is_good_entry entries) → list_all (λ entry. has_listed_parent (map entry_in order) (entry_in entry)) order ≡ true
-    → IsStrictlySortedBy path_cmp order → IsImage entries
-IsImage-made entries blobs order same spotted few good parents rising =
+    → IsTrue (is_version version) → IsTrue (list_all (is_good_entry version) entries) → list_all (λ entry. has_listed_parent (map entry_in order) (entry_in entry)) order ≡ true
+    → IsStrictlySortedBy path_cmp order → IsImage (record { version = version; entries = entries })
+IsImage-made version entries blobs order same spotted few known good parents rising =
     let many : length entries ≡ length blobs = sym (length-map entries path_kind) ∙ ap length spotted ∙ length-map blobs (λ blob. path_kind_of (entry_in blob.entry)) in
     let at : map path_kind entries ≡ spots order = spotted ∙ sym (spots_of blobs) ∙ ap spots same in
     record {
+      version = known;
       few = omega (arith, many);
       good = good;
       rising = rise-entries entries ∙ ap rise at ∙ rise-order order rising;

@@ -9,13 +9,15 @@ use Rattle.serde_json.specs.Data.{Data}
 use Rattle.serde_json.specs.Read.{read}
 use Rattle.dt_base.specs.declared.image.Entry.{Entry}
 use Rattle.dt_base.specs.declared.image.What.{What}
-use Rattle.dt_base.specs.declared.image.What.TheVariants.{File, Dir, Link}
+use Rattle.dt_base.specs.declared.image.What.TheVariants.{File, Dir, Link, Dev}
 use Rattle.dt_base.specs.declared.refusal.Refusal.{Refusal}
-use Rattle.dt_base.specs.declared.refusal.Refusal.TheVariants.{NoIndex, BadIndex, BadPath, Twice, NoParent, NoBlob, TooBig, TooMany}
+use Rattle.dt_base.specs.declared.refusal.Refusal.TheVariants.{NoIndex, BadIndex, BadPath, Twice, NoParent, NoBlob, TooBig, TooMany, NoInput, InputBig}
 use Rattle.dt_base.specs.declared.limits.TheConstants.{INDEX_LIMIT, FILE_LIMIT, ENTRY_LIMIT, LINK_MODE}
+use Rattle.dt_base.specs.Image.{ImageParts}
+use Rattle.dt_base.specs.Profile.{file_limit}
 use Rattle.dt_base.specs.Path.{is_top, parent_of}
 use Rattle.dt_host.specs.Store.{StoreFiles, bytes_of}
-use Rattle.dt_image.specs.Index.{Source, file, dir, link, IndexEntry, index_of, is_good}
+use Rattle.dt_image.specs.Index.{Source, file, dir, link, dev, IndexEntry, IndexParts, index_of, is_good, is_blob_name}
 
 -- a store's name of a file in a folder
 abbrev pub name_below : List ℕ → List ℕ → List ℕ
@@ -25,9 +27,9 @@ name_below folder name = folder ++ (codes "/" ++ name)
 unfoldable pub value_of : List ℕ → Option Data
 value_of bytes = if nat_le (length bytes) INDEX_LIMIT && is_utf8 bytes then read bytes else None
 
--- the entries that the bytes of an index list
-abbrev pub index_entries : List ℕ → Option (List IndexEntry)
-index_entries bytes = option_and_then index_of (value_of bytes)
+-- the index that bytes are
+abbrev pub index_parts : List ℕ → Option IndexParts
+index_parts bytes = option_and_then index_of (value_of bytes)
 
 -- the entry is of this path
 abbrev pub has_path : List ℕ → IndexEntry → Bool
@@ -43,6 +45,7 @@ abbrev pub is_dir_source : Source → Bool
 is_dir_source (file mode blob) = false
 is_dir_source (dir mode) = true
 is_dir_source (link target) = false
+is_dir_source (dev mode device) = false
 
 -- it is a directory of that path
 abbrev pub is_dir_of_path : List ℕ → IndexEntry → Bool
@@ -70,56 +73,82 @@ abbrev pub has_blob : StoreFiles → List ℕ → Source → Bool
 has_blob files folder (file mode blob) = is_some (get files (name_below folder blob))
 has_blob files folder (dir mode) = true
 has_blob files folder (link target) = true
+has_blob files folder (dev mode device) = true
 
--- that blob is no longer than a file may be
-abbrev pub is_within_limit : StoreFiles → List ℕ → Source → Bool
-is_within_limit files folder (file mode blob) = nat_le (length (blob_of files folder blob)) FILE_LIMIT
-is_within_limit files folder (dir mode) = true
-is_within_limit files folder (link target) = true
+-- that blob is no longer than a file of the version may be
+abbrev pub is_within_limit : StoreFiles → List ℕ → ℕ → Source → Bool
+is_within_limit files folder version (file mode blob) = nat_le (length (blob_of files folder blob)) (file_limit version)
+is_within_limit files folder version (dir mode) = true
+is_within_limit files folder version (link target) = true
+is_within_limit files folder version (dev mode device) = true
 
 -- what is made, with the bytes of its blob
 abbrev pub source_what : StoreFiles → List ℕ → Source → What
 source_what files folder (file mode blob) = File (blob_of files folder blob)
 source_what files folder (dir mode) = Dir
 source_what files folder (link target) = Link target
+source_what files folder (dev mode device) = Dev device
 
 -- its mode, which is the same for all links
 abbrev pub source_mode : Source → ℕ
 source_mode (file mode blob) = mode
 source_mode (dir mode) = mode
 source_mode (link target) = LINK_MODE
+source_mode (dev mode device) = mode
 
 -- the image's entry
 abbrev pub entry_with : StoreFiles → List ℕ → IndexEntry → Entry
 entry_with files folder entry = record { path = entry.path; mode = source_mode entry.source; what = source_what files folder entry.source }
 
--- the image of entries in order, with the bytes of their blobs; or the first of these that holds: a blob is missing,
--- one is too long, there are too many entries
-unfoldable pub with_blobs : StoreFiles → List ℕ → List IndexEntry → Result (List Entry) Refusal
-with_blobs files folder order =
+-- the bytes of a blob that is there, if they are no more than standard input may have
+abbrev pub input_within_limit : Option (List ℕ) → Result (List ℕ) Refusal
+input_within_limit None = Err NoInput
+input_within_limit (Some bytes) = if nat_le (length bytes) FILE_LIMIT then Ok bytes else Err InputBig
+
+-- the bytes of standard input, which are none where no blob is named; or the first of these that holds: the name is not good or
+-- the blob is missing, it is too long
+abbrev pub named_input : StoreFiles → List ℕ → Option (List ℕ) → Result (List ℕ) Refusal
+named_input files folder None = Ok []
+named_input files folder (Some blob) =
+    if is_blob_name blob then input_within_limit (get files (name_below folder blob)) else Err NoInput
+
+-- an image with its input
+abbrev pub image_with_input : ImageParts → Result (List ℕ) Refusal → Result (ImageParts × List ℕ) Refusal
+image_with_input image (Err refusal) = Err refusal
+image_with_input image (Ok input) = Ok (image, input)
+
+-- the image of a version of entries in order, with the bytes of their blobs
+abbrev pub image_of_order : StoreFiles → List ℕ → ℕ → List IndexEntry → ImageParts
+image_of_order files folder version order = record { version = version; entries = map (entry_with files folder) order }
+
+-- that image and the input; or the first of these that holds: a blob is missing, one is too long, there are too many entries,
+-- there is no such input
+unfoldable pub with_blobs : StoreFiles → List ℕ → Option (List ℕ) → ℕ → List IndexEntry → Result (ImageParts × List ℕ) Refusal
+with_blobs files folder input version order =
     if not (list_all (λ entry. has_blob files folder entry.source) order) then Err NoBlob
-    else (if not (list_all (λ entry. is_within_limit files folder entry.source) order) then Err TooBig
-    else (if nat_le (length order) ENTRY_LIMIT then Ok (map (entry_with files folder) order) else Err TooMany))
+    else (if not (list_all (λ entry. is_within_limit files folder version entry.source) order) then Err TooBig
+    else (if nat_le (length order) ENTRY_LIMIT
+    then image_with_input (image_of_order files folder version order) (named_input files folder input) else Err TooMany))
 
--- the image of the entries of an index; or the first of these that holds: a path, target or blob's name is not good, a
+-- the image of an index, and the input; or the first of these that holds: a path, target or blob's name is not good, a
 -- path stands twice, an entry stands in no directory of the index, or as above
-unfoldable pub image_from : StoreFiles → List ℕ → List IndexEntry → Result (List Entry) Refusal
-image_from files folder index =
-    if not (list_all is_good index) then Err BadPath
-    else (if has_twice index then Err Twice
-    else (if not (list_all (has_listed_parent index) index) then Err NoParent
-    else with_blobs files folder (sorted_entries index)))
+unfoldable pub image_from : StoreFiles → List ℕ → Option (List ℕ) → IndexParts → Result (ImageParts × List ℕ) Refusal
+image_from files folder input index =
+    if not (list_all is_good index.entries) then Err BadPath
+    else (if has_twice index.entries then Err Twice
+    else (if not (list_all (has_listed_parent index.entries) index.entries) then Err NoParent
+    else with_blobs files folder input index.version (sorted_entries index.entries)))
 
--- the image of a list of entries, if an index gave one
-abbrev pub image_from_index : StoreFiles → List ℕ → Option (List IndexEntry) → Result (List Entry) Refusal
-image_from_index files folder None = Err BadIndex
-image_from_index files folder (Some index) = image_from files folder index
+-- the same, if there is an index
+abbrev pub image_from_index : StoreFiles → List ℕ → Option (List ℕ) → Option IndexParts → Result (ImageParts × List ℕ) Refusal
+image_from_index files folder input None = Err BadIndex
+image_from_index files folder input (Some index) = image_from files folder input index
 
--- the image of a folder with or without an index
-abbrev pub image_by : StoreFiles → List ℕ → Option (List ℕ) → Result (List Entry) Refusal
-image_by files folder None = Err NoIndex
-image_by files folder (Some bytes) = image_from_index files folder (index_entries bytes)
+-- the image of a folder with or without the bytes of an index, and the input
+abbrev pub image_by : StoreFiles → List ℕ → Option (List ℕ) → Option (List ℕ) → Result (ImageParts × List ℕ) Refusal
+image_by files folder input None = Err NoIndex
+image_by files folder input (Some bytes) = image_from_index files folder input (index_parts bytes)
 
--- the image of a folder, or why it has none
-abbrev pub image_of : StoreFiles → List ℕ → Result (List Entry) Refusal
-image_of files folder = image_by files folder (get files (name_below folder (codes "image.json")))
+-- the image of a folder with the bytes of the blob that is named as standard input, if one is; or why there is none
+abbrev pub image_of : StoreFiles → List ℕ → Option (List ℕ) → Result (ImageParts × List ℕ) Refusal
+image_of files folder input = image_by files folder input (get files (name_below folder (codes "image.json")))

@@ -3,6 +3,8 @@ use Rattle.std.specs.Prelude.{ℕ, ◌+◌, ◌-◌, ◌^◌, Bool, false, ◌||
 use Rattle.std.specs.List.{flat_map}
 use Rattle.std.specs.Fmt.{decimal, digits}
 use Rattle.std.specs.FinMap.{get}
+use Rattle.dt_base.specs.declared.image.Device.{Device}
+use Rattle.dt_base.specs.declared.image.Device.TheVariants.{Null, Zero, Random}
 use Rattle.dt_base.specs.declared.event.Event.{Event}
 use Rattle.dt_base.specs.declared.event.Event.TheVariants.{Out, Exit}
 use Rattle.dt_base.specs.declared.event.End.{End}
@@ -10,7 +12,7 @@ use Rattle.dt_base.specs.declared.event.End.TheVariants.{Code, Signal}
 use Rattle.dt_base.specs.declared.event.Verdict.{Verdict}
 use Rattle.dt_base.specs.declared.event.Verdict.TheVariants.{Ended, Deadlock, Budget, Unsupported, NoStart}
 use Rattle.dt_base.specs.Errno.{errno_number}
-use Rattle.dt_host.specs.World.{Node, file, dir, link, node_at}
+use Rattle.dt_host.specs.World.{Node, file, dir, link, device, node_at}
 use Rattle.dt_tree.specs.FileTree.{Attributes, FileTree}
 use Rattle.hex.specs.Hex.{encode_lower}
 use Rattle.sha2.specs.Sha256.{sha256}
@@ -18,9 +20,9 @@ use Rattle.percent_encoding.specs.declared.ascii_set.AsciiSet.{AsciiSet}
 use Rattle.percent_encoding.specs.Percent.{percent_encode}
 use Rattle.dt_image.specs.Paths.{paths_of}
 
--- the first line
-abbrev pub header : List ℕ
-header = codes "dettrace 1\n"
+-- the first line, which says the version of the image
+abbrev pub header : ℕ → List ℕ
+header version = codes "dettrace " ++ (decimal version ++ codes "\n")
 
 -- how a process ended
 abbrev pub end_text : End → List ℕ
@@ -79,11 +81,24 @@ unfoldable pub link_line : ℕ → ℕ → List ℕ → List ℕ → List ℕ
 link_line inode stamp path target =
     codes "link " ++ (decimal inode ++ (codes " " ++ (decimal stamp ++ (codes " " ++ (escaped_text path ++ (codes " " ++ (escaped_text target ++ codes "\n")))))))
 
+-- the name of a device
+abbrev pub device_name : Device → List ℕ
+device_name Null = codes "null"
+device_name Zero = codes "zero"
+device_name Random = codes "random"
+
+-- a device: inode, mode, stamp, which it is, path
+unfoldable pub dev_line : ℕ → ℕ → ℕ → Device → List ℕ → List ℕ
+dev_line inode mode stamp which path =
+    codes "dev " ++ (decimal inode ++ (codes " " ++ (mode_text mode ++ (codes " " ++ (decimal stamp ++ (codes " "
+    ++ (device_name which ++ (codes " " ++ (escaped_text path ++ codes "\n")))))))))
+
 -- the line of a node with these attributes, at a path and under an inode
 abbrev pub node_line : List ℕ × ℕ → Node → Attributes → List ℕ
 node_line at (file bytes) a = file_line at.1 a.mode a.stamp at.0 bytes
 node_line at (dir names) a = dir_line at.1 a.mode a.stamp at.0
 node_line at (link target) a = link_line at.1 a.stamp at.0 target
+node_line at (device which) a = dev_line at.1 a.mode a.stamp which at.0
 
 -- the line of what may be there
 abbrev pub line_of : List ℕ × ℕ → Option Node → Option Attributes → List ℕ
@@ -107,6 +122,6 @@ path_lines t = flat_map (path_line t) (paths_of t.shape)
 abbrev pub tree_text : FileTree → List ℕ
 tree_text t = tree_header (length (paths_of t.shape)) ++ path_lines t
 
--- the whole report: the header, the events, the verdict and the tree
-abbrev pub report : List Event → Verdict → FileTree → List ℕ
-report events verdict t = header ++ (events_text events ++ (verdict_text verdict ++ tree_text t))
+-- the whole report on an image of that version: the header, the events, the verdict and the tree
+abbrev pub report : ℕ → List Event → Verdict → FileTree → List ℕ
+report version events verdict t = header version ++ (events_text events ++ (verdict_text verdict ++ tree_text t))

@@ -2,3 +2,4 @@
 pub mod IndexView
 pub mod StoreFault
 pub mod PathView
+pub mod Input

@@ -1,10 +1,11 @@
 // An image, read from a folder of a store.
-ghost use Rattle.std.specs.Prelude.{◌≡◌, ◌≢◌, ℕ, List, ◌≤◌, length, map, codes, vec_len, Some, None, Err, Ok, IfOk, IfSome};
+ghost use Rattle.std.specs.Prelude.{◌≡◌, ◌≢◌, ℕ, List, [], Option, ◌≤◌, length, map, option_map, codes, vec_len, Some, None, Err, Ok, IfOk, IfSome};
 ghost use Rattle.std.specs.Prelude.{IsErrOf, IsTrue};
 ghost use Rattle.std.specs.List.{list_all};
 ghost use Rattle.std.specs.List.Sorted.{IsStrictlySortedBy};
 ghost use Rattle.std.specs.FinMap.{get};
 ghost use Rattle.serde_json.specs.View.{view};
+ghost use Rattle.dt_base.specs.Profile.{is_version};
 ghost use Rattle.dt_base.specs.declared.refusal.Refusal.{Refusal};
 ghost use Rattle.dt_host.specs.Asks.{AsksOr};
 ghost use Rattle.dt_image.specs.Index.{is_good};
@@ -17,23 +18,31 @@ use crate::index::{EntryRef, index_of, is_good};
 use crate::json::parse;
 use crate::order::sorted;
 use crate::parents::have_parents;
-use dt_base::{INDEX_LIMIT, Image, ImageErr, Refusal};
+use dt_base::{Blob, INDEX_LIMIT, Image, ImageErr, Refusal};
 use dt_host::Store;
 use serde_json::Value;
 use std::alloc::Global;
 
-/// Reads the image of a folder: `image.json`, and the blobs of the files that it lists.
-pub fn read_image<S: Store>(alloc: Global, store: &mut S, folder: &str) -> Result<Image, ImageErr>
-    ensures ok { IfSome (S.told store.old) (λ files. IfOk result (λ image. image_of files folder.now ≡ Ok image)) }
+/// Reads the image of a folder: `image.json`, and the blobs of the files that it lists; and the blob that is named as
+/// standard input, which is empty where none is named.
+pub fn read_image<S: Store>(
+    alloc: Global,
+    store: &mut S,
+    folder: &str,
+    input: Option<&str>,
+) -> Result<(Image, Blob), ImageErr>
+    ensures ok { IfSome (S.told store.old) (λ files. IfOk result
+        (λ found. image_of files folder.now (option_map (λ name. name.now) input.entry) ≡ Ok found)) }
     ensures refused { (r : Refusal) → result ≡ Err (ImageErr.Refused r) →
-        IfSome (S.told store.old) (λ files. image_of files folder.now ≡ Err r) }
+        IfSome (S.told store.old) (λ files. image_of files folder.now (option_map (λ name. name.now) input.entry) ≡ Err r) }
+    ensures unnamed { input.entry ≡ None → IfOk result (λ found. found.1 ≡ []) }
     ensures no_steps { result ≢ Err (ImageErr.Refused Refusal.BadSteps) }
     ensures asks { AsksOr S.told S.count ImageErr.Store store.old store.new result }
 {
     let bytes = read_index(alloc, store, folder)?;
     let index = parse_index(alloc, &bytes)?;
     match index_of(alloc, &index)? {
-        Some(entries) => read_entries(alloc, store, folder, &entries),
+        Some((version, entries)) => { read_entries(alloc, store, folder, input, version, &entries) }
         None => Err(ImageErr::Refused(Refusal::BadIndex)),
     }
 }
@@ -44,7 +53,7 @@ fn read_index<S: Store>(alloc: Global, store: &mut S, folder: &str) -> Result<Ve
         IfOk result (λ bytes. get files (name_below folder.now (codes "image.json")) ≡ Some bytes.items)) }
     ensures within { IfOk result (λ bytes. vec_len bytes ≤ INDEX_LIMIT) }
     ensures refused { (r : Refusal) → result ≡ Err (ImageErr.Refused r) →
-        IfSome (S.told store.old) (λ files. image_of files folder.now ≡ Err r) }
+        IfSome (S.told store.old) (λ files. (input : Option (List ℕ)) → image_of files folder.now input ≡ Err r) }
     ensures no_steps { result ≢ Err (ImageErr.Refused Refusal.BadSteps) }
     ensures asks { AsksOr S.told S.count ImageErr.Store store.old store.new result }
 {
@@ -57,7 +66,7 @@ fn index_bytes<S: Store>(alloc: Global, store: &mut S, name: &str) -> Result<Vec
     ensures within { IfOk result (λ bytes. vec_len bytes ≤ INDEX_LIMIT) }
     ensures refused { (r : Refusal) → result ≡ Err (ImageErr.Refused r) →
         IfSome (S.told store.old) (λ files.
-        (folder : List ℕ) → image_by files folder (get files name.now) ≡ Err r) }
+        (folder : List ℕ) (input : Option (List ℕ)) → image_by files folder input (get files name.now) ≡ Err r) }
     ensures no_steps { result ≢ Err (ImageErr.Refused Refusal.BadSteps) }
     ensures asks { AsksOr S.told S.count ImageErr.Store store.old store.new result }
 {
@@ -82,18 +91,24 @@ fn parse_index(alloc: Global, bytes: &[u8]) -> Result<Value, ImageErr>
     }
 }
 
-// The image of the entries of an index.
+// The image of the entries of an index of that version, and the input.
 fn read_entries<S: Store>(
     alloc: Global,
     store: &mut S,
     folder: &str,
+    input: Option<&str>,
+    version: u64,
     entries: &[EntryRef<'_>],
-) -> Result<Image, ImageErr>
-    requires { IsTrue (list_all is_listed (map entry_in entries.now)) }
+) -> Result<(Image, Blob), ImageErr>
+    requires version { IsTrue (is_version version) }
+    requires listed { IsTrue (list_all (is_listed version) (map entry_in entries.now)) }
     ensures ok { IfSome (S.told store.old) (λ held.
-        IfOk result (λ image. image_from held folder.now (map entry_in entries.now) ≡ Ok image)) }
+        IfOk result (λ found. image_from held folder.now (option_map (λ name. name.now) input.entry)
+        (record { version = version; entries = map entry_in entries.now }) ≡ Ok found)) }
     ensures refused { (r : Refusal) → result ≡ Err (ImageErr.Refused r) →
-        IfSome (S.told store.old) (λ held. image_from held folder.now (map entry_in entries.now) ≡ Err r) }
+        IfSome (S.told store.old) (λ held. image_from held folder.now (option_map (λ name. name.now) input.entry)
+        (record { version = version; entries = map entry_in entries.now }) ≡ Err r) }
+    ensures unnamed { input.entry ≡ None → IfOk result (λ found. found.1 ≡ []) }
     ensures no_steps { result ≢ Err (ImageErr.Refused Refusal.BadSteps) }
     ensures asks { AsksOr S.told S.count ImageErr.Store store.old store.new result }
 {
@@ -101,7 +116,7 @@ fn read_entries<S: Store>(
         return Err(ImageErr::Refused(Refusal::BadPath));
     }
     match sorted(alloc, entries)? {
-        Some(order) => read_order(alloc, store, folder, &order),
+        Some(order) => read_order(alloc, store, folder, input, version, &order),
         None => Err(ImageErr::Refused(Refusal::Twice)),
     }
 }
@@ -117,14 +132,20 @@ fn read_order<S: Store>(
     alloc: Global,
     store: &mut S,
     folder: &str,
+    input: Option<&str>,
+    version: u64,
     order: &[EntryRef<'_>],
-) -> Result<Image, ImageErr>
-    requires sound { IsTrue (list_all is_sound (map entry_in order.now)) }
+) -> Result<(Image, Blob), ImageErr>
+    requires version { IsTrue (is_version version) }
+    requires sound { IsTrue (list_all (is_sound version) (map entry_in order.now)) }
     requires rising { IsStrictlySortedBy path_cmp order.now }
     ensures ok { IfSome (S.told store.old) (λ held.
-        IfOk result (λ image. image_in_order held folder.now (map entry_in order.now) ≡ Ok image)) }
+        IfOk result (λ found. image_in_order held folder.now (option_map (λ name. name.now) input.entry) version
+        (map entry_in order.now) ≡ Ok found)) }
     ensures refused { (r : Refusal) → result ≡ Err (ImageErr.Refused r) →
-        IfSome (S.told store.old) (λ held. image_in_order held folder.now (map entry_in order.now) ≡ Err r) }
+        IfSome (S.told store.old) (λ held. image_in_order held folder.now (option_map (λ name. name.now) input.entry) version
+        (map entry_in order.now) ≡ Err r) }
+    ensures unnamed { input.entry ≡ None → IfOk result (λ found. found.1 ≡ []) }
     ensures no_steps { result ≢ Err (ImageErr.Refused Refusal.BadSteps) }
     ensures asks { AsksOr S.told S.count ImageErr.Store store.old store.new result }
 {
@@ -132,5 +153,5 @@ fn read_order<S: Store>(
     if !found {
         return Err(ImageErr::Refused(Refusal::NoParent));
     }
-    with_blobs(alloc, store, folder, order)
+    with_blobs(alloc, store, folder, input, version, order)
 }

@@ -4,21 +4,27 @@ ghost use Rattle.std.specs.List.{list_all};
 ghost use Rattle.serde_json.specs.View.{view, items_view};
 ghost use Rattle.dt_base.specs.Image.{is_target};
 ghost use Rattle.dt_image.specs.Index.{text_at, number_at, mode_of, items_at, is_blob_byte, is_blob_name};
-ghost use Rattle.dt_image.specs.Index.{is_good_source, is_good, file_of, dir_of, link_of, source_of, entry_of};
+ghost use Rattle.dt_image.specs.Index.{is_good_source, is_good, file_of, dir_of, link_of, dev_of, device_of, source_of};
+ghost use Rattle.dt_image.specs.Index.{entry_of};
+ghost use Rattle.dt_base.specs.Profile.{has_devices, is_version};
 ghost use Rattle.dt_image.specs.Index.{entries_of, index_of, versioned_items};
 ghost use Rattle.dt_image.specs.inner.IndexView.{source_in, entry_in, has_mode, is_listed};
 
-use dt_base::{MODE_LIMIT, NAME_LIMIT, NoMemory, PATH_LIMIT, has_no_nul, is_path};
+use dt_base::{
+    Device, MODE_LIMIT, NAME_LIMIT, NoMemory, PATH_LIMIT, has_devices, has_no_nul, is_path,
+    is_version,
+};
 use serde_json::Value;
 use std::alloc::Global;
 
 /// What an entry is made from: a file from its mode and the name of the blob with its bytes, a directory from its
-/// mode, a symbolic link from its target.
+/// mode, a symbolic link from its target, a device from its mode and which it is.
 #[derive(Clone, Copy, Debug)]
 pub enum SourceRef<'v> {
     File(u32, &'v str),
     Dir(u32),
     Link(&'v str),
+    Dev(u32, Device),
 }
 
 /// An entry of an index: its path in the image, and what it is made from.
@@ -28,40 +34,54 @@ pub struct EntryRef<'v> {
     pub source: SourceRef<'v>,
 }
 
+/// The version of an index and its entries, in its order; None where it is no index.
 #[tactic(auto, unfolding(crate::specs::Index::index_of))]
-/// The entries of an index of version 1, in its order; None where it is no such index.
-pub fn index_of(alloc: Global, index: &Value) -> Result<Option<Vec<EntryRef<'_>>>, NoMemory>
-    ensures value { IfOk result (λ found.
-        option_map (λ entries. map entry_in entries.items) found ≡ index_of (view index.now)) }
+pub fn index_of(alloc: Global, index: &Value) -> Result<Option<(u64, Vec<EntryRef<'_>>)>, NoMemory>
+    ensures value { IfOk result (λ found. option_map
+        (λ found. record { version = found.0; entries = map entry_in found.1.items }) found
+        ≡ index_of (view index.now)) }
     ensures listed { IfOk result (λ found.
-        IfSome found (λ entries. IsTrue (list_all is_listed (map entry_in entries.items)))) }
+        IfSome found (λ found. IsTrue (list_all (is_listed found.0) (map entry_in found.1.items)))) }
+    ensures version { IfOk result (λ found. IfSome found (λ found. IsTrue (is_version found.0))) }
 {
-    match versioned_items(index) {
-        Some(items) => entries_of(alloc, items),
+    let Some((version, items)) = versioned_items(index) else {
+        return Ok(None);
+    };
+    match entries_of(alloc, version, items)? {
+        Some(entries) => Ok(Some((version, entries))),
         None => Ok(None),
     }
 }
 
+// The version of an index, and the values of its entries.
 #[tactic(auto, unfolding(crate::specs::Index::versioned_items))]
-// The values of the entries of an index of version 1.
-fn versioned_items(index: &Value) -> Option<&[Value]>
-    ensures { option_map (λ items. items_view items.now) result ≡ versioned_items (view index.now) }
+fn versioned_items(index: &Value) -> Option<(u64, &[Value])>
+    ensures value { option_map (λ found. (found.0, items_view found.1.now)) result ≡ versioned_items (view index.now) }
+    ensures version { IfSome result (λ found. IsTrue (is_version found.0)) }
 {
     let version = number_at(index, "version")?;
     let items = items_at(index, "entries")?;
-    if version == 1 { Some(items) } else { None }
+    if is_version(version) {
+        Some((version, items))
+    } else {
+        None
+    }
 }
 
-// The entries that all of these are.
-fn entries_of(alloc: Global, items: &[Value]) -> Result<Option<Vec<EntryRef<'_>>>, NoMemory>
+// The entries of an index of that version that all of these are.
+fn entries_of<'v>(
+    alloc: Global,
+    version: u64,
+    items: &'v [Value],
+) -> Result<Option<Vec<EntryRef<'v>>>, NoMemory>
     ensures value { IfOk result (λ found.
-        option_map (λ entries. map entry_in entries.items) found ≡ entries_of (items_view items.now)) }
+        option_map (λ entries. map entry_in entries.items) found ≡ entries_of version (items_view items.now)) }
     ensures listed { IfOk result (λ found.
-        IfSome found (λ entries. IsTrue (list_all is_listed (map entry_in entries.items)))) }
+        IfSome found (λ entries. IsTrue (list_all (is_listed version) (map entry_in entries.items)))) }
 {
     let mut entries = Vec::new(alloc);
     for item in items {
-        match entry_of(item) {
+        match entry_of(version, item) {
             Some(entry) => entries.push(entry)?,
             None => return Ok(None),
         }
@@ -70,19 +90,19 @@ fn entries_of(alloc: Global, items: &[Value]) -> Result<Option<Vec<EntryRef<'_>>
 }
 
 #[tactic(auto, unfolding(crate::specs::Index::entry_of))]
-fn entry_of(entry: &Value) -> Option<EntryRef<'_>>
-    ensures value { option_map entry_in result ≡ entry_of (view entry.now) }
-    ensures listed { IfSome result (λ entry. IsTrue (is_listed (entry_in entry))) }
+fn entry_of(version: u64, entry: &Value) -> Option<EntryRef<'_>>
+    ensures value { option_map entry_in result ≡ entry_of version (view entry.now) }
+    ensures listed { IfSome result (λ entry. IsTrue (is_listed version (entry_in entry))) }
 {
     let path = text_at(entry, "path")?;
     let kind = text_at(entry, "type")?;
-    let source = source_of(kind, entry)?;
+    let source = source_of(version, kind, entry)?;
     Some(EntryRef { path, source })
 }
 
-fn source_of<'v>(kind: &str, entry: &'v Value) -> Option<SourceRef<'v>>
-    ensures value { option_map source_in result ≡ source_of kind.now (view entry.now) }
-    ensures mode { IfSome result (λ source. IsTrue (has_mode (source_in source))) }
+fn source_of<'v>(version: u64, kind: &str, entry: &'v Value) -> Option<SourceRef<'v>>
+    ensures value { option_map source_in result ≡ source_of version kind.now (view entry.now) }
+    ensures mode { IfSome result (λ source. IsTrue (has_mode version (source_in source))) }
 {
     if kind == "file" {
         file_of(entry)
@@ -90,6 +110,8 @@ fn source_of<'v>(kind: &str, entry: &'v Value) -> Option<SourceRef<'v>>
         dir_of(entry)
     } else if kind == "link" {
         link_of(entry)
+    } else if kind == "dev" && has_devices(version) {
+        dev_of(entry)
     } else {
         None
     }
@@ -98,7 +120,7 @@ fn source_of<'v>(kind: &str, entry: &'v Value) -> Option<SourceRef<'v>>
 #[tactic(auto, unfolding(crate::specs::Index::file_of))]
 fn file_of(entry: &Value) -> Option<SourceRef<'_>>
     ensures value { option_map source_in result ≡ file_of (view entry.now) }
-    ensures mode { IfSome result (λ source. IsTrue (has_mode (source_in source))) }
+    ensures mode { (version : ℕ) → IfSome result (λ source. IsTrue (has_mode version (source_in source))) }
 {
     let mode = mode_of(entry)?;
     let blob = text_at(entry, "blob")?;
@@ -108,7 +130,7 @@ fn file_of(entry: &Value) -> Option<SourceRef<'_>>
 #[tactic(auto, unfolding(crate::specs::Index::dir_of))]
 fn dir_of(entry: &Value) -> Option<SourceRef<'_>>
     ensures value { option_map source_in result ≡ dir_of (view entry.now) }
-    ensures mode { IfSome result (λ source. IsTrue (has_mode (source_in source))) }
+    ensures mode { (version : ℕ) → IfSome result (λ source. IsTrue (has_mode version (source_in source))) }
 {
     let mode = mode_of(entry)?;
     Some(SourceRef::Dir(mode))
@@ -117,10 +139,36 @@ fn dir_of(entry: &Value) -> Option<SourceRef<'_>>
 #[tactic(auto, unfolding(crate::specs::Index::link_of))]
 fn link_of(entry: &Value) -> Option<SourceRef<'_>>
     ensures value { option_map source_in result ≡ link_of (view entry.now) }
-    ensures mode { IfSome result (λ source. IsTrue (has_mode (source_in source))) }
+    ensures mode { (version : ℕ) → IfSome result (λ source. IsTrue (has_mode version (source_in source))) }
 {
     let target = text_at(entry, "target")?;
     Some(SourceRef::Link(target))
+}
+
+#[tactic(auto, unfolding(crate::specs::Index::dev_of))]
+fn dev_of(entry: &Value) -> Option<SourceRef<'_>>
+    ensures value { option_map source_in result ≡ dev_of (view entry.now) }
+    ensures mode { (version : ℕ) → IsTrue (has_devices version)
+        → IfSome result (λ source. IsTrue (has_mode version (source_in source))) }
+{
+    let mode = mode_of(entry)?;
+    let device = device_of(text_at(entry, "device")?)?;
+    Some(SourceRef::Dev(mode, device))
+}
+
+// The device of a name.
+fn device_of(name: &str) -> Option<Device>
+    ensures { result ≡ device_of name.now }
+{
+    if name == "null" {
+        Some(Device::Null)
+    } else if name == "zero" {
+        Some(Device::Zero)
+    } else if name == "random" {
+        Some(Device::Random)
+    } else {
+        None
+    }
 }
 
 fn text_at<'v>(value: &'v Value, name: &str) -> Option<&'v str>
@@ -166,7 +214,7 @@ fn is_good_source(source: SourceRef<'_>) -> bool
 {
     match source {
         SourceRef::File(_, blob) => is_blob_name(blob.as_bytes()),
-        SourceRef::Dir(_) => true,
+        SourceRef::Dir(_) | SourceRef::Dev(_, _) => true,
         SourceRef::Link(target) => is_target(target.as_bytes()),
     }
 }

@@ -8,11 +8,12 @@ ghost use Rattle.dt_host.specs.Asks.{Asks};
 ghost use Rattle.dt_host.specs.World.{IsLive};
 ghost use Rattle.dt_tree.specs.Table.{Stands, shape_of, tree_of};
 ghost use Rattle.dt_image.specs.Paths.{LeadsTo, paths_of, path_pair};
+ghost use Rattle.dt_image.specs.Report.{dev_line, device_name};
 ghost use Rattle.dt_image.specs.Report.{escaped_set, is_escaped, file_line, dir_line, link_line, mode_text, path_line};
 ghost use Rattle.dt_image.specs.Report.{tree_header, tree_text};
 
 use crate::paths::{TreePath, paths_of};
-use dt_base::{Blob, NoMemory};
+use dt_base::{Blob, Device, NoMemory};
 use dt_host::{Host, HostErr};
 use dt_tree::{Meta, Tree};
 use percent_encoding::{AsciiSet, CONTROLS, ascii_set, percent_encode};
@@ -94,8 +95,13 @@ fn write_line<H: Host>(
         let target = tree.target(host, at.inode)?;
         return Ok(write_link(text, at, meta, target.as_slice())?);
     }
-    let bytes = tree.read_file(host, at.inode)?;
-    Ok(write_file(alloc, text, at, meta, &bytes)?)
+    match tree.device(at.inode) {
+        Some(device) => Ok(write_device(alloc, text, at, meta, device)?),
+        None => {
+            let bytes = tree.read_file(host, at.inode)?;
+            Ok(write_file(alloc, text, at, meta, &bytes)?)
+        }
+    }
 }
 
 #[tactic(auto, unfolding(crate::specs::Report::dir_line))]
@@ -118,6 +124,35 @@ fn write_link(text: &mut Vec<u8>, at: &TreePath, meta: Meta, target: &[u8]) -> R
     let path = percent_encode(at.path.as_slice(), escaped_bytes());
     let target = percent_encode(target, escaped_bytes());
     write!(text, "link {inode} {stamp} {path} {target}\n").map_err(|_| NoMemory)
+}
+
+#[tactic(auto, unfolding(crate::specs::Report::dev_line))]
+fn write_device(
+    alloc: Global,
+    text: &mut Vec<u8>,
+    at: &TreePath,
+    meta: Meta,
+    device: Device,
+) -> Result<(), NoMemory>
+    ensures { OnOk result (text.new.items ≡ text.old.items
+        ++ dev_line at.now.inode meta.mode meta.stamp device at.now.path) }
+{
+    let (inode, stamp) = (at.inode, meta.stamp);
+    let mode = mode_text(alloc, meta.mode)?;
+    let name = device_name(device);
+    let path = percent_encode(at.path.as_slice(), escaped_bytes());
+    write!(text, "dev {inode} {mode} {stamp} {name} {path}\n").map_err(|_| NoMemory)
+}
+
+/// The name of a device, as an index and a report show it.
+pub fn device_name(device: Device) -> &'static str
+    ensures { result.now ≡ device_name device }
+{
+    match device {
+        Device::Null => "null",
+        Device::Zero => "zero",
+        Device::Random => "random",
+    }
 }
 
 #[tactic(auto, unfolding(crate::specs::Report::file_line))]

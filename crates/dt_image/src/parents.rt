@@ -53,7 +53,7 @@ fn is_dir_source(source: SourceRef<'_>) -> bool
 {
     match source {
         SourceRef::Dir(_) => true,
-        SourceRef::File(_, _) | SourceRef::Link(_) => false,
+        SourceRef::File(_, _) | SourceRef::Link(_) | SourceRef::Dev(_, _) => false,
     }
 }
 

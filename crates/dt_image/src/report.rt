@@ -6,11 +6,13 @@ use dt_base::{Blob, End, Errno, Event, NoMemory, Verdict};
 use std::alloc::Global;
 use std::io::Write;
 
-/// The line that a report begins with.
-pub fn header() -> &'static [u8]
-    ensures { result.now ≡ header }
+/// The line that a report on an image of that version begins with.
+pub fn header(alloc: Global, version: u64) -> Result<Blob, NoMemory>
+    ensures { IfOk result (λ text. text ≡ header version) }
 {
-    b"dettrace 1\n"
+    let mut text = Vec::new(alloc);
+    write!(&mut text, "dettrace {version}\n").map_err(|_| NoMemory)?;
+    Ok(Blob::new(text))
 }
 
 /// The lines of a report that tell of an event.

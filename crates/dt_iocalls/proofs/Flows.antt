@@ -9,7 +9,7 @@ use Rattle.dt_base.specs.declared.errno.Errno.{Errno}
 use Rattle.dt_base.specs.declared.errno.Errno.TheVariants.{Fault as BadAddress}
 use Rattle.dt_fds.specs.declared.desc.Desc.{Desc}
 use Rattle.dt_fds.specs.declared.desc.DescKind.{DescKind}
-use Rattle.dt_fds.specs.declared.desc.DescKind.TheVariants.{File, Dir, PipeRead, PipeWrite, Input, Stream}
+use Rattle.dt_fds.specs.declared.desc.DescKind.TheVariants.{File, Dir, Device, PipeRead, PipeWrite, Input, Stream}
 use Rattle.dt_fds.specs.declared.files.Files.{Files}
 use Rattle.dt_fds.specs.declared.flow.Flow.{Flow}
 use Rattle.dt_fds.specs.declared.flow.Flow.TheVariants.{Moved}
@@ -43,9 +43,9 @@ use Rattle.dt_iocalls.specs.inner.Answered.{pipe_answer}
 pub reaches_backed : (defined : Reply) (old : Fs) (tree : Table) (files : Files) (w v : World) (caller : Caller) (space pages : List PageView) (answer : Answer) (before now : ℕ)
     → Sound (stage old w caller space) → IsBacked (at files tree v) → KeepsHolds caller.vpid (holds.holding_at (at old.files old.tree w)) (holds.holding_at (at files tree v)) → OnlyFiles w v → before ≤ now
     → defined ≡ record { next = with_holding (holds.holding_at (at files tree v)) (record (scene (stage old w caller space)) { space = pages }); answer = answer }
-    → HasReply defined (stage old w caller space) (stage (record { tree = tree; files = files; clock = old.clock; rand = old.rand }) v caller pages) (Ok answer) before now
+    → HasReply defined (stage old w caller space) (stage (record { tree = tree; files = files; clock = old.clock; rand = old.rand; input = old.input }) v caller pages) (Ok answer) before now
 reaches_backed defined old tree files w v caller space pages answer before now sound backed kept rest later is =
-    let new : Fs = record { tree = tree; files = files; clock = old.clock; rand = old.rand } in
+    let new : Fs = record { tree = tree; files = files; clock = old.clock; rand = old.rand; input = old.input } in
     record {
       served = is;
       sound = sound_held old new w v caller space pages sound backed kept;
@@ -59,7 +59,7 @@ pub reaches_still : (defined : Reply) (g : Stage) (answer : Answer) (before now 
 reaches_still defined g answer before now sound later is = record {
   served = is;
   sound = sound;
-  others = record { vpid = refl; tables = λ q apart. refl; holds = λ n. refl; files = λ n held is. is; dirs = λ n held is. is };
+  others = record { vpid = refl; tables = λ q apart. refl; holds = λ n. refl; files = λ n held is. is; dirs = λ n held is. is; devices = λ n held is. is };
   rest = refl;
   cause = record { later = later; rose = λ failed. cc };
 }
@@ -68,6 +68,7 @@ reaches_still defined g answer before now sound later is = record {
 held-kind : (pipes : PipesView) (kind : DescKind) → write_pipe kind ≡ None → length (unwrap_or (option_map (pipe_content pipes) (pipe_of kind)) []) ≡ length (unwrap_or (option_map (pipe_content pipes) (read_pipe kind)) [])
 held-kind pipes (File n) reads = refl
 held-kind pipes (Dir n) reads = refl
+held-kind pipes (Device n) reads = refl
 held-kind pipes (PipeRead q) reads = refl
 held-kind pipes (PipeWrite q) reads = absurd cc
 held-kind pipes Input reads = refl
@@ -184,7 +185,7 @@ made-pipe p flags h ends new (Err error) value free does is = absurd cc
 -- a read or a write of a pipe was made, and the process has these pages then
 pub reaches_made : (old : Fs) (files : Files) (w v : World) (caller : Caller) (space pages : List PageView) (call : Holding → FilesAnswer Flow) (r : Result Flow CallErr) (answer : Answer) (before now : ℕ)
     → Sound (stage old w caller space) → HasFilesAnswer caller.vpid call (at old.files old.tree w) (at files old.tree v) r before now → pipe_answer r ≡ Ok answer
-    → HasReply (flow_reply (record (scene (stage old w caller space)) { space = pages }) (call (holds.holding_at (at old.files old.tree w)))) (stage old w caller space) (stage (record { tree = old.tree; files = files; clock = old.clock; rand = old.rand }) v caller pages) (Ok answer) before now
+    → HasReply (flow_reply (record (scene (stage old w caller space)) { space = pages }) (call (holds.holding_at (at old.files old.tree w)))) (stage old w caller space) (stage (record { tree = old.tree; files = files; clock = old.clock; rand = old.rand; input = old.input }) v caller pages) (Ok answer) before now
 reaches_made old files w v caller space pages call (Ok flow) answer before now sound makes is =
     let s = record (scene (stage old w caller space)) { space = pages } in
     let h = holds.holding_at (at old.files old.tree w) in
@@ -204,7 +205,7 @@ reaches_made old files w v caller space pages call (Err (has_failed error)) answ
 -- the same, also where the host failed
 module _ (old : Fs) (files : Files) (w v : World) (caller : Caller) (space : List PageView) (call : Holding → FilesAnswer Flow) (before now : ℕ) (sound : Sound (stage old w caller space)) where
   abbrev FlowsTo : Result Answer HostErr → Type 0
-  FlowsTo result = HasReply (flow_reply (scene (stage old w caller space)) (call (holds.holding_at (at old.files old.tree w)))) (stage old w caller space) (stage (record { tree = old.tree; files = files; clock = old.clock; rand = old.rand }) v caller space) result before now
+  FlowsTo result = HasReply (flow_reply (scene (stage old w caller space)) (call (holds.holding_at (at old.files old.tree w)))) (stage old w caller space) (stage (record { tree = old.tree; files = files; clock = old.clock; rand = old.rand; input = old.input }) v caller space) result before now
 
   by-result : (r : Result Flow CallErr) → HasFilesAnswer caller.vpid call (at old.files old.tree w) (at files old.tree v) r before now → FlowsTo (pipe_answer r)
   by-result (Ok flow) makes = reaches_made old files w v caller space space call (Ok flow) (flow_answer (Ok flow)) before now sound makes refl

@@ -1,6 +1,7 @@
 pub mod Scenes
 pub mod Vectors
 pub mod Scattering
+pub mod Drawn
 pub mod Pieces
 pub mod Described
 pub mod Parts

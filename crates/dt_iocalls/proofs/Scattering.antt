@@ -1,7 +1,8 @@
 -- Bytes that are put into ranges: whether they may be does not change while they are.
-use Rattle.std.proofs.Common.{◌≡◌, ℕ, zero, suc, ◌+◌, ◌%◌, ◌^◌, ◌<◌, ◌≤◌, get_or, add-one, List, [], ◌∷◌, length, take, drop, Option, None, Some, is_some, Result, Ok, Err, IsOk, refl, sym, ap, ◌∙◌, subst}
+use Rattle.std.proofs.Common.{arith, ◌≡◌, ℕ, zero, suc, ◌+◌, ◌%◌, ◌^◌, ◌<◌, ◌≤◌, get_or, add-one, List, [], ◌∷◌, length, take, drop, Option, None, Some, is_some, Result, Ok, Err, IsOk, refl, sym, ap, ◌∙◌, subst}
 use Rattle.std.proofs.Math.Seq.{drop-cons}
 use Rattle.std.proofs.lemmas.List.{drop_all, length-take, length-drop}
+use Rattle.std.proofs.lemmas.List.Sums.{sum_by-cons}
 use Rattle.std.specs.Prelude.{min, ◌-◌}
 use Rattle.dt_space.specs.declared.access.Miss.{Miss}
 use Rattle.dt_space.specs.declared.access.TheConstants.{WRITE}
@@ -9,7 +10,7 @@ use Rattle.dt_space.specs.Space.{PageView, byte_at, byte_before, load}
 use Rattle.dt_space.specs.Write.{pages_after_write, pages_after_store, pages_if_allowed}
 use Rattle.dt_space.proofs.Kept.{write-some}
 use Rattle.dt_iocalls.specs.declared.ranges.Range.{Range}
-use Rattle.dt_iocalls.specs.Ranges.{on_pages, scattered_pages}
+use Rattle.dt_iocalls.specs.Ranges.{on_pages, scattered_pages, total_len}
 
 -- the same bytes may be written
 abbrev pub SameRights : List PageView → List PageView → Type 0
@@ -174,3 +175,52 @@ pub missed-alike : (pages : List PageView) (ranges : List Range) (a b : List ℕ
 missed-alike pages ranges a b miss same is =
     missed-looks (looked pages ranges a) (scattered_pages pages ranges a) (scattered_pages pages ranges b) miss (scattered-looked pages ranges a)
     (subst (λ found. LikePages found (scattered_pages pages ranges b)) (sym (looked-alike pages ranges a b same)) (scattered-looked pages ranges b)) is
+
+-- whether all bytes of ranges may be written, or the first miss
+unfoldable pub filled : List PageView → List Range → Result (List ℕ) Miss
+filled pages [] = Ok []
+filled pages (range ∷ ranges) = then_look (load pages WRITE range.address range.len) (filled pages ranges)
+
+-- that is the same for as many bytes as ranges have
+filled-looked : (pages : List PageView) (ranges : List Range) (bytes : List ℕ) → length bytes ≡ total_len ranges → looked pages ranges bytes ≡ filled pages ranges
+unfolding looked filled
+filled-looked pages [] bytes same = refl
+filled-looked pages (range ∷ ranges) bytes same =
+    let all = same ∙ sum_by-cons (λ range. range.len) range ranges in
+    let part : length (take range.len bytes) ≡ range.len = length-take range.len bytes ∙ omega (arith, all) in
+    let rest : length (drop range.len bytes) ≡ total_len ranges = length-drop range.len bytes ∙ omega (arith, all) in
+    (λ i. then_look (load pages WRITE range.address (part i)) (filled-looked pages ranges (drop range.len bytes) rest i))
+
+filled-past : (pages : List PageView) (range : Range) (rest : List Range) (found : Result (List ℕ) Miss) → load pages WRITE range.address range.len ≡ found → IsOk found → filled pages (range ∷ rest) ≡ filled pages rest
+unfolding filled
+filled-past pages range rest (Ok x) is may = ap (λ r. then_look r (filled pages rest)) is
+filled-past pages range rest (Err miss) is may = absurd cc
+
+filled-step : (pages : List PageView) (range : Range) (rest : List Range) (miss : Miss) → load pages WRITE range.address range.len ≡ Err miss → filled pages (range ∷ rest) ≡ Err miss
+unfolding filled
+filled-step pages range rest miss is = ap (λ r. then_look r (filled pages rest)) is
+
+filled-none : (pages : List PageView) → filled pages [] ≡ Ok []
+unfolding filled
+filled-none pages = refl
+
+pub filled-more : (pages : List PageView) (all : Result (List ℕ) Miss) (ranges : List Range) (i : ℕ) (d : Range) → i < length ranges → IsOk (load pages WRITE (get_or ranges i d).address (get_or ranges i d).len) → all ≡ filled pages (drop i ranges) → all ≡ filled pages (drop (i + 1) ranges)
+filled-more pages all ranges i d within may so_far =
+    let range = get_or ranges i d in
+    so_far ∙ ap (filled pages) (from-index ranges i d within)
+    ∙ filled-past pages range (drop (i + 1) ranges) (load pages WRITE range.address range.len) refl may
+
+pub filled-missed : (pages : List PageView) (ranges : List Range) (i : ℕ) (d : Range) (miss : Miss) → i < length ranges → load pages WRITE (get_or ranges i d).address (get_or ranges i d).len ≡ Err miss → filled pages ranges ≡ filled pages (drop i ranges)
+    → (bytes : List ℕ) → length bytes ≡ total_len ranges → scattered_pages pages ranges bytes ≡ Err miss
+filled-missed pages ranges i d miss within found so_far bytes same =
+    let missed : looked pages ranges bytes ≡ Err miss =
+    filled-looked pages ranges bytes same ∙ so_far ∙ ap (filled pages) (from-index ranges i d within)
+    ∙ filled-step pages (get_or ranges i d) (drop (i + 1) ranges) miss found in
+    subst (λ r. LikePages r (scattered_pages pages ranges bytes)) missed (scattered-looked pages ranges bytes)
+
+pub filled-end : (pages : List PageView) (ranges : List Range) (i : ℕ) → length ranges ≤ i → filled pages ranges ≡ filled pages (drop i ranges)
+    → (bytes : List ℕ) → length bytes ≡ total_len ranges → IsOk (scattered_pages pages ranges bytes)
+filled-end pages ranges i end so_far bytes same =
+    let may : looked pages ranges bytes ≡ Ok [] =
+    filled-looked pages ranges bytes same ∙ so_far ∙ ap (filled pages) (drop_all i ranges end) ∙ filled-none pages in
+    subst (λ r. LikePages r (scattered_pages pages ranges bytes)) may (scattered-looked pages ranges bytes)

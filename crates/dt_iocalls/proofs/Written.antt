@@ -5,14 +5,14 @@ use Rattle.dt_base.specs.declared.errno.Errno.TheVariants.{BadF}
 use Rattle.dt_fds.specs.Descriptions.{write_pipe}
 use Rattle.dt_fds.specs.declared.desc.Desc.{Desc}
 use Rattle.dt_fds.specs.declared.desc.DescKind.{DescKind}
-use Rattle.dt_fds.specs.declared.desc.DescKind.TheVariants.{File, Dir, PipeRead, PipeWrite, Input, Stream}
+use Rattle.dt_fds.specs.declared.desc.DescKind.TheVariants.{File, Dir, Device, PipeRead, PipeWrite, Input, Stream}
 use Rattle.dt_space.specs.declared.access.Miss.{Miss}
 use Rattle.dt_tree.specs.Calls.{TreeAnswer, tree_answer}
 use Rattle.dt_tree.specs.FileTree.{FileTree}
 use Rattle.dt_iocalls.specs.declared.ranges.Range.{Range}
 use Rattle.dt_iocalls.specs.Offsets.{is_writable, offset_of}
 use Rattle.dt_iocalls.specs.Ranges.{gathered_bytes, total_len}
-use Rattle.dt_iocalls.specs.Writing.{write_result_reply, on_bytes, write_reply, bytes_write_reply, write_reply_by_kind, pipe_write_reply, descriptor_write_reply}
+use Rattle.dt_iocalls.specs.Writing.{write_result_reply, on_bytes, write_reply, bytes_write_reply, write_reply_by_kind, pipe_write_reply, device_write_reply, descriptor_write_reply}
 use Rattle.dt_iocalls.specs.inner.Written.{some_bytes, ranges_write_reply}
 use Rattle.dt_iocalls.proofs.Pieces.{gathered-length}
 use Rattle.dt_callbase.specs.Scene.{Scene, Reply, value_reply, description_of, on_description, refused_reply, stamp}
@@ -40,11 +40,15 @@ module _ (fd : ℕ) (ranges : List Range) (s : Scene) (desc : Desc) (found : des
   by-kind (PipeRead r) q is = absurd cc
   by-kind (File n) q is = absurd cc
   by-kind (Dir n) q is = absurd cc
+  by-kind (Device n) q is = absurd cc
   by-kind Input q is = absurd cc
   by-kind (Stream stream) q is = absurd cc
 
   pub written-pipe : (q : ℕ) → write_pipe desc.kind ≡ Some q → descriptor_write_reply fd ranges s ≡ ranges_write_reply (pipe_write_reply fd) ranges s
   written-pipe q is = written-whole ∙ by-kind desc.kind q is
+
+  pub written-device : (n : ℕ) → desc.kind ≡ Device n → descriptor_write_reply fd ranges s ≡ ranges_write_reply device_write_reply ranges s
+  written-device n is = written-whole ∙ ap (λ kind. ranges_write_reply (write_reply_by_kind fd desc.append (offset_of desc.spot) kind) ranges s) is
 
 -- with no bytes nothing is done
 pub none-written : (write : List ℕ → Scene → Reply) (ranges : List Range) (s : Scene) → IsOk (gathered_bytes s.space ranges) → total_len ranges ≡ 0 → ranges_write_reply write ranges s ≡ value_reply s 0
@@ -61,4 +65,13 @@ some-written write ranges s ok some = by-found (gathered_bytes s.space ranges) r
     by-found : (found : Result (List ℕ) Miss) → gathered_bytes s.space ranges ≡ found → IsOk found → on_bytes s found (λ bytes. some_bytes write bytes s) ≡ on_bytes s found (λ bytes. write bytes s)
     by-found (Ok []) is ok = absurd (some (sym (gathered-length s.space ranges [] is)))
     by-found (Ok (byte ∷ bytes)) is ok = refl
+    by-found (Err miss) is ok = absurd cc
+
+-- a device takes all bytes
+pub device-written : (ranges : List Range) (s : Scene) → IsOk (gathered_bytes s.space ranges) → ranges_write_reply device_write_reply ranges s ≡ value_reply s (total_len ranges)
+device-written ranges s ok = by-found (gathered_bytes s.space ranges) refl ok
+  where
+    by-found : (found : Result (List ℕ) Miss) → gathered_bytes s.space ranges ≡ found → IsOk found → on_bytes s found (λ bytes. some_bytes device_write_reply bytes s) ≡ value_reply s (total_len ranges)
+    by-found (Ok []) is ok = ap (value_reply s) (gathered-length s.space ranges [] is)
+    by-found (Ok (byte ∷ bytes)) is ok = ap (value_reply s) (gathered-length s.space ranges (byte ∷ bytes) is)
     by-found (Err miss) is ok = absurd cc

@@ -6,7 +6,7 @@ use Rattle.dt_base.specs.Bytes.{with_trailing_zeros}
 use Rattle.dt_base.specs.Fields.{low_bytes}
 use Rattle.dt_base.specs.declared.errno.Errno.TheVariants.{Inval, NoEnt, NotDir, Fault as BadAddress}
 use Rattle.dt_fds.specs.declared.desc.DescKind.{DescKind}
-use Rattle.dt_fds.specs.declared.desc.DescKind.TheVariants.{File, Dir, PipeRead, PipeWrite, Input, Stream}
+use Rattle.dt_fds.specs.declared.desc.DescKind.TheVariants.{File, Dir, Device, PipeRead, PipeWrite, Input, Stream}
 use Rattle.dt_fds.specs.declared.desc.Spot.TheVariants.{After}
 use Rattle.dt_space.specs.declared.access.Miss.{Miss}
 use Rattle.dt_space.specs.Space.{PageView}
@@ -77,6 +77,7 @@ listing_reply fd buffer count n last s =
 abbrev pub listing_reply_by_kind : ℕ → ℕ → ℕ → DescKind → Option (List ℕ) → Scene → Reply
 listing_reply_by_kind fd buffer count (File n) last s = refused_reply s NotDir
 listing_reply_by_kind fd buffer count (Dir n) last s = listing_reply fd buffer count n last s
+listing_reply_by_kind fd buffer count (Device n) last s = refused_reply s NotDir
 listing_reply_by_kind fd buffer count (PipeRead q) last s = refused_reply s NotDir
 listing_reply_by_kind fd buffer count (PipeWrite q) last s = refused_reply s NotDir
 listing_reply_by_kind fd buffer count Input last s = refused_reply s NotDir

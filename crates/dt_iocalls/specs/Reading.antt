@@ -1,14 +1,17 @@
 -- The calls that read: read(2), readv(2), pread64(2).
-use Rattle.std.specs.Prelude.{ℕ, ◌+◌, ◌^◌, ◌==◌, not, List, length, take, drop, Result, Ok, Err, nat_le, if◌then◌else◌}
+use Rattle.std.specs.Prelude.{ℕ, ◌+◌, ◌^◌, ◌==◌, not, List, length, replicate, take, drop, Option, Some, None, Result, Ok, Err, nat_le, if◌then◌else◌}
 use Rattle.dt_base.specs.Abi.{low_word, byte_count}
 use Rattle.dt_base.specs.declared.errno.Errno.TheVariants.{BadF, Inval, IsDir, SPipe, Fault as BadAddress}
 use Rattle.dt_fds.specs.declared.desc.Desc.{Desc}
 use Rattle.dt_fds.specs.declared.desc.DescKind.{DescKind}
-use Rattle.dt_fds.specs.declared.desc.DescKind.TheVariants.{File, Dir, PipeRead, PipeWrite, Input, Stream}
+use Rattle.dt_fds.specs.declared.desc.DescKind.TheVariants.{File, Dir, Device, PipeRead, PipeWrite, Input, Stream}
 use Rattle.dt_fds.specs.declared.desc.Spot.TheVariants.{At}
 use Rattle.dt_fds.specs.declared.flow.Flow.{Flow}
 use Rattle.dt_fds.specs.Holding.{FilesAnswer, pipe_read_call, bytes_read}
-use Rattle.dt_host.specs.World.{content}
+use Rattle.dt_base.specs.declared.image.Device as base
+use Rattle.dt_base.specs.declared.image.Device.TheVariants.{Null, Zero, Random}
+use Rattle.dt_host.specs.World.{content, device_at}
+use Rattle.dt_virt.specs.Words.{next_bytes, rest_after}
 use Rattle.dt_space.specs.declared.access.Miss.{Miss}
 use Rattle.dt_space.specs.Space.{PageView}
 use Rattle.dt_iocalls.specs.declared.ranges.Range.{Range}
@@ -38,6 +41,29 @@ abbrev pub file_read_reply : ℕ → ℕ → ℕ → List Range → Scene → Re
 file_read_reply fd n offset ranges s =
     let bytes = file_bytes_from s n offset ranges in received_reply s fd offset (length bytes) (scattered_pages s.space ranges bytes)
 
+-- the input is read where its description stands
+abbrev pub input_read_reply : ℕ → ℕ → List Range → Scene → Reply
+input_read_reply fd offset ranges s =
+    let bytes = take (total_len ranges) (drop offset s.input) in received_reply s fd offset (length bytes) (scattered_pages s.space ranges bytes)
+
+-- so many random bytes came, and their words are used up: EFAULT where one of them could not be put into its buffer, and then
+-- no word is
+abbrev pub drawn_reply : Scene → ℕ → Result (List PageView) Miss → Reply
+drawn_reply s count (Err miss) = refused_reply s BadAddress
+drawn_reply s count (Ok pages) = value_reply (record s { rand = rest_after s.rand count; space = pages }) count
+
+-- a device is read: no bytes, zeros, or the next bytes of the seed's words, as getrandom(2) draws them for all ranges together
+abbrev pub bytes_of_device_reply : Option base.Device → List Range → Scene → Reply
+bytes_of_device_reply None ranges s = value_reply s 0
+bytes_of_device_reply (Some Null) ranges s = value_reply s 0
+bytes_of_device_reply (Some Zero) ranges s =
+    let count = total_len ranges in filled_reply s count (scattered_pages s.space ranges (replicate count 0))
+bytes_of_device_reply (Some Random) ranges s =
+    let count = total_len ranges in drawn_reply s count (scattered_pages s.space ranges (next_bytes s.rand count))
+
+abbrev pub device_read_reply : ℕ → List Range → Scene → Reply
+device_read_reply n ranges s = bytes_of_device_reply (device_at s.tree.shape n) ranges s
+
 -- bytes came from a pipe: EFAULT where one of them could not be put into its buffer, and then nothing is read
 abbrev pub pipe_fill_reply : Scene → FilesAnswer Flow → Result (List PageView) Miss → Reply
 pipe_fill_reply s o (Err miss) = refused_reply s BadAddress
@@ -51,13 +77,14 @@ pipe_read_reply fd ranges s =
     if most == 0 then value_reply s 0
     else pipe_fill_reply s (pipe_read_call p fd most (holding s)) (scattered_pages s.space ranges (bytes_read p fd most (holding s)))
 
--- a read by what the descriptor refers to: the input is empty
+-- a read by what the descriptor refers to
 unfoldable pub read_reply_by_kind : ℕ → List Range → DescKind → ℕ → Scene → Reply
 read_reply_by_kind fd ranges (File n) offset s = file_read_reply fd n offset ranges s
 read_reply_by_kind fd ranges (Dir n) offset s = refused_reply s IsDir
+read_reply_by_kind fd ranges (Device n) offset s = device_read_reply n ranges s
 read_reply_by_kind fd ranges (PipeRead q) offset s = pipe_read_reply fd ranges s
 read_reply_by_kind fd ranges (PipeWrite q) offset s = refused_reply s BadF
-read_reply_by_kind fd ranges Input offset s = value_reply s 0
+read_reply_by_kind fd ranges Input offset s = input_read_reply fd offset ranges s
 read_reply_by_kind fd ranges (Stream stream) offset s = refused_reply s BadF
 
 -- a read at the offset of a description that is open for reading
@@ -79,10 +106,11 @@ readv_row args s =
     on_ranges s (ranges_at s.space (argument args 1) (low_word (argument args 2)))
     (λ ranges. on_description s (description_of s fd) (λ desc. read_reply fd ranges desc s))
 
--- a read at an offset by what the descriptor refers to: pipes, the input and the streams have no offsets
+-- a read at an offset by what the descriptor refers to: a device has the same bytes at each; pipes, the input and the streams have no offsets
 abbrev pub read_at_reply_by_kind : ℕ → List Range → DescKind → Scene → Reply
 read_at_reply_by_kind offset ranges (File n) s = file_read_at_reply n offset ranges s
 read_at_reply_by_kind offset ranges (Dir n) s = refused_reply s IsDir
+read_at_reply_by_kind offset ranges (Device n) s = device_read_reply n ranges s
 read_at_reply_by_kind offset ranges (PipeRead q) s = refused_reply s SPipe
 read_at_reply_by_kind offset ranges (PipeWrite q) s = refused_reply s SPipe
 read_at_reply_by_kind offset ranges Input s = refused_reply s SPipe

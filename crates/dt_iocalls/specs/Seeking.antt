@@ -1,11 +1,11 @@
 -- The call that moves the offset of a description: lseek(2).
-use Rattle.std.specs.Prelude.{ℕ, ◌+◌, ◌-◌, ◌^◌, ◌==◌, ◌&&◌, List, length, Option, None, Some, nat_le, nat_lt, if◌then◌else◌}
+use Rattle.std.specs.Prelude.{ℕ, ◌+◌, ◌-◌, ◌^◌, ◌==◌, ◌&&◌, ◌||◌, List, length, Option, None, Some, nat_le, nat_lt, if◌then◌else◌}
 use Rattle.dt_base.specs.Abi.{low_word}
 use Rattle.dt_base.specs.declared.abi.TheConstants.{SEEK_SET, SEEK_CUR, SEEK_END}
 use Rattle.dt_base.specs.declared.errno.Errno.TheVariants.{Inval, SPipe}
 use Rattle.dt_base.specs.declared.limits.TheConstants.{OFFSET_LIMIT}
 use Rattle.dt_fds.specs.declared.desc.DescKind.{DescKind}
-use Rattle.dt_fds.specs.declared.desc.DescKind.TheVariants.{File, Dir, PipeRead, PipeWrite, Input, Stream}
+use Rattle.dt_fds.specs.declared.desc.DescKind.TheVariants.{File, Dir, Device, PipeRead, PipeWrite, Input, Stream}
 use Rattle.dt_fds.specs.declared.desc.Spot.{Spot}
 use Rattle.dt_fds.specs.declared.desc.Spot.TheVariants.{At, After}
 use Rattle.dt_host.specs.World.{content}
@@ -43,10 +43,16 @@ abbrev pub rewind_reply : ℕ → ℕ → ℕ → Scene → Reply
 rewind_reply fd by whence s =
     if (by == 0) && (whence == SEEK_SET) then value_reply (with_spot s fd (After None)) 0 else refused_reply s Inval
 
+-- a device has no offset to move
+abbrev pub device_seek_reply : ℕ → Scene → Reply
+device_seek_reply whence s =
+    if (whence == SEEK_SET) || (whence == SEEK_CUR) || (whence == SEEK_END) then value_reply s 0 else refused_reply s Inval
+
 -- a seek by what the descriptor refers to
 abbrev pub seek_reply : ℕ → ℕ → ℕ → DescKind → Spot → Scene → Reply
 seek_reply fd by whence (File n) spot s = seek_to_reply fd s (seek_offset s.tree n (offset_of spot) by whence)
 seek_reply fd by whence (Dir n) spot s = rewind_reply fd by whence s
+seek_reply fd by whence (Device n) spot s = device_seek_reply whence s
 seek_reply fd by whence (PipeRead q) spot s = refused_reply s SPipe
 seek_reply fd by whence (PipeWrite q) spot s = refused_reply s SPipe
 seek_reply fd by whence Input spot s = refused_reply s SPipe

@@ -1,12 +1,12 @@
 -- The calls that write or cut a file: write(2), writev(2), pwrite64(2), ftruncate(2).
-use Rattle.std.specs.Prelude.{ℕ, ◌+◌, ◌^◌, Bool, not, List, [], ◌∷◌, length, min, Result, Ok, Err, nat_le, if◌then◌else◌}
+use Rattle.std.specs.Prelude.{ℕ, ◌+◌, ◌^◌, Bool, true, false, not, List, [], ◌∷◌, length, min, Result, Ok, Err, nat_le, if◌then◌else◌}
 use Rattle.dt_base.specs.Abi.{low_word, byte_count}
 use Rattle.dt_base.specs.declared.answer.Answer.TheVariants.{Output}
 use Rattle.dt_base.specs.declared.errno.Errno.{Errno}
 use Rattle.dt_base.specs.declared.errno.Errno.TheVariants.{BadF, Inval, IsDir, SPipe, Fault as BadAddress}
 use Rattle.dt_fds.specs.declared.desc.Desc.{Desc}
 use Rattle.dt_fds.specs.declared.desc.DescKind.{DescKind}
-use Rattle.dt_fds.specs.declared.desc.DescKind.TheVariants.{File, Dir, PipeRead, PipeWrite, Input, Stream}
+use Rattle.dt_fds.specs.declared.desc.DescKind.TheVariants.{File, Dir, Device, PipeRead, PipeWrite, Input, Stream}
 use Rattle.dt_fds.specs.declared.desc.Spot.TheVariants.{At}
 use Rattle.dt_fds.specs.Holding.{pipe_write_call}
 use Rattle.dt_host.specs.World.{content}
@@ -52,10 +52,25 @@ abbrev pub pipe_write_reply : ℕ → List ℕ → Scene → Reply
 pipe_write_reply fd bytes s =
     flow_reply s (pipe_write_call s.caller.vpid fd bytes (min s.caller.done (length bytes)) (holding s))
 
+-- bytes are written to a device, which takes them all and changes nothing
+abbrev pub device_write_reply : List ℕ → Scene → Reply
+device_write_reply bytes s = value_reply s (length bytes)
+
+-- it is of a device
+abbrev pub is_of_device : DescKind → Bool
+is_of_device (File n) = false
+is_of_device (Dir n) = false
+is_of_device (Device n) = true
+is_of_device (PipeRead q) = false
+is_of_device (PipeWrite q) = false
+is_of_device Input = false
+is_of_device (Stream stream) = false
+
 -- some bytes are written by what the descriptor refers to: those of a stream go out
 abbrev pub write_reply_by_kind : ℕ → Bool → ℕ → DescKind → List ℕ → Scene → Reply
 write_reply_by_kind fd append offset (File n) bytes s = appending_write_reply fd n append offset bytes s
 write_reply_by_kind fd append offset (Dir n) bytes s = refused_reply s IsDir
+write_reply_by_kind fd append offset (Device n) bytes s = device_write_reply bytes s
 write_reply_by_kind fd append offset (PipeRead q) bytes s = refused_reply s BadF
 write_reply_by_kind fd append offset (PipeWrite q) bytes s = pipe_write_reply fd bytes s
 write_reply_by_kind fd append offset Input bytes s = refused_reply s BadF
@@ -101,6 +116,8 @@ file_write_at_reply n append offset ranges s =
 abbrev pub write_at_reply_by_kind : ℕ → List Range → Bool → DescKind → Scene → Reply
 write_at_reply_by_kind offset ranges append (File n) s = file_write_at_reply n append offset ranges s
 write_at_reply_by_kind offset ranges append (Dir n) s = refused_reply s IsDir
+write_at_reply_by_kind offset ranges append (Device n) s =
+    on_bytes s (gathered_bytes s.space ranges) (λ bytes. device_write_reply bytes s)
 write_at_reply_by_kind offset ranges append (PipeRead q) s = refused_reply s SPipe
 write_at_reply_by_kind offset ranges append (PipeWrite q) s = refused_reply s SPipe
 write_at_reply_by_kind offset ranges append Input s = refused_reply s SPipe
@@ -122,6 +139,7 @@ pwrite64_row args s =
 abbrev pub truncate_reply_by_kind : ℕ → DescKind → Scene → Reply
 truncate_reply_by_kind len (File n) s = tree_call_reply s (cut_of s.tree n len (stamp s))
 truncate_reply_by_kind len (Dir n) s = refused_reply s Inval
+truncate_reply_by_kind len (Device n) s = refused_reply s Inval
 truncate_reply_by_kind len (PipeRead q) s = refused_reply s Inval
 truncate_reply_by_kind len (PipeWrite q) s = refused_reply s Inval
 truncate_reply_by_kind len Input s = refused_reply s Inval

@@ -73,7 +73,7 @@ pub fn io_call<H: Host>(
         WRITE => write(alloc, fs, host, caller, space, args),
         READV => readv(alloc, fs, host, caller, space, args),
         WRITEV => writev(alloc, fs, host, caller, space, args),
-        PREAD64 => pread64(fs, host, caller, space, args),
+        PREAD64 => pread64(alloc, fs, host, caller, space, args),
         PWRITE64 => pwrite64(alloc, fs, host, caller, space, args),
         _ => Ok(Answer::Unsupported),
     }

@@ -1,5 +1,5 @@
 //! Buffers of a process in several ranges, which a call takes one after the other as one (readv(2), writev(2)).
-ghost use Rattle.std.specs.Prelude.{◌≡◌, ◌-◌, ◌^◌, Ok, Err, IsOk, IfOk, IfErr, OnOk, OnErr, MatchResult, length, take, drop};
+ghost use Rattle.std.specs.Prelude.{◌≡◌, ℕ, List, ◌-◌, ◌^◌, Ok, Err, IsOk, IfOk, IfErr, OnOk, OnErr, MatchResult, length, take, drop};
 ghost use Rattle.std.specs.Prelude.{min};
 ghost use Rattle.dt_iocalls.specs.Ranges.{total_len, cut_to, iovec_at, iovecs_at, ranges_at, gathered_bytes};
 ghost use Rattle.dt_iocalls.specs.Ranges.{scattered_pages};
@@ -200,6 +200,22 @@ pub(crate) fn may_scatter(space: &Space, ranges: &[Range], bytes: &[u8]) -> Resu
             return Err(miss);
         }
         left = rest;
+    }
+    Ok(())
+}
+
+// Whether each byte of ranges may be written; else the first miss.
+pub(crate) fn writable(space: &Space, ranges: &[Range]) -> Result<(), Miss>
+    ensures { MatchResult result
+        (λ _. (bytes : List ℕ) → length bytes ≡ total_len ranges.now
+        → IsOk (scattered_pages space.now ranges.now bytes))
+        (λ miss. (bytes : List ℕ) → length bytes ≡ total_len ranges.now
+        → scattered_pages space.now ranges.now bytes ≡ Err miss) }
+{
+    for range in ranges {
+        if let Err(miss) = space.writable(range.address, range.len) {
+            return Err(miss);
+        }
     }
     Ok(())
 }

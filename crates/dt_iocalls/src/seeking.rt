@@ -4,7 +4,7 @@ ghost use Rattle.dt_base.specs.Abi.{low_word};
 ghost use Rattle.dt_fds.specs.Descriptions.{description_at, is_of_dir};
 ghost use Rattle.dt_host.specs.Asks.{Asks};
 ghost use Rattle.dt_host.specs.World.{IsFile};
-ghost use Rattle.dt_iocalls.specs.Seeking.{shifted_offset, seek_offset, seek_to_reply, rewind_reply, lseek_row};
+ghost use Rattle.dt_iocalls.specs.Seeking.{shifted_offset, seek_offset, seek_to_reply, rewind_reply, device_seek_reply, lseek_row};
 ghost use Rattle.dt_callbase.specs.Sound.{Sound, HasRowReply, HasReplyOf, HasReply, stage, scene};
 ghost use Rattle.dt_tree.specs.Table.{Stands, shape_of, tree_of};
 
@@ -18,8 +18,9 @@ use dt_space::Space;
 use dt_tree::Tree;
 
 /// lseek(2): moves the offset of a file's description, counted from the start of the file (SEEK_SET), from where it
-/// stands (SEEK_CUR) or from the end (SEEK_END), and answers the new one; a listing can only start again. The errors
-/// are EBADF, ESPIPE (neither a file nor a directory), and EINVAL (another whence, or no such offset).
+/// stands (SEEK_CUR) or from the end (SEEK_END), and answers the new one; a listing can only start again, and a device
+/// stays at 0. The errors are EBADF, ESPIPE (neither a file, a directory nor a device), and EINVAL (another whence, or
+/// no such offset).
 #[tactic(auto, unfolding(crate::specs::Seeking::lseek_row), using(crate::proofs::Described::node_in))]
 pub fn lseek<H: Host>(
     fs: &mut Fs,
@@ -43,9 +44,29 @@ pub fn lseek<H: Host>(
             let offset = offset_of(&desc.spot);
             seek(fs, host, caller, space, fd, n, offset, by, whence)
         }
+        DescKind::Device(_) => seek_device(fs, host, caller, space, whence),
         DescKind::Dir(_) => rewind(fs, host, caller, space, fd, by, whence),
         DescKind::PipeRead(_) | DescKind::PipeWrite(_) | DescKind::Input | DescKind::Stream(_) =>
             Ok(Answer::Refused(Errno::SPipe)),
+    }
+}
+
+// Seeks in a device, which has no offset to move.
+fn seek_device<H: Host>(
+    fs: &Fs,
+    host: &H,
+    caller: &Caller,
+    space: &Space,
+    whence: u32,
+) -> Result<Answer, HostErr>
+    requires { Sound (stage fs.now (H.view host.now) caller.now space.now) }
+    ensures { HasReplyOf (device_seek_reply whence) (stage fs.now (H.view host.now) caller.now space.now)
+        (stage fs.now (H.view host.now) caller.now space.now) result
+        (H.count host.now) (H.count host.now) }
+{
+    match whence {
+        SEEK_SET | SEEK_CUR | SEEK_END => Ok(Answer::Value(0)),
+        _ => Ok(Answer::Refused(Errno::Inval)),
     }
 }
 

@@ -11,6 +11,7 @@ ghost use Rattle.dt_host.specs.World.{IsFile};
 ghost use Rattle.dt_tree.specs.Table.{Stands, shape_of, tree_of};
 ghost use Rattle.dt_iocalls.specs.Offsets.{with_spot};
 ghost use Rattle.dt_iocalls.specs.Ranges.{gathered_bytes, total_len};
+ghost use Rattle.dt_iocalls.specs.Writing.{device_write_reply, is_of_device};
 ghost use Rattle.dt_iocalls.specs.Writing.{write_offset, file_write_reply, moving_write_reply, appending_write_reply};
 ghost use Rattle.dt_iocalls.specs.Writing.{write_reply_by_kind, descriptor_write_reply};
 ghost use Rattle.dt_iocalls.specs.Writing.{write_row, writev_row, bytes_write_at_reply, file_write_at_reply};
@@ -106,15 +107,41 @@ fn write_descriptor<H: Host>(
         return Ok(Answer::Refused(Errno::BadF));
     }
     let (kind, append, offset) = (desc.kind, desc.append, offset_of(&desc.spot));
-    match kind.write_pipe() {
-        Some(_) => write_pipe(alloc, fs, host, caller, space, fd, ranges),
-        None => write_gathered(
+    match kind {
+        DescKind::PipeWrite(_) => write_pipe(alloc, fs, host, caller, space, fd, ranges),
+        DescKind::Device(_) => write_device(fs, host, caller, space, ranges),
+        DescKind::File(_)
+        | DescKind::Dir(_)
+        | DescKind::PipeRead(_)
+        | DescKind::Input
+        | DescKind::Stream(_) => write_gathered(
             alloc, fs, host, caller, space, fd, kind, append, offset, ranges,
         ),
     }
 }
 
-// Writes all bytes of ranges to what a descriptor refers to, which is no pipe.
+// Writes the bytes of ranges to a device, which takes them all and changes nothing. They are not copied.
+fn write_device<H: Host>(
+    fs: &Fs,
+    host: &H,
+    caller: &Caller,
+    space: &Space,
+    ranges: &[Range],
+) -> Result<Answer, HostErr>
+    requires sound { Sound (stage fs.now (H.view host.now) caller.now space.now) }
+    requires few { total_len ranges.now ≤ TRANSFER_LIMIT }
+    ensures { HasReplyOf (ranges_write_reply device_write_reply ranges.now)
+        (stage fs.now (H.view host.now) caller.now space.now)
+        (stage fs.now (H.view host.now) caller.now space.now) result
+        (H.count host.now) (H.count host.now) }
+{
+    match readable(space, ranges) {
+        Ok(()) => Ok(Answer::Value(total_len(ranges))),
+        Err(_) => Ok(Answer::Refused(Errno::Fault)),
+    }
+}
+
+// Writes all bytes of ranges to what a descriptor refers to, which is neither a pipe nor a device.
 fn write_gathered<H: Host>(
     alloc: Global,
     fs: &mut Fs,
@@ -131,6 +158,7 @@ fn write_gathered<H: Host>(
     requires there { IsIn (shape_of fs.old.tree (H.view host.old).forest) kind }
     requires is { IfSome (description_at fs.old.files.descriptors caller.now.vpid fd) (λ desc. desc.kind ≡ kind) }
     requires no_pipe { pipe_of_write kind ≡ None }
+    requires no_device { is_of_device kind ≡ false }
     ensures { HasReplyOf (ranges_write_reply (write_reply_by_kind fd append offset kind) ranges.now)
         (stage fs.old (H.view host.old) caller.now space.now)
         (stage fs.new (H.view host.new) caller.now space.now) result
@@ -148,7 +176,7 @@ fn write_gathered<H: Host>(
     write_by_kind(fs, host, caller, space, fd, kind, append, offset, bytes)
 }
 
-// Writes some bytes to what a descriptor refers to, which is no pipe.
+// Writes some bytes to what a descriptor refers to, which is neither a pipe nor a device.
 fn write_by_kind<H: Host>(
     fs: &mut Fs,
     host: &mut H,
@@ -164,6 +192,7 @@ fn write_by_kind<H: Host>(
     requires there { IsIn (shape_of fs.old.tree (H.view host.old).forest) kind }
     requires is { IfSome (description_at fs.old.files.descriptors caller.now.vpid fd) (λ desc. desc.kind ≡ kind) }
     requires no_pipe { pipe_of_write kind ≡ None }
+    requires no_device { is_of_device kind ≡ false }
     ensures { HasReplyOf (write_reply_by_kind fd append offset kind bytes.items)
         (stage fs.old (H.view host.old) caller.now space.now)
         (stage fs.new (H.view host.new) caller.now space.now) result
@@ -173,7 +202,7 @@ fn write_by_kind<H: Host>(
     match kind {
         DescKind::File(n) => write_file(fs, host, caller, space, fd, n, append, offset, &bytes),
         DescKind::Dir(_) => Ok(Answer::Refused(Errno::IsDir)),
-        DescKind::PipeWrite(_) => unreachable!(),
+        DescKind::PipeWrite(_) | DescKind::Device(_) => unreachable!(),
         DescKind::PipeRead(_) | DescKind::Input => Ok(Answer::Refused(Errno::BadF)),
         DescKind::Stream(stream) => Ok(Answer::Output(stream, Blob::new(bytes))),
     }
@@ -405,6 +434,7 @@ pub fn pwrite64<H: Host>(
             write_ranges_at(alloc, fs, host, caller, space, n, append, args[3], &ranges)
         }
         DescKind::Dir(_) => Ok(Answer::Refused(Errno::IsDir)),
+        DescKind::Device(_) => write_device(fs, host, caller, space, &ranges),
         DescKind::PipeRead(_) | DescKind::PipeWrite(_) | DescKind::Input | DescKind::Stream(_) =>
             Ok(Answer::Refused(Errno::SPipe)),
     }
@@ -471,6 +501,7 @@ pub fn ftruncate<H: Host>(
     match desc.kind {
         DescKind::File(n) => cut(fs, host, caller, space, n, args[1]),
         DescKind::Dir(_)
+        | DescKind::Device(_)
         | DescKind::PipeRead(_)
         | DescKind::PipeWrite(_)
         | DescKind::Input

@@ -11,7 +11,7 @@ use Rattle.std.specs.Cmp.Lexicographic.{slice_cmp}
 use Rattle.dt_host.specs.World.{Forest, Node, Names, file, dir, file_at, dir_at, target_at, file_bytes, dir_names, link_target, IsFile, IsDir, IsLive, content, names_at, entry, with_node, with_bytes, with_entry, without_entry}
 use Rattle.dt_host.specs.declared.kind.NodeKind.{NodeKind}
 use Rattle.dt_memhost.specs.declared.node.MemNode.{MemNode}
-use Rattle.dt_memhost.specs.declared.node.MemNode.TheVariants.{File, Dir, Link, Pipe}
+use Rattle.dt_memhost.specs.declared.node.MemNode.TheVariants.{File, Dir, Link, Device, Pipe}
 use Rattle.dt_memhost.specs.inner.Node.{node_of, node_in, nodes_of, entries_of, order_in, orders_of, held_of, held_in, pipes_of, new_node, new_order, new_held}
 use Rattle.dt_memhost.specs.inner.Forest.{OrderedForest, empty_ordered, with_new_at, with_binding, without_binding, without_number, with_file_bytes, with_pipe_bytes}
 use Rattle.dt_memhost.specs.Order.{Order, order_at, order_without}
@@ -70,6 +70,7 @@ has_order None h = cc
 has_order (Some (File bytes)) h = refl
 has_order (Some (Dir order)) h = refl
 has_order (Some (Link target)) h = refl
+has_order (Some (Device which)) h = refl
 has_order (Some (Pipe bytes)) h = cc
 
 -- a node's number is no pipe's
@@ -78,6 +79,7 @@ no_pipe None h = cc
 no_pipe (Some (File bytes)) h = refl
 no_pipe (Some (Dir order)) h = refl
 no_pipe (Some (Link target)) h = refl
+no_pipe (Some (Device which)) h = refl
 no_pipe (Some (Pipe bytes)) h = cc
 
 pub apart : (nodes : BTreeMap ℕ MemNode) (root n : ℕ) → IsLive (forest_of nodes root) n → get (pipes_of nodes.entries) n ≡ None

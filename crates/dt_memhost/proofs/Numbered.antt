@@ -12,7 +12,7 @@ use Rattle.std.specs.FinMap.{get, contains_key}
 use Rattle.std.proofs.lemmas.Map.Steps.{le-length_from_below}
 use Rattle.dt_tables.proofs.Conjuncts.{either-last}
 use Rattle.dt_memhost.specs.declared.node.MemNode.{MemNode}
-use Rattle.dt_memhost.specs.declared.node.MemNode.TheVariants.{File, Dir, Link, Pipe}
+use Rattle.dt_memhost.specs.declared.node.MemNode.TheVariants.{File, Dir, Link, Device, Pipe}
 use Rattle.dt_memhost.specs.inner.Node.{node_of, nodes_of, node_in, held_of, pipes_of}
 use Rattle.dt_memhost.specs.inner.Live.{has_number}
 use Rattle.dt_memhost.proofs.Kept.{get-kept_of}
@@ -28,6 +28,7 @@ one_of_both None = refl
 one_of_both (Some (File bytes)) = refl
 one_of_both (Some (Dir order)) = refl
 one_of_both (Some (Link target)) = refl
+one_of_both (Some (Device which)) = refl
 one_of_both (Some (Pipe bytes)) = refl
 
 -- and so the tree has the numbers of nodes and of pipes

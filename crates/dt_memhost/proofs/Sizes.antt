@@ -5,7 +5,7 @@ use Rattle.std.specs.Ordering.{nat_cmp}
 use Rattle.std.specs.Cmp.{nat_cmp_total}
 use Rattle.std.specs.FinMap.{get, get-empty, nat_cmp-IsAntisymmetric}
 use Rattle.dt_host.specs.declared.kind.NodeKind.{NodeKind}
-use Rattle.dt_host.specs.declared.kind.NodeKind.TheVariants.{File, Dir, Pipe, Link}
+use Rattle.dt_host.specs.declared.kind.NodeKind.TheVariants.{File, Dir, Pipe, Link, Device}
 use Rattle.dt_host.specs.World.{IsDir, IsFile}
 use Rattle.dt_tables.proofs.Found.{none_there}
 use Rattle.dt_tables.proofs.Maps.{at_insert, at_remove}
@@ -45,3 +45,4 @@ module _ (o : OrderedForest) (n : ℕ) (kept : HasSizes o) where
   HasSizes-made Dir small = record { forest = IsSized-with_node o.forest n _ kept.forest small (omega arith); pipes = fewer }
   HasSizes-made Pipe small = record { forest = IsSized-without_node o.forest n kept.forest; pipes = more [] small }
   HasSizes-made (Link target) small = record { forest = IsSized-with_node o.forest n _ kept.forest small (omega arith); pipes = fewer }
+  HasSizes-made (Device which) small = record { forest = IsSized-with_node o.forest n _ kept.forest small (omega arith); pipes = fewer }

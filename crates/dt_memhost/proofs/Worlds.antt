@@ -4,7 +4,7 @@ use Rattle.std.specs.Prelude.{MatchBool, IsSome, is_some}
 use Rattle.std.specs.Cmp.{nat_cmp_total}
 use Rattle.std.specs.FinMap.{get, nat_cmp-IsAntisymmetric}
 use Rattle.dt_host.specs.declared.kind.NodeKind.{NodeKind}
-use Rattle.dt_host.specs.declared.kind.NodeKind.TheVariants.{File, Dir, Pipe, Link}
+use Rattle.dt_host.specs.declared.kind.NodeKind.TheVariants.{File, Dir, Pipe, Link, Device}
 use Rattle.dt_host.specs.World.{Node, HostPids, IsLive, with_forest, without_pipe, without_node}
 use Rattle.dt_host.specs.Legal.{with_new, without}
 use Rattle.dt_tables.proofs.Maps.{remove_none}
@@ -29,6 +29,7 @@ module _ (o : OrderedForest) (pids : HostPids) (n : ℕ) where
   made_world Dir free no_pipe = ap (λ pipes. record { forest = (with_new_at o n Dir).forest; pipes = pipes; pids = pids }) (remove_none nat_cmp_total nat_cmp-IsAntisymmetric o.pipes n no_pipe)
   made_world Pipe free no_pipe = ap (λ nodes. record { forest = record { nodes = nodes; root = o.forest.root }; pipes = (with_new_at o n Pipe).pipes; pids = pids }) (remove_none nat_cmp_total nat_cmp-IsAntisymmetric o.forest.nodes n free)
   made_world (Link target) free no_pipe = ap (λ pipes. record { forest = (with_new_at o n (Link target)).forest; pipes = pipes; pids = pids }) (remove_none nat_cmp_total nat_cmp-IsAntisymmetric o.pipes n no_pipe)
+  made_world (Device which) free no_pipe = ap (λ pipes. record { forest = (with_new_at o n (Device which)).forest; pipes = pipes; pids = pids }) (remove_none nat_cmp_total nat_cmp-IsAntisymmetric o.pipes n no_pipe)
 
   -- and so is its order
   pub made_orders : (kind : NodeKind) → get o.orders n ≡ None → (with_new_at o n kind).orders ≡ with_new_order o.orders n kind
@@ -36,6 +37,7 @@ module _ (o : OrderedForest) (pids : HostPids) (n : ℕ) where
   made_orders Dir none = refl
   made_orders Pipe none = remove_none nat_cmp_total nat_cmp-IsAntisymmetric o.orders n none
   made_orders (Link target) none = refl
+  made_orders (Device which) none = refl
 
   no_node : (found : Option Node) (held : Option (List ℕ)) → IsSome held → (IsSome found → held ≡ None) → found ≡ None
   no_node None held is apart = refl

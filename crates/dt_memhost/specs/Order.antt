@@ -5,7 +5,7 @@ use Rattle.std.specs.FinMap.{FinMap, get, insert}
 use Rattle.std.specs.Str.{bytes_eq}
 use Rattle.std.specs.Map.{remove_entry}
 use Rattle.dt_host.specs.declared.kind.NodeKind.{NodeKind}
-use Rattle.dt_host.specs.declared.kind.NodeKind.TheVariants.{File, Dir, Pipe, Link}
+use Rattle.dt_host.specs.declared.kind.NodeKind.TheVariants.{File, Dir, Pipe, Link, Device}
 
 -- names with the numbers that they stand for, the one bound first comes first
 abbrev pub Order : Type 0
@@ -29,6 +29,7 @@ with_new_order orders n File = insert orders n []
 with_new_order orders n Dir = insert orders n []
 with_new_order orders n Pipe = orders
 with_new_order orders n (Link target) = insert orders n []
+with_new_order orders n (Device which) = insert orders n []
 
 -- an order without the entry of that name; the others stay in their order
 abbrev pub order_without : Order → List ℕ → Order

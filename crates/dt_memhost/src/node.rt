@@ -13,7 +13,7 @@ ghost use Rattle.dt_memhost.specs.inner.Node.{node_of, entries_of, held_of, new_
 use crate::dir::Entries;
 use crate::pipe::MemPipe;
 use crate::transfer::{overwrite, resize};
-use dt_base::{Blob, NoMemory};
+use dt_base::{Blob, Device, NoMemory};
 use dt_host::{HostEntry, NodeKind};
 use std::alloc::Global;
 
@@ -26,6 +26,8 @@ pub(crate) enum MemNode {
     Dir(Entries),
     /// The target of a symbolic link.
     Link(Blob),
+    /// A device.
+    Device(Device),
     /// What a pipe holds.
     Pipe(MemPipe),
 }
@@ -42,6 +44,7 @@ impl MemNode {
             NodeKind::Dir => MemNode::Dir(Entries::new(alloc)),
             NodeKind::Pipe => MemNode::Pipe(MemPipe::new(alloc)),
             NodeKind::Link(target) => MemNode::Link(target),
+            NodeKind::Device(device) => MemNode::Device(device),
         }
     }
 
@@ -51,7 +54,7 @@ impl MemNode {
     {
         match self {
             MemNode::File(bytes) => Some(bytes),
-            MemNode::Dir(_) | MemNode::Link(_) | MemNode::Pipe(_) => None,
+            MemNode::Dir(_) | MemNode::Link(_) | MemNode::Device(_) | MemNode::Pipe(_) => None,
         }
     }
 
@@ -60,7 +63,7 @@ impl MemNode {
         ensures { option_copied result ≡ option_and_then link_target (node_of self.now) }
     {
         match self {
-            MemNode::File(_) | MemNode::Dir(_) | MemNode::Pipe(_) => None,
+            MemNode::File(_) | MemNode::Dir(_) | MemNode::Device(_) | MemNode::Pipe(_) => None,
             MemNode::Link(target) => Some(target),
         }
     }
@@ -72,7 +75,7 @@ impl MemNode {
     {
         match self {
             MemNode::Dir(entries) => entries.find(name),
-            MemNode::File(_) | MemNode::Link(_) | MemNode::Pipe(_) => None,
+            MemNode::File(_) | MemNode::Link(_) | MemNode::Device(_) | MemNode::Pipe(_) => None,
         }
     }
 
@@ -85,7 +88,9 @@ impl MemNode {
     {
         match self {
             MemNode::Dir(entries) => entries.list(alloc),
-            MemNode::File(_) | MemNode::Link(_) | MemNode::Pipe(_) => Ok(Vec::new(alloc)),
+            MemNode::File(_) | MemNode::Link(_) | MemNode::Device(_) | MemNode::Pipe(_) => Ok(
+                Vec::new(alloc),
+            ),
         }
     }
 
@@ -101,7 +106,7 @@ impl MemNode {
     {
         match self {
             MemNode::File(bytes) => overwrite(bytes, off, piece),
-            MemNode::Dir(_) | MemNode::Link(_) | MemNode::Pipe(_) => Ok(()),
+            MemNode::Dir(_) | MemNode::Link(_) | MemNode::Device(_) | MemNode::Pipe(_) => Ok(()),
         }
     }
 
@@ -122,7 +127,7 @@ impl MemNode {
     {
         match self {
             MemNode::Dir(entries) => entries.bind(name, number),
-            MemNode::File(_) | MemNode::Link(_) | MemNode::Pipe(_) => Ok(()),
+            MemNode::File(_) | MemNode::Link(_) | MemNode::Device(_) | MemNode::Pipe(_) => Ok(()),
         }
     }
 
@@ -136,7 +141,7 @@ impl MemNode {
     {
         match self {
             MemNode::Dir(entries) => entries.unbind(name),
-            MemNode::File(_) | MemNode::Link(_) | MemNode::Pipe(_) => (),
+            MemNode::File(_) | MemNode::Link(_) | MemNode::Device(_) | MemNode::Pipe(_) => (),
         }
     }
 
@@ -151,7 +156,7 @@ impl MemNode {
     {
         match self {
             MemNode::File(bytes) => resize(bytes, len),
-            MemNode::Dir(_) | MemNode::Link(_) | MemNode::Pipe(_) => Ok(()),
+            MemNode::Dir(_) | MemNode::Link(_) | MemNode::Device(_) | MemNode::Pipe(_) => Ok(()),
         }
     }
 
@@ -161,7 +166,7 @@ impl MemNode {
     {
         match self {
             MemNode::Pipe(pipe) => pipe.len(),
-            MemNode::File(_) | MemNode::Dir(_) | MemNode::Link(_) => 0,
+            MemNode::File(_) | MemNode::Dir(_) | MemNode::Link(_) | MemNode::Device(_) => 0,
         }
     }
 
@@ -177,7 +182,7 @@ impl MemNode {
     {
         match self {
             MemNode::Pipe(pipe) => pipe.take(count, buf),
-            MemNode::File(_) | MemNode::Dir(_) | MemNode::Link(_) => (),
+            MemNode::File(_) | MemNode::Dir(_) | MemNode::Link(_) | MemNode::Device(_) => (),
         }
     }
 
@@ -191,7 +196,7 @@ impl MemNode {
     {
         match self {
             MemNode::Pipe(pipe) => pipe.put(bytes),
-            MemNode::File(_) | MemNode::Dir(_) | MemNode::Link(_) => Ok(()),
+            MemNode::File(_) | MemNode::Dir(_) | MemNode::Link(_) | MemNode::Device(_) => Ok(()),
         }
     }
 }

@@ -32,7 +32,7 @@ fn make_node<H: Host>(
 ) -> Result<Answer, HostErr>
     requires sound { Sound (stage fs.old (H.view host.old) caller.now space.now) }
     requires new { IsNewName (tree_of fs.old.tree (H.view host.old).forest) place.now.parent place.now.name }
-    requires good { IsTrue (is_good_what what.now mode) }
+    requires good { IsTrue (is_good_what fs.old.tree.version what.now mode) }
     ensures { HasReplyOf (make_node_reply what.now mode place.now)
         (stage fs.old (H.view host.old) caller.now space.now)
         (stage fs.new (H.view host.new) caller.now space.now) result

@@ -10,7 +10,7 @@ use Rattle.clap.specs.declared.parser.matches.Found.{Found}
 use Rattle.clap.specs.declared.builder.value_parser.ValueParser.TheVariants as parser
 use Rattle.clap.proofs.ValueTestLemmas.{accepts-Accepts, Accepts-accepts}
 use Rattle.clap.proofs.WalkLemmas.{first_value-rows, one_text-rows}
-use Rattle.dt_options.specs.Arguments.{number_of, number_in, operand_in, matched_rows}
+use Rattle.dt_options.specs.Arguments.{number_of, number_in, operand_in, matched_rows, text_in}
 use Rattle.dt_options.specs.UsageErr.{usage_err_of_kind}
 use Rattle.dt_options.specs.declared.options.UsageErr.TheVariants.{Refused, NoMemory}
 use Rattle.clap.specs.declared.error.Error.{Error}
@@ -51,6 +51,11 @@ unwrap_now (Some s) d = refl
 pub one_operand : (f : Found) (name : List ℕ) (o : Option (Bor (List ℕ))) (d : Bor (List ℕ)) → d.now ≡ [] → option_map (λ s. s.now) o ≡ first_value f name → (unwrap_or o d).now ≡ operand_in name (rows_of f)
 unfolding operand_in
 one_operand f name o d empty got = unwrap_now o d ∙ (λ i. unwrap_or (got i) (empty i)) ∙ ap (λ w. unwrap_or w []) (first_value-rows f name)
+
+-- and the text of an option
+pub one_string : (f : Found) (name : List ℕ) (o : Option (Bor (List ℕ))) → option_map (λ s. s.now) o ≡ first_value f name → option_map (λ s. s.now) o ≡ text_in name (rows_of f)
+unfolding text_in
+one_string f name o got = got ∙ first_value-rows f name
 
 not_empty : (k : ErrorKind) (kinds : Kinds) → IsAmong k kinds → is_empty kinds ≡ false
 not_empty k [] among = absurd among

@@ -45,7 +45,10 @@ run_budget_sound = (
           (λ same. never same, λ v passes same. never same),
           (
             (λ same. never same, λ v passes same. never same),
-            ((λ same. never same, λ v passes same. never same), tt),
+            (
+              (λ same. never same, λ v passes same. never same),
+              ((λ same. never same, λ v passes same. never same), tt),
+            ),
           ),
         ),
       ),
@@ -66,7 +69,10 @@ run_workers_sound = (
           (λ same. refl, λ v passes same. passes),
           (
             (λ same. never same, λ v passes same. never same),
-            ((λ same. never same, λ v passes same. never same), tt),
+            (
+              (λ same. never same, λ v passes same. never same),
+              ((λ same. never same, λ v passes same. never same), tt),
+            ),
           ),
         ),
       ),
@@ -90,7 +96,10 @@ export_budget_sound = (
             (λ same. never same, λ v passes same. never same),
             (
               (λ same. never same, λ v passes same. never same),
-              ((λ same. never same, λ v passes same. never same), tt),
+              (
+                (λ same. never same, λ v passes same. never same),
+                ((λ same. never same, λ v passes same. never same), tt),
+              ),
             ),
           ),
         ),
@@ -114,7 +123,10 @@ export_workers_sound = (
             (λ same. refl, λ v passes same. passes),
             (
               (λ same. never same, λ v passes same. never same),
-              ((λ same. never same, λ v passes same. never same), tt),
+              (
+                (λ same. never same, λ v passes same. never same),
+                ((λ same. never same, λ v passes same. never same), tt),
+              ),
             ),
           ),
         ),

@@ -40,12 +40,12 @@ module _ {A : Type 0} (f : A → List ℕ) (words : List A) where
       go false o = refl
 
   -- a program, and the words on both sides
-  pub command-some : (n : ℕ) (command : Words) → list_all (λ word. has_no_nul (f word)) words ≡ true → position (λ word. not (is_assignment (f word))) words ≡ Some n → command.args ≡ map f (drop n words) → command.env ≡ map f (take n words) → command_in (map f words) ≡ Some command
+  pub command-some : (n : ℕ) (command : Words) → list_all (λ word. has_no_nul (f word)) words ≡ true → position (λ word. not (is_assignment (f word))) words ≡ Some n → command.args ≡ map f (drop n words) → command.env ≡ map f (take n words) → command.input ≡ [] → command_in (map f words) ≡ Some command
   unfolding command_in
-  command-some n command good is args env =
+  command-some n command good is args env none =
       ap (λ b. cond b (command_at (map f words) (position (λ word. not (is_assignment word)) (map f words))) None) (list_all-map has_no_nul f words ∙ good)
       ∙ ap (command_at (map f words)) (position-map (λ word. not (is_assignment word)) f words ∙ is)
-      ∙ (λ i. Some (record { args = (drop-map f n words ∙ sym args) i; env = (take-map f n words ∙ sym env) i }))
+      ∙ (λ i. Some (record { args = (drop-map f n words ∙ sym args) i; env = (take-map f n words ∙ sym env) i; input = sym none i }))
 
   parts_good : (n : ℕ) → list_all (λ word. has_no_nul (f word)) words ≡ true → (list_all has_no_nul (map f (take n words)) ≡ true) × (list_all has_no_nul (map f (drop n words)) ≡ true)
   parts_good n good =
@@ -54,7 +54,7 @@ module _ {A : Type 0} (f : A → List ℕ) (words : List A) where
       (list_all-map has_no_nul f (take n words) ∙ parts.0, list_all-map has_no_nul f (drop n words) ∙ parts.1)
 
   -- such words are a command
-  pub command-good : (n : ℕ) (args env : List (List ℕ)) → list_all (λ word. has_no_nul (f word)) words ≡ true → n < length words → args ≡ map f (drop n words) → env ≡ map f (take n words) → IsCommand (record { args = args; env = env })
+  pub command-good : (n : ℕ) (args env : List (List ℕ)) → list_all (λ word. has_no_nul (f word)) words ≡ true → n < length words → args ≡ map f (drop n words) → env ≡ map f (take n words) → IsCommand (record { args = args; env = env; input = [] })
   command-good n args env good within is_args is_env =
       let parts = parts_good n good in
       let long : length args ≡ length words - n = ap length is_args ∙ length-map (drop n words) f ∙ length-drop n words in

@@ -34,6 +34,10 @@ demo_rule = record (new_rule (codes "number")) { required = true; parser = Some 
 abbrev pub number_rule : List ℕ → Rule
 number_rule name = record (new_rule name) { long = Some name; parser = Some (parser.Unsigned 0 18446744073709551615) }
 
+-- an option of one value, a text
+abbrev pub text_rule : List ℕ → Rule
+text_rule name = record (new_rule name) { long = Some name }
+
 -- the option `--budget`, whose value is a number from 1 to 1,000,000,000
 abbrev pub budget_rule : Rule
 budget_rule = record (number_rule (codes "budget")) { parser = Some (parser.Unsigned 1 BUDGET_LIMIT) }
@@ -42,9 +46,13 @@ budget_rule = record (number_rule (codes "budget")) { parser = Some (parser.Unsi
 abbrev pub workers_rule : Rule
 workers_rule = record (number_rule (codes "workers")) { parser = Some (parser.Unsigned 1 WORKERS_LIMIT) }
 
--- `[--seed N] [--budget N] [--workers N] [--host N]`
+-- `[--seed N] [--budget N] [--workers N] [--host N] [--stdin NAME]`
 abbrev pub run_rules : List Rule
-run_rules = number_rule (codes "seed") ∷ budget_rule ∷ workers_rule ∷ number_rule (codes "host") ∷ []
+run_rules = number_rule (codes "seed") ∷ budget_rule ∷ workers_rule ∷ number_rule (codes "host") ∷ text_rule (codes "stdin") ∷ []
+
+-- `[--seed N] [--budget N] [--workers N] [--host N]`
+abbrev pub steps_rules : List Rule
+steps_rules = number_rule (codes "seed") ∷ budget_rule ∷ workers_rule ∷ number_rule (codes "host") ∷ []
 
 -- `run IMAGE`, and the options of a run
 abbrev pub run_shape : Shape
@@ -56,10 +64,10 @@ export_shape = record (new_shape (codes "export")) {
   rules = operand_rule (codes "image") ∷ operand_rule (codes "to") ∷ run_rules;
 }
 
--- `steps IMAGE FILE`, and the options of a run
+-- `steps IMAGE FILE`, and the options of steps
 abbrev pub steps_shape : Shape
 steps_shape = record (new_shape (codes "steps")) {
-  rules = operand_rule (codes "image") ∷ operand_rule (codes "file") ∷ run_rules;
+  rules = operand_rule (codes "image") ∷ operand_rule (codes "file") ∷ steps_rules;
 }
 
 -- `demo N [--workers N] [--host N]`
@@ -103,6 +111,10 @@ matched_rows app words = if is_empty (fault_of app words) then option_map (λ su
 -- what stands for an operand in the words
 unfoldable pub operand_in : List ℕ → List Row → List ℕ
 operand_in name rows = unwrap_or (first_of name rows) []
+
+-- the text of an option, if it was given
+unfoldable pub text_in : List ℕ → List Row → Option (List ℕ)
+text_in name rows = first_of name rows
 
 -- the number that a text writes, if it is one from 0 to 2^64 - 1
 abbrev pub number_of : List ℕ → Option ℕ

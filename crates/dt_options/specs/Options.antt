@@ -1,7 +1,7 @@
 -- The command line: what the words of argv after the program's name ask for. The first word names the form. The words of
 -- a run and of an export have a `--`: the first one ends the options (POSIX, Base Definitions, 12.2, guideline 10), and
 -- behind it stands the command. Those of a demonstration and of steps have none.
-use Rattle.std.specs.Prelude.{ℕ, ◌+◌, ◌≤◌, Bool, false, not, ◌&&◌, ◌||◌, ◌==◌, List, [], ◌∷◌, take, drop, Option, Some, None, codes, if◌then◌else◌, unwrap_or, option_map, option_and_then}
+use Rattle.std.specs.Prelude.{ℕ, ◌+◌, ◌≤◌, Bool, false, not, List, [], ◌∷◌, take, drop, Option, Some, None, codes, if◌then◌else◌, unwrap_or, option_map, option_and_then}
 use Rattle.std.specs.List.{list_all, position}
 use Rattle.std.specs.Str.{bytes_eq}
 use Rattle.clap.specs.Words.{Row}
@@ -15,11 +15,13 @@ use Rattle.dt_options.specs.declared.options.RunOptions.{RunOptions}
 use Rattle.dt_options.specs.declared.options.ExportOptions.{ExportOptions}
 use Rattle.dt_options.specs.declared.options.DemoOptions.{DemoOptions}
 use Rattle.dt_options.specs.declared.options.StepsOptions.{StepsOptions}
-use Rattle.dt_options.specs.Arguments.{run_app, export_app, demo_app, steps_app, matched_rows, operand_in, number_in, default_seed, default_budget, default_workers}
+use Rattle.dt_options.specs.Arguments.{run_app, export_app, demo_app, steps_app, matched_rows, operand_in, number_in, default_seed, default_budget, default_workers, text_in}
 
--- what a run is asked to be: a folder with an image, the command that runs in it, and numbers
+-- what a run is asked to be: a folder with an image, the blob in it that standard input gives, the command that runs in it,
+-- and numbers
 pub record Request : Type 0 where
   pub image : List ℕ
+  pub input : Option (List ℕ)
   pub command : Words
   pub seed : ℕ
   pub budget : ℕ
@@ -58,7 +60,7 @@ pub data Form : Type 0 where
 -- the first word that sets no variable is the program; those before it are the environment
 abbrev pub command_at : List (List ℕ) → Option ℕ → Option Words
 command_at words None = None
-command_at words (Some program) = Some (record { args = drop program words; env = take program words })
+command_at words (Some program) = Some (record { args = drop program words; env = take program words; input = [] })
 
 -- the environment, the program and its arguments, where no word holds a NUL and a program is there
 unfoldable pub command_in : List (List ℕ) → Option Words
@@ -71,6 +73,7 @@ command_in words =
 abbrev pub request : List Row → Words → Request
 request rows command = record {
   image = operand_in (codes "image") rows;
+  input = text_in (codes "stdin") rows;
   command = command;
   seed = unwrap_or (number_in (codes "seed") rows) default_seed;
   budget = unwrap_or (number_in (codes "budget") rows) default_budget;
@@ -149,6 +152,7 @@ form_of argv = form_at argv (position (λ word. bytes_eq word (codes "--")) argv
 abbrev pub as_request : RunOptions → Request
 as_request options = record {
   image = options.image;
+  input = options.input;
   command = options.command;
   seed = options.seed;
   budget = options.budget;

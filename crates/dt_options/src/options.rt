@@ -5,6 +5,7 @@ ghost use Rattle.std.specs.List.{list_all, position};
 ghost use Rattle.std.specs.Str.{bytes_eq};
 ghost use Rattle.dt_base.specs.Path.{has_no_nul};
 ghost use Rattle.clap.specs.Words.{found_of, rows_of};
+ghost use Rattle.dt_options.specs.Arguments.{text_in};
 ghost use Rattle.dt_options.specs.Options.{form_of, form_with_command, form_without_command, as_form, HasBudget};
 ghost use Rattle.dt_options.specs.Options.{IsBudget, workers_of, request, request_in, export_in, demo_in, steps_in};
 ghost use Rattle.dt_options.specs.Options.{as_request, as_export_request, as_demo_request, as_steps_request};
@@ -16,7 +17,7 @@ mod arguments;
 
 use arguments::{
     budget, number, operand, read_demo_arguments, read_export_arguments, read_run_arguments,
-    read_steps_arguments, seed, workers,
+    read_steps_arguments, seed, text, workers,
 };
 use clap::ArgMatches;
 use clap::error::ErrorKind;
@@ -45,6 +46,8 @@ pub enum Options {
 pub struct RunOptions {
     /// The name of the folder that holds the image.
     pub image: Text,
+    /// The name of the blob in it that standard input gives, where the words name one.
+    pub input: Option<Text>,
     /// What runs in it.
     pub command: Command,
     /// The key of what looks random to the command.
@@ -55,6 +58,32 @@ pub struct RunOptions {
     pub workers: usize,
     /// What the host's choices start from, where the words say so.
     pub host: Option<u64>,
+}
+
+impl RunOptions {
+    /// The same, with these bytes as the input of the command.
+    pub fn with_input(self, input: Blob) -> Self
+        ensures { result ≡ record self { command = record self.command { input = input } } }
+    {
+        let RunOptions {
+            image,
+            input: name,
+            command,
+            seed,
+            budget,
+            workers,
+            host,
+        } = self;
+        RunOptions {
+            image,
+            input: name,
+            command: command.with_input(input),
+            seed,
+            budget,
+            workers,
+            host,
+        }
+    }
 }
 
 /// What the words ask of an export.
@@ -265,12 +294,23 @@ fn run_options(
 {
     Ok(RunOptions {
         image: text_of(alloc, operand(found, "image"))?,
+        input: input_of(alloc, found)?,
         command,
         seed: seed(found),
         budget: budget(found),
         workers: workers(found),
         host: number(found, "host"),
     })
+}
+
+// The text of `--stdin`, if it was given.
+fn input_of(alloc: Global, found: &ArgMatches<'_>) -> Result<Option<Text>, NoMemory>
+    ensures { IfOk result (λ input. input ≡ text_in (codes "stdin") (rows_of (found_of found.now))) }
+{
+    match text(found, "stdin") {
+        Some(name) => Ok(Some(text_of(alloc, name)?)),
+        None => Ok(None),
+    }
 }
 
 // A text in memory of its own.

@@ -1,8 +1,7 @@
 // What a run tells of its words, on a store of which nothing may be known.
-ghost use Rattle.std.specs.Prelude.{◌≡◌, ◌⊎◌, List, Some, None, map, string_bytes, IsTrue};
-ghost use Rattle.dt_base.specs.declared.image.Entry.{Entry};
+ghost use Rattle.std.specs.Prelude.{◌≡◌, ◌⊎◌, ℕ, List, Some, None, map, string_bytes, IsTrue};
 ghost use Rattle.dt_base.specs.Command.{Words};
-ghost use Rattle.dt_base.specs.Image.{IsImage};
+ghost use Rattle.dt_base.specs.Image.{ImageParts, IsImage};
 ghost use Rattle.dt_host.specs.World.{IsEmptyStart};
 ghost use Rattle.dt_options.specs.Options.{Form, form_of};
 ghost use Rattle.dt_run.specs.declared.status.TheConstants.{WORDS_REFUSED, OUT_OF_MEMORY};
@@ -19,9 +18,9 @@ use std::test::Fail;
 use std::thread::Threads;
 use std::time::Clock;
 
-// Runs what the words ask for. A run that was completed is one of the words on some image, both well formed, or steps with
-// some commands, and the status is its own. (A demonstration is the same on each image.) Words that ask for nothing are refused, or memory is
-// wanting: both add nothing to the report.
+// Runs what the words ask for. A run that was completed is one of the words on some image, both well formed, with some
+// input, or steps with some commands, and the status is its own. (A demonstration is the same on each image.) Words that
+// ask for nothing are refused, or memory is wanting: both add nothing to the report.
 fn run<
     R: AllocGlobal + Clock + Threads + Sync,
     S: Store,
@@ -31,9 +30,9 @@ fn run<
     G: Gate + Sync,
 >(rt: &R, words: &[String], met: &mut Outside<S, H, O, E>, gate: &G) -> u8
     requires { IsEmptyStart (H.view met.old.host) }
-    ensures completed { IsTrue (is_run_status result) → (form : Form) × (image : List Entry)
-        × (commands : List Words) × (form_of (map string_bytes words.now) ≡ Some form) × IsImage image
-        × (result ≡ status_of_outcome (outcome_on form image commands)) }
+    ensures completed { IsTrue (is_run_status result) → (form : Form) × (image : ImageParts)
+        × (input : List ℕ) × (commands : List Words) × (form_of (map string_bytes words.now) ≡ Some form) × IsImage image
+        × (result ≡ status_of_outcome (outcome_on form (image, input) commands)) }
     ensures refused { form_of (map string_bytes words.now) ≡ None
         → ((result ≡ WORDS_REFUSED) ⊎ (result ≡ OUT_OF_MEMORY)) × (O.told met.new.out ≡ O.told met.old.out) }
 {

@@ -31,7 +31,7 @@ fn two_steps(alloc: Global) -> Result<Listed, Fail> {
     let program = hello(alloc)?;
     let mut store = store(alloc, 1, HELLO_INDEX, &program)?;
     store.insert("img/steps", TWO_STEPS)?;
-    let image = read_image(alloc, &mut store, "img")?;
+    let (image, _input) = read_image(alloc, &mut store, "img", None)?;
     let commands = read_steps(alloc, &mut store, "img", "steps")?;
     Ok(Listed { image, commands })
 }

@@ -3,7 +3,7 @@ use Rattle.std.proofs.Common.{◌≡◌, ◌||◌, ◌==◌, ℕ, Bool, true, fa
 use Rattle.std.proofs.lemmas.Bool.{eqb-true}
 use Rattle.std.proofs.lemmas.Bool.Decides.{nat_tests}
 use Rattle.std.specs.Prelude.{◌⊎◌, ◌≢◌, IsTrue, IsSome, IfSome, option_map}
-use Rattle.dt_base.specs.declared.image.Entry.{Entry}
+use Rattle.dt_base.specs.Image.{ImageParts}
 use Rattle.dt_base.specs.declared.refusal.Refusal.{Refusal}
 use Rattle.dt_host.specs.Sink.{added, AddsPart}
 use Rattle.dt_host.specs.Store.{StoreFiles}
@@ -46,15 +46,15 @@ known-wanted told words known = by_form (form_of words) told known
     by_form (Some (steps_form request)) (Some files) known = refl
 
 -- the numbers of workers and of the host have no part in what is wanted
-unchosen-run : (request : Request) (workers : ℕ) (host : Option ℕ) (found : Result (List Entry) Refusal) → run_or_refusal request found ≡ run_or_refusal (record request { workers = workers; host = host }) found
+unchosen-run : (request : Request) (workers : ℕ) (host : Option ℕ) (found : Result (ImageParts × List ℕ) Refusal) → run_or_refusal request found ≡ run_or_refusal (record request { workers = workers; host = host }) found
 unchosen-run request workers host (Ok entries) = refl
 unchosen-run request workers host (Err refusal) = refl
 
-unchosen-export : (request : ExportRequest) (workers : ℕ) (host : Option ℕ) (files : StoreFiles) (found : Result (List Entry) Refusal) → export_or_refusal request files found ≡ export_or_refusal (record request { run = record request.run { workers = workers; host = host } }) files found
+unchosen-export : (request : ExportRequest) (workers : ℕ) (host : Option ℕ) (files : StoreFiles) (found : Result (ImageParts × List ℕ) Refusal) → export_or_refusal request files found ≡ export_or_refusal (record request { run = record request.run { workers = workers; host = host } }) files found
 unchosen-export request workers host files (Ok entries) = refl
 unchosen-export request workers host files (Err refusal) = refl
 
-unchosen-steps : (request : StepsRequest) (workers : ℕ) (host : Option ℕ) (found : Result (List Entry) Refusal) (commands : Option (List Words)) → steps_or_refusal request found commands ≡ steps_or_refusal (record request { workers = workers; host = host }) found commands
+unchosen-steps : (request : StepsRequest) (workers : ℕ) (host : Option ℕ) (found : Result (ImageParts × List ℕ) Refusal) (commands : Option (List Words)) → steps_or_refusal request found commands ≡ steps_or_refusal (record request { workers = workers; host = host }) found commands
 unchosen-steps request workers host (Err refusal) commands = refl
 unchosen-steps request workers host (Ok entries) None = refl
 unchosen-steps request workers host (Ok entries) (Some commands) = refl
@@ -62,12 +62,12 @@ unchosen-steps request workers host (Ok entries) (Some commands) = refl
 unchosen-wanted : (form : Option Form) (told : Option StoreFiles) → form_outcome form told ≡ form_outcome (option_map without_choices form) told
 unchosen-wanted None told = refl
 unchosen-wanted (Some (run_form request)) None = refl
-unchosen-wanted (Some (run_form request)) (Some files) = ap Some (unchosen-run request default_workers None (image_of files request.image))
+unchosen-wanted (Some (run_form request)) (Some files) = ap Some (unchosen-run request default_workers None (image_of files request.image request.input))
 unchosen-wanted (Some (export_form request)) None = refl
-unchosen-wanted (Some (export_form request)) (Some files) = ap Some (unchosen-export request default_workers None files (image_of files request.run.image))
+unchosen-wanted (Some (export_form request)) (Some files) = ap Some (unchosen-export request default_workers None files (image_of files request.run.image request.run.input))
 unchosen-wanted (Some (demo_form request)) told = refl
 unchosen-wanted (Some (steps_form request)) None = refl
-unchosen-wanted (Some (steps_form request)) (Some files) = ap Some (unchosen-steps request default_workers None (image_of files request.image) (steps_at files request.image request.file))
+unchosen-wanted (Some (steps_form request)) (Some files) = ap Some (unchosen-steps request default_workers None (image_of files request.image None) (steps_at files request.image request.file))
 
 pub same-wanted : (told other_told : Option StoreFiles) (words other : List (List ℕ)) → other_told ≡ told → AskTheSame words other → wanted other_told other ≡ wanted told words
 unfolding wanted
@@ -121,8 +121,8 @@ no_run Host is = cc
 no_run Output is = cc
 no_run NoMemory is = cc
 
-the_run : {P : Outcome → Type 0} (told : Option StoreFiles) (words : List (List ℕ)) (found : Result Outcome Failure) → wanted told words ≡ Some found → (s : SomeRun told words P) → found ≡ Ok (outcome_on s.form s.image s.commands)
-the_run told words found is s = subst (λ known. IfSome known (λ f. f ≡ Ok (outcome_on s.form s.image s.commands))) is s.is_wanted
+the_run : {P : Outcome → Type 0} (told : Option StoreFiles) (words : List (List ℕ)) (found : Result Outcome Failure) → wanted told words ≡ Some found → (s : SomeRun told words P) → found ≡ Ok (outcome_on s.form (s.image, s.input) s.commands)
+the_run told words found is s = subst (λ known. IfSome known (λ f. f ≡ Ok (outcome_on s.form (s.image, s.input) s.commands))) is s.is_wanted
 
 -- what one call says of its answer
 module _ (told now : Option StoreFiles) (words : List (List ℕ)) (found : Result Outcome Failure) (is : wanted told words ≡ Some found)
@@ -231,7 +231,7 @@ module _ (told now : Option StoreFiles) (words : List (List ℕ)) (status : ℕ)
       ⊎_elim
       (λ once. absurd (let bad : Ok outcome ≡ Err (Export Exists) = subst (λ known. IfSome known (λ f. f ≡ Err (Export Exists))) is once.first in cc))
       (λ s.
-      let same = same_outcome (Ok outcome) outcome (outcome_on s.form s.image s.commands) refl (the_run told words (Ok outcome) is s) in
+      let same = same_outcome (Ok outcome) outcome (outcome_on s.form (s.image, s.input) s.commands) refl (the_run told words (Ok outcome) is s) in
       let there = subst (λ x. IsRefusedLate r.refusal old new x) (sym same) s.holds in
       subst (λ text. AddsLine text err err_now before after) (sym (refused-line outcome r.refusal there.is)) r.line)
       r.refused
@@ -253,7 +253,7 @@ module _ (told now : Option StoreFiles) (words : List (List ℕ)) (status : ℕ)
       let first : Err (Export refusal) ≡ Err (Export Exists) = subst (λ known. IfSome known (λ f. f ≡ Err (Export Exists))) is once.first in
       let same : Exists ≡ refusal = cc in
       subst (λ x. AddsLine (failure_line (Export x)) err err_now before after) (once.is ∙ same) r.line)
-      (λ s. absurd (let bad : Err (Export refusal) ≡ Ok (outcome_on s.form s.image s.commands) = the_run told words (Err (Export refusal)) is s in cc))
+      (λ s. absurd (let bad : Err (Export refusal) ≡ Ok (outcome_on s.form (s.image, s.input) s.commands) = the_run told words (Err (Export refusal)) is s in cc))
       r.refused
   tells (Err Store) is a = absurd (undecided 4 refl a.0)
   tells (Err Host) is a = absurd (undecided 5 refl a.0)

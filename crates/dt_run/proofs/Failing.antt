@@ -40,7 +40,7 @@ each_some (Some x) on = on x
 -- a run is no refusal
 run_unless : {P : Outcome → Type 0} (told : Option StoreFiles) (words : List (List ℕ)) (f : Failure) → SomeRun told words P → wanted told words ≡ Some (Err f) → ⊥
 run_unless told words f run is =
-    let bad : Err f ≡ Ok (outcome_on run.form run.image run.commands) = subst (λ found. IfSome found (λ w. w ≡ Ok (outcome_on run.form run.image run.commands))) is run.is_wanted in cc
+    let bad : Err f ≡ Ok (outcome_on run.form (run.image, run.input) run.commands) = subst (λ found. IfSome found (λ w. w ≡ Ok (outcome_on run.form (run.image, run.input) run.commands))) is run.is_wanted in cc
 
 -- all that is written is a prefix of it
 whole-part : (told : Option StoreFiles) (words : List (List ℕ)) (old new : Option (List ℕ)) → {P : Outcome → Type 0} → ((outcome : Outcome) → P outcome → new ≡ added old (text_of outcome)) → SomeRun told words P → AddsTextPart told words old new
@@ -48,6 +48,8 @@ whole-part told words old new whole s = record {
   form = s.form;
   parsed = s.parsed;
   image = s.image;
+  input = s.input;
+  named = s.named;
   good = s.good;
   commands = s.commands;
   listed = s.listed;

@@ -4,7 +4,7 @@ use Rattle.std.specs.Prelude.{IsTrue, IsOk, IfSome, IsSomeAnd, option_map, optio
 use Rattle.std.specs.FinMap.{empty, nat_cmp-IsAntisymmetric}
 use Rattle.std.specs.Cmp.{nat_cmp_total}
 use Rattle.std.specs.Ordering.{nat_cmp}
-use Rattle.dt_base.specs.declared.image.Entry.{Entry}
+use Rattle.dt_base.specs.Image.{ImageParts}
 use Rattle.dt_base.specs.declared.image.What.TheVariants.{Dir}
 use Rattle.dt_base.specs.declared.limits.TheConstants.{FIRST_PID}
 use Rattle.dt_base.specs.Command.{Words}
@@ -18,16 +18,16 @@ use Rattle.dt_export.specs.declared.refusal.ExportRefusal.{ExportRefusal}
 use Rattle.dt_options.specs.Options.{Form, run_form, export_form, demo_form, steps_form}
 use Rattle.dt_procs.specs.Members.{end_of}
 use Rattle.dt_engine.specs.declared.status.TheConstants.{ENDED_ZERO}
-use Rattle.dt_engine.specs.HoldsTree.{HoldSame, what_of, shown_at}
+use Rattle.dt_tree.specs.ImageTree.{what_of}
+use Rattle.dt_engine.specs.HoldsTree.{HoldSame, shown_at}
 use Rattle.dt_engine.specs.Run.{Run, status_of_run}
-use Rattle.dt_engine.specs.Completed.{reported}
 use Rattle.dt_steps.specs.Steps.{input_of, run_of_step, image_after, no_step, steps_from}
 use Rattle.dt_run.specs.declared.failure.Failure.TheVariants.{Export}
 use Rattle.dt_run.specs.Failure.{failure_line}
 use Rattle.dt_run.specs.Written.{demonstrated}
 use Rattle.dt_run.specs.Outcome.{ExportTo, Outcome, one_run, some_steps, text_of, status_of_steps, status_of_outcome, IsCompleted}
 use Rattle.dt_run.specs.SomeRun.{SomeRun}
-use Rattle.dt_run.specs.Wanted.{run_on, outcome_on}
+use Rattle.dt_run.specs.Wanted.{reported_on, outcome_on}
 use Rattle.dt_run.specs.Exports.{HasPut, HasNoExport, IsRefusedLate}
 use Rattle.dt_run.specs.Statuses.{is_run_status}
 use Rattle.dt_run.proofs.Ran.{status_by-end, finishes-status, put-status}
@@ -67,7 +67,7 @@ put-late (Some export) refusal accepted is = by_index export.index accepted is
 -- ---- the status
 
 -- steps end with the status of a run
-pub steps-status : (seed budget number : ℕ) (from : Result (List Entry) ExportRefusal) (commands : List Words) (status : ℕ)
+pub steps-status : (seed budget number : ℕ) (from : Result ImageParts ExportRefusal) (commands : List Words) (status : ℕ)
     → (let steps = steps_from seed budget number from commands in steps.answer) ≡ Ok status → IsTrue (is_run_status status)
 unfolding steps_from
 steps-status seed budget number from [] status is =
@@ -86,16 +86,16 @@ steps-status seed budget number (Ok image) (command ∷ rest) status is =
         subst (λ s. IsTrue (is_run_status s)) same (status_by-end (end_of run.last.members FIRST_PID))
 
 -- what a form asks for ends with the status of a run
-pub form-status : (form : Form) (image : List Entry) (commands : List Words) (status : ℕ) (old new : Option (List ℕ)) (w : World)
-    → IsCompleted (outcome_on form image commands) status old new w → IsTrue (is_run_status status)
-form-status (run_form request) image commands status old new w done = finishes-status (reported (run_on request image)) status old new w done
-form-status (export_form request) image commands status old new w done = finishes-status (reported (run_on request.run image)) status old new w done
-form-status (demo_form request) image commands status old new w done = finishes-status (demonstrated request.number) status old new w done
-form-status (steps_form request) image commands status old new w done = steps-status request.seed request.budget 1 (Ok image) commands status done.status
+pub form-status : (form : Form) (found : ImageParts × List ℕ) (commands : List Words) (status : ℕ) (old new : Option (List ℕ)) (w : World)
+    → IsCompleted (outcome_on form found commands) status old new w → IsTrue (is_run_status status)
+form-status (run_form request) found commands status old new w done = finishes-status (reported_on request found) status old new w done
+form-status (export_form request) found commands status old new w done = finishes-status (reported_on request.run found) status old new w done
+form-status (demo_form request) found commands status old new w done = finishes-status (demonstrated request.number) status old new w done
+form-status (steps_form request) found commands status old new w done = steps-status request.seed request.budget 1 (Ok found.0) commands status done.status
 
 -- and so does what is asked for on some image
 pub status-of : (told now : Option StoreFiles) (words : List (List ℕ)) (status : ℕ) (old new : Option (List ℕ)) (w : World) → SomeRun told words (λ outcome. IsCompleted outcome status old new w × HasPut outcome told now) → IsTrue (is_run_status status)
-status-of told now words status old new w run = form-status run.form run.image run.commands status old new w run.holds.0
+status-of told now words status old new w run = form-status run.form (run.image, run.input) run.commands status old new w run.holds.0
 
 module _ (status : ℕ) (old new : Option (List ℕ)) (w : World) where
   -- all that is written was added

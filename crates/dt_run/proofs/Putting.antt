@@ -9,13 +9,11 @@ use Rattle.dt_host.specs.declared.error.StoreErr.TheVariants.{Failed as StoreCal
 use Rattle.dt_tree.specs.FileTree.{FileTree}
 use Rattle.dt_image.specs.ImageOf.{name_below}
 use Rattle.dt_host.proofs.Growth.{adds_all}
-use Rattle.dt_export.specs.declared.image.TheConstants.{IMAGE_VERSION}
 use Rattle.dt_export.specs.declared.refusal.ExportRefusal.{ExportRefusal}
 use Rattle.dt_export.specs.declared.refusal.ExportErr.{ExportErr}
 use Rattle.dt_export.specs.declared.refusal.ExportErr.TheVariants.{Refused as ExportRefused, Host as ExportHostFailed, NoMemory as NoExportMemory}
 use Rattle.dt_export.specs.ExportedFiles.{exported_text, exported_files, exported_inodes, blob_at, with_files}
 use Rattle.dt_export.specs.ReadBack.{IsReadAs}
-use Rattle.dt_engine.specs.Run.{Run, report_of}
 use Rattle.dt_engine.specs.Completed.{Written}
 use Rattle.dt_run.specs.declared.failure.Failure.{Failure}
 use Rattle.dt_run.specs.declared.failure.Failure.TheVariants.{Usage, Image, Export, Store, Host, Output, NoMemory}
@@ -44,7 +42,7 @@ steps-put steps told now same = record { accepted = tt; files = same ∙ alone t
 -- ---- a tree that is put
 
 module _ (t : FileTree) (folder : List ℕ) (told now : Option StoreFiles) where
-  module _ (text : List ℕ) (index : exported_text IMAGE_VERSION t ≡ Ok text) where
+  module _ (text : List ℕ) (index : exported_text t.version t ≡ Ok text) where
     -- some of the blobs
     pub blobs-some : PutsBlobs t folder (exported_inodes t) told now → PutsSome t (export_of t folder) told now
     blobs-some p = record {
@@ -72,7 +70,7 @@ module _ (t : FileTree) (folder : List ℕ) (told now : Option StoreFiles) where
       part = subst (λ from. StoresPart from now (name_below folder (codes "image.json")) text) is part;
     }
 
-  pub fails-prepare : (e : ExportErr) → now ≡ told → ((r : ExportRefusal) → e ≡ ExportRefused r → exported_text IMAGE_VERSION t ≡ Err r) → FailsPut (failure_of_export e) t folder told now
+  pub fails-prepare : (e : ExportErr) → now ≡ told → ((r : ExportRefusal) → e ≡ ExportRefused r → exported_text t.version t ≡ Err r) → FailsPut (failure_of_export e) t folder told now
   fails-prepare (ExportRefused r) stays refused = (refused r refl, stays)
   fails-prepare ExportHostFailed stays refused = inl stays
   fails-prepare NoExportMemory stays refused = inl stays
@@ -92,39 +90,39 @@ module _ (t : FileTree) (folder : List ℕ) (told now : Option StoreFiles) where
 
 -- ---- a run whose tree is put
 
-module _ (folder : List ℕ) (run : Run) where
-  read-back : (told now : Option StoreFiles) (p : PutsTree run.last.tree folder told now)
-      → IfSome now (λ files. IsReadBack run.last.tree (export_of run.last.tree folder) (exported_text IMAGE_VERSION run.last.tree) files)
+module _ (folder : List ℕ) (written : Written) where
+  read-back : (told now : Option StoreFiles) (p : PutsTree written.run.last.tree folder told now)
+      → IfSome now (λ files. IsReadBack written.run.last.tree (export_of written.run.last.tree folder) (exported_text written.run.last.tree.version written.run.last.tree) files)
   unfolding IsReadAs
   read-back told now p = by_told told p.files
     where
-      by_told : (told : Option StoreFiles) → now ≡ told_with_files told folder (exported_files run.last.tree p.text) → IfSome now (λ files. IsReadBack run.last.tree (export_of run.last.tree folder) (exported_text IMAGE_VERSION run.last.tree) files)
-      by_told None is = subst (λ now. IfSome now (λ files. IsReadBack run.last.tree (export_of run.last.tree folder) (exported_text IMAGE_VERSION run.last.tree) files)) (sym is) tt
+      by_told : (told : Option StoreFiles) → now ≡ told_with_files told folder (exported_files written.run.last.tree p.text) → IfSome now (λ files. IsReadBack written.run.last.tree (export_of written.run.last.tree folder) (exported_text written.run.last.tree.version written.run.last.tree) files)
+      by_told None is = subst (λ now. IfSome now (λ files. IsReadBack written.run.last.tree (export_of written.run.last.tree folder) (exported_text written.run.last.tree.version written.run.last.tree) files)) (sym is) tt
       by_told (Some files) is =
-          subst (λ now. IfSome now (λ files. IsReadBack run.last.tree (export_of run.last.tree folder) (exported_text IMAGE_VERSION run.last.tree) files)) (sym is)
-          (subst (λ index. IsReadBack run.last.tree (export_of run.last.tree folder) index (with_files files folder (exported_files run.last.tree p.text))) (sym p.index)
-          (record { entries = p.entries; exported = p.image; read = p.read files folder }))
+          subst (λ now. IfSome now (λ files. IsReadBack written.run.last.tree (export_of written.run.last.tree folder) (exported_text written.run.last.tree.version written.run.last.tree) files)) (sym is)
+          (subst (λ index. IsReadBack written.run.last.tree (export_of written.run.last.tree folder) index (with_files files folder (exported_files written.run.last.tree p.text))) (sym p.index)
+          (record { image = p.image; exported = p.exported; read = p.read files folder }))
 
   -- an export that was put is read as the image of the tree
-  pub tree-put : (told now : Option StoreFiles) → PutsTree run.last.tree folder told now → HasPut (exported folder run) told now
+  pub tree-put : (told now : Option StoreFiles) → PutsTree written.run.last.tree folder told now → HasPut (exported folder written) told now
   tree-put told now p = record {
     accepted = subst (λ index. IsOk index) (sym p.index) refl;
-    files = p.files ∙ ap (λ index. option_map (files_with_index run.last.tree folder index) told) (sym p.index);
+    files = p.files ∙ ap (λ index. option_map (files_with_index written.run.last.tree folder index) told) (sym p.index);
     image = read-back told now p;
   }
 
   -- where the export was not put, after the whole report
-  pub fails-put : (f : Failure) (old new : Option (List ℕ)) (told now : Option StoreFiles) → FailsPut f run.last.tree folder told now → new ≡ added old (report_of run) → FailsExport f (exported folder run) old new
+  pub fails-put : (f : Failure) (old new : Option (List ℕ)) (told now : Option StoreFiles) → FailsPut f written.run.last.tree folder told now → new ≡ added old written.text → FailsExport f (exported folder written) old new
   fails-put Usage old new told now fails report = absurd fails
   fails-put (Image refusal) old new told now fails report = absurd fails
   fails-put (Export refusal) old new told now fails report = record { is = fails.0; report = report }
   fails-put Store old new told now fails report = (subst (λ index. IsOk index) (sym fails.index) refl, report)
-  fails-put Host old new told now fails report = adds_all old new (report_of run) report
+  fails-put Host old new told now fails report = adds_all old new written.text report
   fails-put Output old new told now fails report = absurd fails
-  fails-put NoMemory old new told now fails report = adds_all old new (report_of run) report
+  fails-put NoMemory old new told now fails report = adds_all old new written.text report
 
   -- the store holds what it held, or some of the export
-  pub some-put : (f : Failure) (old new : Option (List ℕ)) (told now : Option StoreFiles) → FailsPut f run.last.tree folder told now → new ≡ added old (report_of run) → (now ≡ told) ⊎ PutsPart old new told now (exported folder run)
+  pub some-put : (f : Failure) (old new : Option (List ℕ)) (told now : Option StoreFiles) → FailsPut f written.run.last.tree folder told now → new ≡ added old written.text → (now ≡ told) ⊎ PutsPart old new told now (exported folder written)
   some-put Usage old new told now fails report = absurd fails
   some-put (Image refusal) old new told now fails report = absurd fails
   some-put (Export refusal) old new told now fails report = inl fails.1

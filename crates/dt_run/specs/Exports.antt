@@ -1,7 +1,7 @@
 -- What an export leaves in a store, and why it is refused, or the image of a tree between two steps.
-use Rattle.std.specs.Prelude.{◌≡◌, ◌≢◌, ◌⊎◌, ℕ, List, ◌∷◌, ◌++◌, Option, Some, None, Result, Ok, Err, option_map, codes, IsOk, IfSome, IsSomeAnd, ⊤}
+use Rattle.std.specs.Prelude.{◌≡◌, ◌≢◌, ◌⊎◌, ℕ, List, ◌∷◌, ◌++◌, Option, Some, None, Result, Ok, Err, option_map, codes, IsOk, IfSome, IsSomeAnd, ⊤, []}
 use Rattle.std.specs.FinMap.{get}
-use Rattle.dt_base.specs.declared.image.Entry.{Entry}
+use Rattle.dt_base.specs.Image.{ImageParts}
 use Rattle.dt_base.specs.declared.refusal.Refusal.{Refusal}
 use Rattle.dt_host.specs.Sink.{added}
 use Rattle.dt_host.specs.Store.{StoreFiles, StoresPart}
@@ -19,14 +19,14 @@ use Rattle.dt_run.specs.Wanted.{wanted, AsksExport}
 use Rattle.dt_run.specs.SomeRun.{SomeRun}
 
 -- what was read of a folder is the image of a tree
-pub record IsImageOfTree (t : FileTree) (found : Result (List Entry) Refusal) : Type 0 where
-  pub entries : List Entry
-  pub exported : image_of_tree t ≡ Ok entries
-  pub read : found ≡ Ok entries
+pub record IsImageOfTree (t : FileTree) (found : Result (ImageParts × List ℕ) Refusal) : Type 0 where
+  pub image : ImageParts
+  pub exported : image_of_tree t ≡ Ok image
+  pub read : found ≡ Ok (image, [])
 
 -- where a tree's export has an index, its folder is read as the image of the tree
 abbrev pub IsReadBack : FileTree → ExportTo → Result (List ℕ) ExportRefusal → StoreFiles → Type 0
-IsReadBack t export (Ok text) files = IsImageOfTree t (image_of files export.folder)
+IsReadBack t export (Ok text) files = IsImageOfTree t (image_of files export.folder None)
 IsReadBack t export (Err refusal) files = ⊤
 
 -- likewise where an export is asked for

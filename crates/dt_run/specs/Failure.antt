@@ -9,7 +9,7 @@ use Rattle.dt_run.specs.declared.status.TheConstants.{WORDS_REFUSED, IMAGE_REFUS
 
 -- the line on the error stream
 abbrev pub failure_line : Failure → List ℕ
-failure_line Usage = codes "dettrace: usage: dettrace run IMAGE [--seed N] [--budget N] [--workers N] [--host N] -- [NAME=VALUE ..] PROGRAM [ARG ..]\n"
+failure_line Usage = codes "dettrace: usage: dettrace run IMAGE [--seed N] [--budget N] [--workers N] [--host N] [--stdin NAME] -- [NAME=VALUE ..] PROGRAM [ARG ..]\n"
 failure_line (Image refusal) = codes "dettrace: image refused: " ++ (decimal (refusal_number refusal) ++ (codes " " ++ (refusal_name refusal ++ codes "\n")))
 failure_line (Export refusal) = codes "dettrace: export refused: " ++ (decimal (export_refusal_number refusal) ++ (codes " " ++ (export_refusal_name refusal ++ codes "\n")))
 failure_line Store = codes "dettrace: store fault\n"

@@ -4,11 +4,10 @@ use Rattle.dt_host.specs.Sink.{added}
 use Rattle.dt_host.specs.Store.{StoreFiles}
 use Rattle.dt_host.specs.World.{World, IsEmptyStart}
 use Rattle.dt_tree.specs.FileTree.{FileTree}
-use Rattle.dt_export.specs.declared.image.TheConstants.{IMAGE_VERSION}
 use Rattle.dt_export.specs.declared.refusal.ExportRefusal.{ExportRefusal}
 use Rattle.dt_export.specs.ExportedFiles.{exported_text, exported_files, with_files}
-use Rattle.dt_engine.specs.Run.{Run, status_of_run}
-use Rattle.dt_engine.specs.Completed.{Written, Finishes, reported}
+use Rattle.dt_engine.specs.Run.{status_of_run}
+use Rattle.dt_engine.specs.Completed.{Written, Finishes}
 use Rattle.dt_steps.specs.Steps.{Steps}
 use Rattle.dt_run.specs.declared.status.TheConstants.{EXPORT_REFUSED}
 
@@ -36,9 +35,9 @@ abbrev pub written_alone : Written → Outcome
 written_alone written = one_run written None
 
 -- a run with its report, and the export of its last tree to a folder
-abbrev pub exported : List ℕ → Run → Outcome
-exported folder run =
-    one_run (reported run) (Some (record { folder = folder; index = exported_text IMAGE_VERSION run.last.tree }))
+abbrev pub exported : List ℕ → Written → Outcome
+exported folder written =
+    one_run written (Some (record { folder = folder; index = exported_text written.run.last.tree.version written.run.last.tree }))
 
 -- ---- the status, and a store's files then
 

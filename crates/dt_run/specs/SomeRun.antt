@@ -1,8 +1,7 @@
 -- A run that the words ask for, or steps, whether the store's files are known or not.
-use Rattle.std.specs.Prelude.{◌≡◌, ℕ, List, Option, Some, Ok, IsOk, IfSome, IsSomeAnd, ⊤}
-use Rattle.dt_base.specs.declared.image.Entry.{Entry}
+use Rattle.std.specs.Prelude.{◌≡◌, ℕ, List, [], Option, Some, None, Ok, IsOk, IfSome, IsSomeAnd, ⊤}
 use Rattle.dt_base.specs.Command.{Words}
-use Rattle.dt_base.specs.Image.{IsImage}
+use Rattle.dt_base.specs.Image.{ImageParts, IsImage}
 use Rattle.dt_host.specs.Sink.{added, AddsPart}
 use Rattle.dt_host.specs.Store.{StoreFiles}
 use Rattle.dt_export.specs.Steps.{IsListed}
@@ -17,17 +16,26 @@ AreListed (export_form request) commands = ⊤
 AreListed (demo_form request) commands = ⊤
 AreListed (steps_form request) commands = IsListed commands
 
--- what the words ask for on some image, and with some commands, has this property; where it is known what is wanted, this
+-- this may be the input of a run that the form asks for: it is empty where none is named; no other form looks at it
+abbrev pub IsInput : Form → List ℕ → Type 0
+IsInput (run_form request) input = request.input ≡ None → input ≡ []
+IsInput (export_form request) input = request.run.input ≡ None → input ≡ []
+IsInput (demo_form request) input = ⊤
+IsInput (steps_form request) input = ⊤
+
+-- what the words ask for on some image, with some input and some commands, has this property; where it is known what is wanted, this
 -- is it. A demonstration is the same on each image
 pub record SomeRun (told : Option StoreFiles) (words : List (List ℕ)) (P : Outcome → Type 0) : Type 0 where
   pub form : Form
   pub parsed : form_of words ≡ Some form
-  pub image : List Entry
+  pub image : ImageParts
   pub good : IsImage image
+  pub input : List ℕ
+  pub named : IsInput form input
   pub commands : List Words
   pub listed : AreListed form commands
-  pub is_wanted : IfSome (wanted told words) (λ found. found ≡ Ok (outcome_on form image commands))
-  pub holds : P (outcome_on form image commands)
+  pub is_wanted : IfSome (wanted told words) (λ found. found ≡ Ok (outcome_on form (image, input) commands))
+  pub holds : P (outcome_on form (image, input) commands)
 
 -- a prefix of what is written of it was added
 abbrev pub AddsTextPart : Option StoreFiles → List (List ℕ) → Option (List ℕ) → Option (List ℕ) → Type 0

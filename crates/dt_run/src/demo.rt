@@ -1,5 +1,6 @@
 // The demonstration: a run of an image and a command of its own, and a summary of the run's report.
 ghost use Rattle.std.specs.Prelude.{◌≡◌, ◌≤◌, [], Some, IfOk, IsErrOf, string_bytes};
+ghost use Rattle.dt_base.specs.declared.profile.TheConstants.{FIRST_VERSION as FIRST};
 ghost use Rattle.dt_host.specs.Cause.{HasCause};
 ghost use Rattle.dt_host.specs.Sink.{AddsPart};
 ghost use Rattle.dt_host.specs.World.{IsEmptyStart};
@@ -58,7 +59,7 @@ fn gather<R: AllocGlobal + Clock + Threads + Sync, H: Host + Send, G: Gate + Syn
 ) -> Result<u8, HostErr>
     requires empty { IsEmptyStart (H.view host.old) }
     requires workers { (1 ≤ options.now.workers) × (options.now.workers ≤ 64) }
-    ensures completed { IfOk result (λ status. Completes (demo_run options.now.number) status
+    ensures completed { IfOk result (λ status. Completes FIRST (demo_run options.now.number) status
         (Some report.old) (Some report.new) (H.view host.new)) }
     ensures cause { HasCause (H.count host.old) (H.count host.new) (IsErrOf result HostErr.Failed) }
 {

@@ -17,7 +17,7 @@ ghost use Rattle.dt_run.specs.inner.Exporting.{told_with_blobs, PutsTree, PutsBl
 use crate::failure::Failure;
 use crate::top::run_image;
 use dt_base::Image;
-use dt_export::{IMAGE_VERSION, prepare_export};
+use dt_export::prepare_export;
 use dt_host::{Gate, Host, Sink, Store, StoreErr};
 use dt_options::ExportOptions;
 use dt_tree::Tree;
@@ -47,16 +47,16 @@ pub fn run_export<
     requires workers { (1 ≤ options.now.run.workers) × (options.now.run.workers ≤ 64) }
     ensures completed { IfOk result (λ status.
         let run = run_of image.now options.now.run.command options.now.run.seed options.now.run.budget in
-        Finishes (reported run) status (O.told out.old) (O.told out.new) (H.view host.new)
-        × HasPut (exported options.now.to run) (S.told store.old) (S.told store.new)) }
+        Finishes (reported image.now.version run) status (O.told out.old) (O.told out.new) (H.view host.new)
+        × HasPut (exported options.now.to (reported image.now.version run)) (S.told store.old) (S.told store.new)) }
     ensures failed { IfErr result (λ f.
         let run = run_of image.now options.now.run.command options.now.run.seed options.now.run.budget in
-        FailsExport f (exported options.now.to run) (O.told out.old) (O.told out.new)) }
+        FailsExport f (exported options.now.to (reported image.now.version run)) (O.told out.old) (O.told out.new)) }
     ensures keeps { ChangesFolder options.now.to (S.told store.old) (S.told store.new) }
     ensures begun { OnErr result ((S.told store.new ≡ S.told store.old)
         ⊎ (let run = run_of image.now options.now.run.command options.now.run.seed options.now.run.budget in
         PutsPart (O.told out.old) (O.told out.new) (S.told store.old) (S.told store.new)
-        (exported options.now.to run))) }
+        (exported options.now.to (reported image.now.version run)))) }
     ensures output_stays { result ≡ Err Failure.Output → S.told store.new ≡ S.told store.old }
     ensures refused_stays { (r : Refusal) → result ≡ Err (Failure.Export r) → S.told store.new ≡ S.told store.old }
     ensures store { HasCause (S.count store.old) (S.count store.new) (IsErrOf result Failure.Store) }
@@ -93,7 +93,7 @@ fn put_tree<H: Host, S: Store>(
     ensures host { HasCause (H.count host.old) (H.count host.new) (IsErrOf result Failure.Host) }
     ensures store { HasCause (S.count store.old) (S.count store.new) (IsErrOf result Failure.Store) }
 {
-    let export = prepare_export(alloc, host, tree, IMAGE_VERSION)?;
+    let export = prepare_export(alloc, host, tree, tree.version())?;
     put_blobs(alloc, host, store, tree, folder, &export.inodes)?;
     put_index(alloc, store, folder, export.index.as_slice())?;
     Ok(())

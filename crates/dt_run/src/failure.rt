@@ -57,7 +57,7 @@ impl Failure {
         match self {
             Failure::Usage =>
                 "dettrace: usage: dettrace run IMAGE [--seed N] [--budget N] [--workers N] \
-                [--host N] -- [NAME=VALUE ..] PROGRAM [ARG ..]\n",
+                [--host N] [--stdin NAME] -- [NAME=VALUE ..] PROGRAM [ARG ..]\n",
             Failure::Image(refusal) => image_line(refusal),
             Failure::Export(refusal) => export_line(refusal),
             Failure::Store => "dettrace: store fault\n",
@@ -80,6 +80,8 @@ fn image_line(refusal: Refusal) -> &'static str
         Refusal::NoBlob => "dettrace: image refused: 6 NoBlob\n",
         Refusal::TooBig => "dettrace: image refused: 7 TooBig\n",
         Refusal::TooMany => "dettrace: image refused: 8 TooMany\n",
+        Refusal::NoInput => "dettrace: image refused: 9 NoInput\n",
+        Refusal::InputBig => "dettrace: image refused: 10 InputBig\n",
         Refusal::BadSteps => "dettrace: image refused: 11 BadSteps\n",
     }
 }

@@ -37,9 +37,10 @@ pub fn run_container<
     requires budget { (1 ≤ budget) × (budget ≤ 1000000000) }
     requires workers { (1 ≤ workers) × (workers ≤ 64) }
 
-    ensures completed { IfOk result (λ status. Completes (run_of image.now command.now seed budget) status
+    ensures completed { IfOk result (λ status. Completes image.now.version (run_of image.now command.now seed budget) status
         (O.told out.old) (O.told out.new) (H.view host.new)) }
-    ensures part { AddsPart (O.told out.old) (O.told out.new) (report_of (run_of image.now command.now seed budget)) }
+    ensures part { AddsPart (O.told out.old) (O.told out.new)
+        (report_of image.now.version (run_of image.now command.now seed budget)) }
     ensures host { HasCause (H.count host.old) (H.count host.new) (IsErrOf result RunErr.Host) }
     ensures sink { HasCause (O.count out.old) (O.count out.new) (IsErrOf result RunErr.Sink) }
 {

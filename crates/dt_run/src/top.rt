@@ -1,6 +1,9 @@
 // The call that the program makes.
-ghost use Rattle.std.specs.Prelude.{◌≡◌, ◌≢◌, ◌≤◌, ◌⊎◌, false, Some, Err, map, string_bytes, IsTrue, IfSome, IfOk};
+ghost use Rattle.std.specs.Prelude.{◌≡◌, ◌≢◌, ◌≤◌, ◌⊎◌, false, [], None, Some, Err, map, option_map, string_bytes, IsTrue, IfSome, IfOk};
 ghost use Rattle.std.specs.Prelude.{IfErr, OnErr, IsErrOf};
+ghost use Rattle.dt_base.specs.declared.refusal.Refusal.{Refusal};
+ghost use Rattle.dt_host.specs.Asks.{AsksOr};
+ghost use Rattle.dt_image.specs.ImageOf.{image_of};
 ghost use Rattle.dt_host.specs.Asks.{Asks};
 ghost use Rattle.dt_host.specs.Cause.{HasCause};
 ghost use Rattle.dt_host.specs.Sink.{AddsPart};
@@ -26,12 +29,13 @@ use crate::demo::demonstrate;
 use crate::export::run_export;
 use crate::failure::Failure;
 use crate::listed::run_listed;
-use dt_base::Image;
+use dt_base::{Blob, Image, ImageErr};
 use dt_engine::{Ended, RunErr, run_to_end};
 use dt_export::{ExportRefusal, has_index, read_steps};
 use dt_host::{Gate, Host, HostErr, Sink, SinkErr, Store, sink_all};
 use dt_image::read_image;
-use dt_options::{Options, RunOptions, read_options};
+use dt_options::{ExportOptions, Options, RunOptions, read_options};
+use std::alloc::Global;
 use std::thread::Threads;
 use std::time::Clock;
 
@@ -184,23 +188,54 @@ fn run_words<
     let alloc = rt.alloc();
     match read_options(alloc, words)? {
         Options::Run(options) => {
-            let image = read_image(alloc, store, options.image.as_str())?;
+            let (image, input) = read_run_image(alloc, store, &options)?;
+            let options = options.with_input(input);
             Ok(run_image(rt, &options, &image, host, out, gate)?.status)
         }
         Options::Export(options) => {
-            let image = read_image(alloc, store, options.run.image.as_str())?;
+            let (image, input) = read_run_image(alloc, store, &options.run)?;
             if has_index(alloc, store, options.to.as_str())? {
                 return Err(Failure::Export(ExportRefusal::Exists));
             }
+            let ExportOptions { run, to } = options;
+            let run = run.with_input(input);
+            let options = ExportOptions { run, to };
             run_export(rt, &options, &image, store, host, out, gate)
         }
         Options::Demo(options) => Ok(demonstrate(rt, &options, host, out, gate)?),
         Options::Steps(options) => {
-            let image = read_image(alloc, store, options.image.as_str())?;
+            let (image, _input) = read_image(alloc, store, options.image.as_str(), None)?;
             let folder = options.image.as_str();
             let commands = read_steps(alloc, store, folder, options.file.as_str())?;
             run_listed(rt, &options, &image, &commands, host, out, gate)
         }
+    }
+}
+
+// The image of a run, and its input.
+fn read_run_image<S: Store>(
+    alloc: Global,
+    store: &mut S,
+    options: &RunOptions,
+) -> Result<(Image, Blob), ImageErr>
+    ensures ok { IfSome (S.told store.old) (λ files. IfOk result
+        (λ found. image_of files options.now.image options.now.input ≡ Ok found)) }
+    ensures refused { (r : Refusal) → result ≡ Err (ImageErr.Refused r) →
+        IfSome (S.told store.old) (λ files. image_of files options.now.image options.now.input ≡ Err r) }
+    ensures unnamed { options.now.input ≡ None → IfOk result (λ found. found.1 ≡ []) }
+    ensures no_steps { result ≢ Err (ImageErr.Refused Refusal.BadSteps) }
+    ensures asks { AsksOr S.told S.count ImageErr.Store store.old store.new result }
+{
+    read_image(alloc, store, options.image.as_str(), input_name(options))
+}
+
+// The name of the blob that is a run's input, if one is named.
+fn input_name(options: &RunOptions) -> Option<&str>
+    ensures { option_map (λ name. name.now) result ≡ options.now.input }
+{
+    match &options.input {
+        Some(name) => Some(name.as_str()),
+        None => None,
     }
 }
 
@@ -221,7 +256,7 @@ pub fn run_image<
     requires empty { IsEmptyStart (H.view host.old) }
     requires budget { (1 ≤ options.now.budget) × (options.now.budget ≤ 1000000000) }
     requires workers { (1 ≤ options.now.workers) × (options.now.workers ≤ 64) }
-    ensures completed { IfOk result (λ ended. Completes
+    ensures completed { IfOk result (λ ended. Completes image.now.version
         (run_of image.now options.now.command options.now.seed options.now.budget) ended.status
         (O.told out.old) (O.told out.new) (H.view host.new)) }
     ensures left { IfOk result (λ ended.
@@ -229,7 +264,7 @@ pub fn run_image<
         run.last ≡ shared_of ended.container.shared (H.view host.new)) }
     ensures sound { IfOk result (λ ended. IsSoundContainer ended.container (H.view host.new)) }
     ensures part { AddsPart (O.told out.old) (O.told out.new)
-        (report_of (run_of image.now options.now.command options.now.seed options.now.budget)) }
+        (report_of image.now.version (run_of image.now options.now.command options.now.seed options.now.budget)) }
     ensures host { HasCause (H.count host.old) (H.count host.new) (IsErrOf result RunErr.Host) }
     ensures output { HasCause (O.count out.old) (O.count out.new) (IsErrOf result RunErr.Sink) }
 {

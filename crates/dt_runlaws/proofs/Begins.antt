@@ -1,10 +1,11 @@
 -- A run in play before its first turn.
-use Rattle.std.proofs.Common.{◌≡◌, ℕ, ◌<◌, List, [], Result, Ok, Err, refl, sym, ap, subst, ◌∙◌, arith}
+use Rattle.std.proofs.Common.{◌≡◌, ℕ, ◌<◌, [], Result, Ok, Err, refl, sym, ap, subst, ◌∙◌, arith}
 use Rattle.std.specs.Prelude.{IsSome, option_map}
 use Rattle.std.specs.Cmp.{nat_cmp_total}
 use Rattle.std.specs.FinMap.{get, insert, nat_cmp-IsAntisymmetric}
+use Rattle.dt_base.specs.Profile.{has_atomics}
 use Rattle.dt_base.specs.declared.errno.Errno.{Errno}
-use Rattle.dt_base.specs.declared.image.Entry.{Entry}
+use Rattle.dt_base.specs.Image.{ImageParts}
 use Rattle.dt_base.specs.declared.limits.TheConstants.{FIRST_PID}
 use Rattle.dt_base.specs.Command.{Words}
 use Rattle.dt_tables.proofs.Maps.{get-insert_same}
@@ -14,7 +15,7 @@ use Rattle.dt_exec.specs.declared.program.Program.{Program}
 use Rattle.dt_exec.specs.Program.{start_program}
 use Rattle.dt_virt.specs.Words.{start_bytes}
 use Rattle.dt_calls.specs.Container.{Container, first_container}
-use Rattle.dt_calls.specs.Launch.{launch_of_program, launch}
+use Rattle.dt_calls.specs.Launch.{launch_of_program, launch, with_input}
 use Rattle.dt_engine.specs.Work.{owing_work}
 use Rattle.dt_engine.specs.Ahead.{state_with_works}
 use Rattle.dt_engine.specs.Playing.{Playing, playing_from, first_playing, rest_of}
@@ -50,11 +51,12 @@ begun-lent budget c (Err errno) less = record {
   ordered = record { once = tt; given = tt };
 }
 
-first-lent : (entries : List Entry) (words : Words) (seed budget : ℕ) → AreLent (first_playing entries words seed budget) []
+first-lent : (image : ImageParts) (words : Words) (seed budget : ℕ) → AreLent (first_playing image words seed budget) []
 unfolding first_playing launch
-first-lent entries words seed budget =
-    let c = first_container (image_tree entries) seed in
-    begun-lent budget c (start_program c.shared.tree.shape words (start_bytes c.shared.rand)) (omega arith)
+first-lent image words seed budget =
+    let c = first_container (image_tree image) seed in
+    begun-lent budget (record c { shared = with_input words.input c.shared })
+    (start_program c.shared.tree.shape words (start_bytes c.shared.rand) (has_atomics c.shared.tree.version)) (omega arith)
 
 -- with no work away as much is left
 none-left : (e : Playing) → rest_of (state_with_works [] e.state) e.verdict ≡ rest_of e.state e.verdict
@@ -62,9 +64,9 @@ unfolding state_with_works
 none-left e = refl
 
 pub begin-shows : BeginShows
-begin-shows entries words seed budget =
-    let e = first_playing entries words seed budget in
+begin-shows image words seed budget =
+    let e = first_playing image words seed budget in
     record {
-      whole = sym (rest-at-first entries words seed budget) ∙ ap (after_events []) (sym (none-left e));
-      machines = first-lent entries words seed budget;
+      whole = sym (rest-at-first image words seed budget) ∙ ap (after_events []) (sym (none-left e));
+      machines = first-lent image words seed budget;
     }

@@ -5,6 +5,7 @@ use Rattle.std.specs.Prelude.{IsSome, IfSome, Result, Ok, Err, nat_lt}
 use Rattle.std.specs.Cmp.{nat_cmp_total}
 use Rattle.std.specs.List.{All}
 use Rattle.std.specs.FinMap.{get, insert, nat_cmp-IsAntisymmetric}
+use Rattle.dt_base.specs.Profile.{has_atomics}
 use Rattle.dt_base.specs.declared.abi.TheConstants as abi
 use Rattle.dt_base.specs.declared.abi.TheConstants.{A0, A1, A2, A3, A7, TRANSFER_LIMIT}
 use Rattle.dt_base.specs.Abi.{low_word, exit_code}
@@ -66,7 +67,7 @@ use Rattle.dt_calls.specs.Identity.{getpid_call, getppid_call, set_robust_list_c
 use Rattle.dt_calls.specs.Kill.{is_below_one, is_unsupported_signal, has_member, kill_call, tkill_call, tgkill_call, send_effect_to}
 use Rattle.dt_calls.specs.MemoryCalls.{effect_of_memory_call, brk_call, munmap_call, mmap_call, mprotect_call}
 use Rattle.dt_calls.specs.LateCalls.{setitimer_call, getitimer_call, with_polling, events_of, effect_of_poll, ppoll_call, late_call}
-use Rattle.dt_calls.specs.Settle.{next_after, effect_of_turn, turn_of_machine}
+use Rattle.dt_calls.specs.Settle.{next_after, effect_of_turn, turn_of_machine, machine_to_serve}
 use Rattle.dt_calls.specs.SignalCalls.{AfterSigreturn, after_sigreturn, with_signals_of, effect_of_signal_call, sigaction_call, sigprocmask_call, sigreturn_call, effect_of_sigreturn}
 use Rattle.dt_calls.specs.Timers.{tasks_after_timers, shared_after_timers, effect_after_timers}
 use Rattle.dt_calls.specs.Wait.{is_group, which_child, status_bytes, usage_bytes, wait4_call, effect_of_reaped, reap_effect}
@@ -433,7 +434,7 @@ module _ (next p : ℕ) (c : Shared) (start : HasFewProcesses c next) (here : Is
   execve : (m : Machine) → Comes (execve_call c p m)
   unfolding execve_call
   execve m = by_program m (execve_program c.tree.shape (task_at c p).caller.cwd m.space
-      (register m A0) (register m A1) (register m A2) (start_bytes c.rand))
+      (register m A0) (register m A1) (register m A2) (start_bytes c.rand) (has_atomics c.tree.version))
 
   reap : (m : Machine) (status usage v : ℕ) (end : End) → Sees (record c { members = without_member c.members v }) → Comes (reap_effect c m status usage v end)
   reap m status usage v end sees = by_both (is_writable_or_null m.space status 4 && is_writable_or_null m.space usage RUSAGE_SIZE)
@@ -534,8 +535,9 @@ module _ (next p : ℕ) (c : Shared) (start : HasFewProcesses c next) (here : Is
   -- what a turn comes to
   pub turned : (m : Machine) (stop : Stop) → Comes (effect_of_turn c next p m stop)
   turned m stop =
-      delivered (forced_signal stop) (effect_after_timers (effect_of_stop c next p m stop))
-      (fired (effect_of_stop c next p m stop) (stopped m stop))
+      let served = machine_to_serve stop m in
+      delivered (forced_signal stop) (effect_after_timers (effect_of_stop c next p served stop))
+      (fired (effect_of_stop c next p served stop) (stopped served stop))
 
 pub turns-show-few : ProcessTurnsShowFew
 unfolding turn_of_machine

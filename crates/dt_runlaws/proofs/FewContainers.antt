@@ -4,6 +4,7 @@ use Rattle.std.proofs.lemmas.List.Elements.{All-cons, All-nil}
 use Rattle.std.specs.Prelude.{IsSome, Result, Ok, Err, option_map}
 use Rattle.std.specs.FinMap.{get, insert, empty, get-empty}
 use Rattle.std.specs.Ordering.{nat_cmp}
+use Rattle.dt_base.specs.Profile.{has_atomics}
 use Rattle.dt_base.specs.declared.errno.Errno.{Errno}
 use Rattle.dt_base.specs.declared.limits.TheConstants.{FIRST_PID}
 use Rattle.dt_exec.specs.declared.program.Program.{Program}
@@ -13,9 +14,9 @@ use Rattle.dt_procs.specs.Members.{newborn, first_members}
 use Rattle.dt_rv64.specs.declared.machine.Machine.{Machine}
 use Rattle.dt_virt.specs.Words.{start_bytes}
 use Rattle.dt_calls.specs.declared.task.Task.{Task}
-use Rattle.dt_calls.specs.Container.{blank_task}
+use Rattle.dt_calls.specs.Container.{Container, blank_task}
 use Rattle.dt_calls.specs.InCode.{machines_at_home, container_of, container_turn_as}
-use Rattle.dt_calls.specs.Launch.{launch, launch_of_program}
+use Rattle.dt_calls.specs.Launch.{launch, launch_of_program, with_input}
 use Rattle.dt_calls.specs.Settle.{ContainerTurn, turn_of_machine, turn_of_container, with_process_turn}
 use Rattle.dt_calls.proofs.Homes.{home-place}
 use Rattle.dt_runlaws.specs.Few.{AreMembers, HasFew, LastTurnShowsFew, ContainersBeginFew, LaunchesLeaveFew, ContainersShowFew}
@@ -38,10 +39,14 @@ containers-begin-few t seed = record { members = first-members; lives = first-li
 
 pub launches-leave-few : LaunchesLeaveFew
 unfolding launch
-launches-leave-few c words here few = by_program (start_program c.shared.tree.shape words (start_bytes c.shared.rand))
+launches-leave-few c words here few =
+    by_program (start_program c.shared.tree.shape words (start_bytes c.shared.rand) (has_atomics c.shared.tree.version))
   where
-    by_program : (r : Result Program Errno) → (let l = launch_of_program c r in HasFew l.container)
-    by_program (Err errno) = few
+    fed : Container
+    fed = record c { shared = with_input words.input c.shared }
+
+    by_program : (r : Result Program Errno) → (let l = launch_of_program fed r in HasFew l.container)
+    by_program (Err errno) = record { members = few.members; lives = few.lives }
     by_program (Ok program) = record {
       members = few.members;
       lives = live-put c.shared.tasks c.shared.members FIRST_PID _ few.lives (few.lives FIRST_PID here);

@@ -1,12 +1,16 @@
 -- A call on open files puts out no more bytes than one call moves.
 use Rattle.std.proofs.Common.{◌≡◌, ℕ, ◌≤◌, List, [], ◌∷◌, length, Bool, refl, arith}
-use Rattle.std.specs.Prelude.{Option, None, Some, Result, Ok, Err}
+use Rattle.std.specs.Prelude.{Option, None, Some, Result, Ok, Err, replicate}
 use Rattle.dt_base.specs.Abi.{low_word, byte_count}
 use Rattle.dt_base.specs.declared.abi.TheConstants.{TRANSFER_LIMIT}
 use Rattle.dt_base.specs.declared.errno.Errno.{Errno}
+use Rattle.dt_base.specs.declared.image.Device as base
+use Rattle.dt_base.specs.declared.image.Device.TheVariants.{Null, Zero, Random}
+use Rattle.dt_host.specs.World.{device_at}
+use Rattle.dt_virt.specs.Words.{next_bytes}
 use Rattle.dt_fds.specs.declared.desc.Desc.{Desc}
 use Rattle.dt_fds.specs.declared.desc.DescKind.{DescKind}
-use Rattle.dt_fds.specs.declared.desc.DescKind.TheVariants.{File, Dir, PipeRead, PipeWrite, Input, Stream}
+use Rattle.dt_fds.specs.declared.desc.DescKind.TheVariants.{File, Dir, Device, PipeRead, PipeWrite, Input, Stream}
 use Rattle.dt_fds.specs.declared.desc.Spot.{Spot}
 use Rattle.dt_fds.specs.declared.flow.Flow.{Flow}
 use Rattle.dt_fds.specs.declared.flow.Flow.TheVariants.{Moved, Part, Broken, Wait}
@@ -23,13 +27,13 @@ use Rattle.dt_iocalls.specs.Descriptors.{close_row, dup_row, dup3_row, fcntl_row
 use Rattle.dt_iocalls.specs.Entries.{getdents64_row, listing_reply_by_kind, listing_reply, left_entries_reply, fitting_entries_reply, entries_fill_reply, fitting_entries}
 use Rattle.dt_iocalls.specs.Offsets.{offset_of}
 use Rattle.dt_iocalls.specs.Piping.{pipe2_row, pipe_reply, new_pipe_reply, flow_answer, flow_reply}
-use Rattle.dt_iocalls.specs.Ranges.{one_range, total_len, gathered_bytes, ranges_at, on_ranges}
-use Rattle.dt_iocalls.specs.Reading.{read_row, readv_row, pread64_row, read_reply, read_reply_by_kind, read_at_reply_by_kind, received_reply, pipe_fill_reply, pipe_read_reply}
+use Rattle.dt_iocalls.specs.Ranges.{one_range, total_len, gathered_bytes, scattered_pages, ranges_at, on_ranges}
+use Rattle.dt_iocalls.specs.Reading.{read_row, readv_row, pread64_row, read_reply, read_reply_by_kind, read_at_reply_by_kind, received_reply, drawn_reply, bytes_of_device_reply, device_read_reply, pipe_fill_reply, pipe_read_reply}
 use Rattle.dt_iocalls.specs.Seeking.{lseek_row, seek_reply, seek_to_reply}
-use Rattle.dt_iocalls.specs.Writing.{write_row, writev_row, pwrite64_row, ftruncate_row, on_bytes, write_result_reply, write_reply_by_kind, bytes_write_reply, write_reply, descriptor_write_reply, bytes_write_at_reply, write_at_reply_by_kind, truncate_reply_by_kind}
+use Rattle.dt_iocalls.specs.Writing.{device_write_reply, write_row, writev_row, pwrite64_row, ftruncate_row, on_bytes, write_result_reply, write_reply_by_kind, bytes_write_reply, write_reply, descriptor_write_reply, bytes_write_at_reply, write_at_reply_by_kind, truncate_reply_by_kind}
 use Rattle.dt_iocalls.proofs.Pieces.{gathered-length}
 use Rattle.dt_iocalls.proofs.Vectors.{few_at}
-use Rattle.dt_runlaws.proofs.FewReplies.{short_rows, Short, value-short, refused-short}
+use Rattle.dt_runlaws.proofs.FewReplies.{short_rows, Short, value-short, refused-short, filled-short}
 
 close-short : (args : List ℕ) (s : Scene) → Short (close_row args s)
 unfolding close_row
@@ -78,6 +82,7 @@ listing-short fd buffer count n last s = search (short_rows, left-short)
 listing_kind-short : (fd buffer count : ℕ) (kind : DescKind) (last : Option (List ℕ)) (s : Scene) → Short (listing_reply_by_kind fd buffer count kind last s)
 listing_kind-short fd buffer count (File n) last s = search short_rows
 listing_kind-short fd buffer count (Dir n) last s = listing-short fd buffer count n last s
+listing_kind-short fd buffer count (Device n) last s = search short_rows
 listing_kind-short fd buffer count (PipeRead q) last s = search short_rows
 listing_kind-short fd buffer count (PipeWrite q) last s = search short_rows
 listing_kind-short fd buffer count Input last s = search short_rows
@@ -118,6 +123,7 @@ seek_to-short fd s (Some offset) = record { short = tt }
 seek-short : (fd by whence : ℕ) (kind : DescKind) (spot : Spot) (s : Scene) → Short (seek_reply fd by whence kind spot s)
 seek-short fd by whence (File n) spot s = search (short_rows, seek_to-short)
 seek-short fd by whence (Dir n) spot s = search short_rows
+seek-short fd by whence (Device n) spot s = search short_rows
 seek-short fd by whence (PipeRead q) spot s = search short_rows
 seek-short fd by whence (PipeWrite q) spot s = search short_rows
 seek-short fd by whence Input spot s = search short_rows
@@ -145,13 +151,27 @@ pipe_read-short : (fd : ℕ) (ranges : List Range) (s : Scene) → Short (pipe_r
 unfolding pipe_read_reply
 pipe_read-short fd ranges s = search (short_rows, pipe_fill-short)
 
+drawn-short : (s : Scene) (count : ℕ) (pages : Result (List PageView) Miss) → Short (drawn_reply s count pages)
+drawn-short s count (Err miss) = refused-short s _
+drawn-short s count (Ok pages) = record { short = tt }
+
+device_bytes-short : (device : Option base.Device) (ranges : List Range) (s : Scene) → Short (bytes_of_device_reply device ranges s)
+device_bytes-short None ranges s = value-short s 0
+device_bytes-short (Some Null) ranges s = value-short s 0
+device_bytes-short (Some Zero) ranges s = filled-short s (total_len ranges) (scattered_pages s.space ranges (replicate (total_len ranges) 0))
+device_bytes-short (Some Random) ranges s = drawn-short s (total_len ranges) (scattered_pages s.space ranges (next_bytes s.rand (total_len ranges)))
+
+device-short : (n : ℕ) (ranges : List Range) (s : Scene) → Short (device_read_reply n ranges s)
+device-short n ranges s = device_bytes-short (device_at s.tree.shape n) ranges s
+
 read_kind-short : (fd : ℕ) (ranges : List Range) (kind : DescKind) (offset : ℕ) (s : Scene) → Short (read_reply_by_kind fd ranges kind offset s)
 unfolding read_reply_by_kind
 read_kind-short fd ranges (File n) offset s = search (short_rows, received-short)
 read_kind-short fd ranges (Dir n) offset s = search short_rows
+read_kind-short fd ranges (Device n) offset s = device-short n ranges s
 read_kind-short fd ranges (PipeRead q) offset s = pipe_read-short fd ranges s
 read_kind-short fd ranges (PipeWrite q) offset s = search short_rows
-read_kind-short fd ranges Input offset s = value-short s 0
+read_kind-short fd ranges Input offset s = search (short_rows, received-short)
 read_kind-short fd ranges (Stream stream) offset s = search short_rows
 
 read_by-short : (fd : ℕ) (ranges : List Range) (desc : Desc) (s : Scene) → Short (read_reply fd ranges desc s)
@@ -168,6 +188,7 @@ readv-short args s = search (short_rows, ranges-short, read_by-short)
 read_at_kind-short : (offset : ℕ) (ranges : List Range) (kind : DescKind) (s : Scene) → Short (read_at_reply_by_kind offset ranges kind s)
 read_at_kind-short offset ranges (File n) s = search short_rows
 read_at_kind-short offset ranges (Dir n) s = search short_rows
+read_at_kind-short offset ranges (Device n) s = device-short n ranges s
 read_at_kind-short offset ranges (PipeRead q) s = search short_rows
 read_at_kind-short offset ranges (PipeWrite q) s = search short_rows
 read_at_kind-short offset ranges Input s = search short_rows
@@ -185,6 +206,7 @@ written-short s count next (Ok done) t = record { short = tt }
 write_kind-short : (fd : ℕ) (append : Bool) (offset : ℕ) (kind : DescKind) (bytes : List ℕ) (s : Scene) → length bytes ≤ TRANSFER_LIMIT → Short (write_reply_by_kind fd append offset kind bytes s)
 write_kind-short fd append offset (File n) bytes s few = search (short_rows, written-short)
 write_kind-short fd append offset (Dir n) bytes s few = search short_rows
+write_kind-short fd append offset (Device n) bytes s few = search short_rows
 write_kind-short fd append offset (PipeRead q) bytes s few = search short_rows
 write_kind-short fd append offset (PipeWrite q) bytes s few = search (short_rows, flow-short)
 write_kind-short fd append offset Input bytes s few = search short_rows
@@ -235,6 +257,8 @@ any_bytes-short s (Ok bytes) row short = short bytes
 write_at_kind-short : (offset : ℕ) (ranges : List Range) (append : Bool) (kind : DescKind) (s : Scene) → Short (write_at_reply_by_kind offset ranges append kind s)
 write_at_kind-short offset ranges append (File n) s = search (short_rows, any_bytes-short, write_at-short)
 write_at_kind-short offset ranges append (Dir n) s = search short_rows
+write_at_kind-short offset ranges append (Device n) s =
+    any_bytes-short s (gathered_bytes s.space ranges) (λ bytes. device_write_reply bytes s) (λ bytes. value-short s (length bytes))
 write_at_kind-short offset ranges append (PipeRead q) s = search short_rows
 write_at_kind-short offset ranges append (PipeWrite q) s = search short_rows
 write_at_kind-short offset ranges append Input s = search short_rows
@@ -247,6 +271,7 @@ pwrite-short args s = search (short_rows, write_at_kind-short)
 cut-short : (len : ℕ) (kind : DescKind) (s : Scene) → Short (truncate_reply_by_kind len kind s)
 cut-short len (File n) s = search short_rows
 cut-short len (Dir n) s = search short_rows
+cut-short len (Device n) s = search short_rows
 cut-short len (PipeRead q) s = search short_rows
 cut-short len (PipeWrite q) s = search short_rows
 cut-short len Input s = search short_rows

@@ -1,10 +1,13 @@
 -- No call on paths answers bytes that go out.
 use Rattle.std.proofs.Common.{ℕ, List}
 use Rattle.std.specs.Prelude.{Option, None, Some, Result, Ok, Err}
-use Rattle.dt_base.specs.Abi.{low_word}
+use Rattle.dt_base.specs.Abi.{low_word, has_flag}
+use Rattle.dt_base.specs.declared.abi.TheConstants.{O_TRUNC}
 use Rattle.dt_base.specs.declared.errno.Errno.{Errno}
 use Rattle.dt_fds.specs.declared.desc.DescKind.{DescKind}
-use Rattle.dt_fds.specs.declared.desc.DescKind.TheVariants.{File, Dir, PipeRead, PipeWrite, Input, Stream}
+use Rattle.dt_fds.specs.declared.desc.DescKind.TheVariants.{File, Dir, Device, PipeRead, PipeWrite, Input, Stream}
+use Rattle.dt_host.specs.World.{device_at}
+use Rattle.dt_tree.specs.Shape.{is_dir, is_device}
 use Rattle.dt_tree.specs.declared.meta.Meta.{Meta}
 use Rattle.dt_tree.specs.Meta.{meta_of}
 use Rattle.dt_tree.specs.FileTree.{FileTree}
@@ -16,7 +19,7 @@ use Rattle.dt_fcalls.specs.Nodes as nodes
 use Rattle.dt_fcalls.specs.Open as opens
 use Rattle.dt_fcalls.specs.Status as status
 use Rattle.dt_fcalls.specs.Stat.{stat_of, stream_stat, pipe_stat}
-use Rattle.dt_runlaws.proofs.FewReplies.{short_rows, Short, refused-short, fill-short}
+use Rattle.dt_runlaws.proofs.FewReplies.{short_rows, Short, either, refused-short, fill-short}
 
 umask-short : (args : List ℕ) (s : Scene) → Short (nodes.umask_row args s)
 unfolding nodes.umask_row
@@ -47,8 +50,14 @@ create-short flags mode place s = search (short_rows, done-short)
 missing-short : (flags mode : ℕ) (place : Place) (s : Scene) → Short (opens.open_missing_reply flags mode place s)
 missing-short flags mode place s = search (short_rows, create-short)
 
+truncated-short : (flags n : ℕ) (s : Scene) → Short (opens.truncate_reply flags n s)
+truncated-short flags n s = search (short_rows, done-short)
+
 opened-short : (flags n : ℕ) (s : Scene) → Short (opens.open_node_reply flags n s)
-opened-short flags n s = search short_rows
+opened-short flags n s =
+    either (is_dir s.tree.shape n) _ _ (search short_rows)
+    (either (is_device s.tree.shape n) _ _ (search short_rows)
+    (either (has_flag flags O_TRUNC) _ _ (truncated-short flags n s) (search short_rows)))
 
 open_at-short : (flags mode : ℕ) (place : Place) (found : Option ℕ) (s : Scene) → Short (opens.open_at_reply flags mode place found s)
 open_at-short flags mode place None s = missing-short flags mode place s
@@ -80,7 +89,7 @@ readlink-short args s = search (short_rows, target-short)
 
 status_fill-short : (s : Scene) (buffer n : ℕ) (meta : Option Meta) → Short (status.status_fill_reply s buffer n meta)
 status_fill-short s buffer n None = search short_rows
-status_fill-short s buffer n (Some meta) = fill-short s buffer (stat_of n meta) 0
+status_fill-short s buffer n (Some meta) = fill-short s buffer (stat_of n meta (device_at s.tree.shape n)) 0
 
 status-short : (buffer n : ℕ) (s : Scene) → Short (status.status_reply buffer n s)
 status-short buffer n s = status_fill-short s buffer n (meta_of s.tree n)
@@ -88,6 +97,7 @@ status-short buffer n s = status_fill-short s buffer n (meta_of s.tree n)
 kind-short : (buffer : ℕ) (kind : DescKind) (s : Scene) → Short (status.status_reply_by_kind buffer kind s)
 kind-short buffer (File n) s = status-short buffer n s
 kind-short buffer (Dir n) s = status-short buffer n s
+kind-short buffer (Device n) s = status-short buffer n s
 kind-short buffer (PipeRead q) s = fill-short s buffer (pipe_stat q) 0
 kind-short buffer (PipeWrite q) s = fill-short s buffer (pipe_stat q) 0
 kind-short buffer Input s = fill-short s buffer stream_stat 0

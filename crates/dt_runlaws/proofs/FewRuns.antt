@@ -3,6 +3,7 @@ use Rattle.std.proofs.Common.{◌≡◌, ℕ, zero, suc, ◌<◌, ◌-◌, List,
 use Rattle.std.proofs.lemmas.List.Elements.{All-head, All-weaker}
 use Rattle.std.specs.Prelude.{IsSome, Result, Ok, Err, nat_le}
 use Rattle.std.specs.FinMap.{get}
+use Rattle.dt_base.specs.Profile.{has_atomics}
 use Rattle.dt_base.specs.Command.{Words}
 use Rattle.dt_base.specs.declared.errno.Errno.{Errno}
 use Rattle.dt_base.specs.declared.event.Verdict.{Verdict}
@@ -15,9 +16,9 @@ use Rattle.dt_tree.specs.FileTree.{FileTree}
 use Rattle.dt_tree.specs.ImageTree.{image_tree}
 use Rattle.dt_virt.specs.Clock.{ticks_reaching}
 use Rattle.dt_virt.specs.Words.{start_bytes}
-use Rattle.dt_calls.specs.Container.{first_container}
+use Rattle.dt_calls.specs.Container.{Container, first_container}
 use Rattle.dt_calls.specs.Effect.{Effect}
-use Rattle.dt_calls.specs.Launch.{launch, launch_of_program}
+use Rattle.dt_calls.specs.Launch.{launch, launch_of_program, with_input}
 use Rattle.dt_calls.specs.Settle.{turn_of_machine, effect_of_turn, process_turn}
 use Rattle.dt_calls.specs.Timers.{tasks_after_timers, shared_after_timers, shared_after_jump, earliest_of}
 use Rattle.dt_calls.proofs.Fired.{still-timers}
@@ -144,17 +145,20 @@ states-show-few s few = head-few s s.schedule.order refl few
 begins-few : (t : FileTree) (seed budget : ℕ) (words : Words) → (let e = playing_in budget (first_container t seed) words in HasFewIn e.state)
 unfolding launch
 begins-few t seed budget words =
-    by_program (start_program (first_container t seed).shared.tree.shape words (start_bytes (first_container t seed).shared.rand))
+    by_program (start_program (first_container t seed).shared.tree.shape words (start_bytes (first_container t seed).shared.rand) (has_atomics (first_container t seed).shared.tree.version))
     (launches-leave-few (first_container t seed) words (task-here _ FIRST_PID _) (containers-begin-few t seed))
   where
-    by_program : (r : Result Program Errno) → (let l = launch_of_program (first_container t seed) r in
+    fed : Container
+    fed = let c = first_container t seed in record c { shared = with_input words.input c.shared }
+
+    by_program : (r : Result Program Errno) → (let l = launch_of_program fed r in
         HasFewProcesses l.container.shared l.container.next → (let e = playing_from budget l.container l.launch in HasFewIn e.state))
     by_program (Err errno) few = has-few _ few (stand-none _)
     by_program (Ok program) few = has-few _ few (stand-one _ FIRST_PID (task-here _ FIRST_PID _))
 
 pub first-states-have-few : FirstStatesHaveFew
 unfolding first_playing
-first-states-have-few entries words seed budget = begins-few (image_tree entries) seed budget words
+first-states-have-few image words seed budget = begins-few (image_tree image) seed budget words
 
 -- an admission, by the verdict that stands and who is awaited
 admission-few : (e : Playing) (v : Option Verdict) (late : Option ℕ) → HasFewIn e.state → AdmissionShowsFew (admission_by e v late)
@@ -215,8 +219,8 @@ turns-few (suc count) e few =
     turns-few count s.next step.next
 
 pub runs-show-few : RunsShowFew
-runs-show-few entries words seed budget count =
-    let t = turns count (first_playing entries words seed budget) in
-    let few = turns-few count (first_playing entries words seed budget) (first-states-have-few entries words seed budget) in
+runs-show-few image words seed budget count =
+    let t = turns count (first_playing image words seed budget) in
+    let few = turns-few count (first_playing image words seed budget) (first-states-have-few image words seed budget) in
     let step = step-few t.next t.next.verdict few in
     step.shown

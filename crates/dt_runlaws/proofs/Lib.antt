@@ -21,3 +21,16 @@ pub mod FewContainers
 pub mod FewOrders
 pub mod FewRuns
 pub mod Serving
+pub mod VersionTrees
+pub mod VersionReplies
+pub mod VersionPaths
+pub mod VersionNames
+pub mod VersionTimes
+pub mod VersionFiles
+pub mod VersionMachines
+pub mod VersionPrograms
+pub mod VersionHandlers
+pub mod VersionCalls
+pub mod VersionRuns
+pub mod VersionFirst
+pub mod VersionInput

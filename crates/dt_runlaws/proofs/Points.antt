@@ -8,7 +8,7 @@ use Rattle.std.proofs.lemmas.List.{map-append, drop_more, drop_all}
 use Rattle.std.proofs.lemmas.List.Elements.{All-contains, All-from_recursion}
 use Rattle.dt_base.specs.declared.event.Event.{Event}
 use Rattle.dt_base.specs.declared.event.Verdict.{Verdict}
-use Rattle.dt_base.specs.declared.image.Entry.{Entry}
+use Rattle.dt_base.specs.Image.{ImageParts}
 use Rattle.dt_base.specs.Command.{Words}
 use Rattle.dt_host.specs.World.{World}
 use Rattle.dt_rv64.specs.declared.machine.Machine.{Machine}
@@ -44,11 +44,11 @@ at-parts : (d : Point) (e : EngineView) (items : List LentMachine) (w : World) �
 at-parts d e items w run lent = λ i. record { playing = run i; lent = lent i; shown = d.shown }
 
 -- a driver that has begun
-pub first-at : (entries : List Entry) (words : Words) (seed budget : ℕ) (e : EngineView) (items : List LentMachine) (w : World)
-    → first_playing entries words seed budget ≡ playing_of e w → items ≡ []
-    → AreAt (first_point entries words seed budget) e items w
-first-at entries words seed budget e items w run none =
-    at-parts (first_point entries words seed budget) e items w (sym run) (ap lent_of none)
+pub first-at : (image : ImageParts) (words : Words) (seed budget : ℕ) (e : EngineView) (items : List LentMachine) (w : World)
+    → first_playing image words seed budget ≡ playing_of e w → items ≡ []
+    → AreAt (first_point image words seed budget) e items w
+first-at image words seed budget e items w run none =
+    at-parts (first_point image words seed budget) e items w (sym run) (ap lent_of none)
 
 -- the pids of machines in code
 pub any-pid : (items : List LentMachine) (p : ℕ) → list_any (λ (l : LentMachine). l.vpid == p) items

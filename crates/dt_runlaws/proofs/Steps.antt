@@ -8,7 +8,7 @@ use Rattle.std.specs.FinMap.{find, get, empty}
 use Rattle.std.specs.FinSet as set
 use Rattle.dt_base.specs.declared.event.Event.{Event}
 use Rattle.dt_base.specs.declared.event.Verdict.{Verdict}
-use Rattle.dt_base.specs.declared.image.Entry.{Entry}
+use Rattle.dt_base.specs.Image.{ImageParts}
 use Rattle.dt_base.specs.declared.limits.TheConstants.{FIRST_PID}
 use Rattle.dt_base.specs.Command.{Words}
 use Rattle.dt_host.specs.Sink.{added, AddsPart}
@@ -70,13 +70,13 @@ pub none-shown : (e : Playing) (lent : Lent) → AreLent e lent → Shows (after
 none-shown e lent h = record { whole = refl; machines = h }
 
 -- before the first turn
-pub first-shown : (entries : List Entry) (words : Words) (seed budget : ℕ) (e : Playing) → first_playing entries words seed budget ≡ e
-    → Shows (run_of entries words seed budget) [] e []
-first-shown entries words seed budget e is =
-    subst (λ e. Shows (run_of entries words seed budget) [] e []) is (begin-shows entries words seed budget)
+pub first-shown : (image : ImageParts) (words : Words) (seed budget : ℕ) (e : Playing) → first_playing image words seed budget ≡ e
+    → Shows (run_of image words seed budget) [] e []
+first-shown image words seed budget e is =
+    subst (λ e. Shows (run_of image words seed budget) [] e []) is (begin-shows image words seed budget)
 
-pub first-written : (start told : Option (List ℕ)) → told ≡ added start header → HasWritten [] start told
-first-written start told is = is ∙ ap (added start) (sym (append-nil header))
+pub first-written : (version : ℕ) (start told : Option (List ℕ)) → told ≡ added start (header version) → HasWritten version [] start told
+first-written version start told is = is ∙ ap (added start) (sym (append-nil (header version)))
 
 -- one that isn't found among those that are lent
 pub not-lent : (lent : Lent) (p : ℕ) → list_any (λ q. q == p) (lent_pids lent) ≡ false → IsLent p lent → ⊥
@@ -140,14 +140,14 @@ return-shown all shown e new w items now k l m seg h found ran run removed =
     (return-shows all shown (playing_of e w) (lent_of items) k l.vpid l.machine h found)))
 
 -- more was written
-pub written-more : (shown more : List Event) (start told new : Option (List ℕ)) → HasWritten shown start told
-    → new ≡ added told (events_text more) → HasWritten (shown ++ more) start new
-written-more shown more start told new written wrote =
+pub written-more : (version : ℕ) (shown more : List Event) (start told new : Option (List ℕ)) → HasWritten version shown start told
+    → new ≡ added told (events_text more) → HasWritten version (shown ++ more) start new
+written-more version shown more start told new written wrote =
     wrote
     ∙ ap (λ told. added told (events_text more)) written
-    ∙ added-added start (header ++ events_text shown) (events_text more)
-    ∙ ap (added start) (append_assoc header (events_text shown) (events_text more)
-    ∙ ap (λ text. header ++ text) (sym (texts-append shown more)))
+    ∙ added-added start (header version ++ events_text shown) (events_text more)
+    ∙ ap (added start) (append_assoc (header version) (events_text shown) (events_text more)
+    ∙ ap (λ text. header version ++ text) (sym (texts-append shown more)))
 
 -- an admission
 pub admitted-shown : (all : Run) (shown : List Event) (e next : Playing) (lent : Lent) → Shows all shown e lent
@@ -170,30 +170,30 @@ no-items [] none = refl
 no-items (x ∷ xs) none = absurd (omega arith)
 
 -- what was written holds fewer events all the more
-pub prefix-fewer : (all : Run) (shown more : List Event) (start told : Option (List ℕ)) → WritesPrefix all (shown ++ more) start told
-    → WritesPrefix all shown start told
-prefix-fewer all shown more start told h =
+pub prefix-fewer : (version : ℕ) (all : Run) (shown more : List Event) (start told : Option (List ℕ)) → WritesPrefix version all (shown ++ more) start told
+    → WritesPrefix version all shown start told
+prefix-fewer version all shown more start told h =
     let split = λ (text : List ℕ). ap (λ front. front ++ text) (texts-append shown more)
     ∙ append_assoc (events_text shown) (events_text more) text in
     record {
       more = events_text more ++ h.more;
       rest = h.rest;
-      wrote = h.wrote ∙ ap (λ text. added start (header ++ text)) (split h.more);
-      whole = h.whole ∙ ap (λ text. header ++ text)
+      wrote = h.wrote ∙ ap (λ text. added start (header version ++ text)) (split h.more);
+      whole = h.whole ∙ ap (λ text. header version ++ text)
           (split (h.more ++ h.rest) ∙ ap (λ text. events_text shown ++ text) (sym (append_assoc (events_text more) h.more h.rest)));
     }
 
 -- a run of which everything was shown is over, and what it shows was written
-pub done-by : (all : Run) (shown : List Event) (e : EngineView) (w : World) (lent : Lent) (v : Verdict) (start told : Option (List ℕ))
-    → Shows all shown (playing_of e w) lent → HasWritten shown start told → e.verdict ≡ Some v
-    → IsDone all (added start header) e w told
-done-by all shown e w lent v start told h written stands =
+pub done-by : (version : ℕ) (all : Run) (shown : List Event) (e : EngineView) (w : World) (lent : Lent) (v : Verdict) (start told : Option (List ℕ))
+    → Shows all shown (playing_of e w) lent → HasWritten version shown start told → e.verdict ≡ Some v
+    → IsDone all (added start (header version)) e w told
+done-by version all shown e w lent v start told h written stands =
     let whole = verdict-shows all shown (playing_of e w) lent v h stands in
     record {
       verdict = stands ∙ ap Some (sym (ap (λ (r : Run). r.verdict) whole));
       last = ap (λ (r : Run). r.last) whole;
-      wrote = written ∙ sym (added-added start header (events_text shown))
-          ∙ ap (λ events. added (added start header) (events_text events)) (sym (ap (λ (r : Run). r.events) whole));
+      wrote = written ∙ sym (added-added start (header version) (events_text shown))
+          ∙ ap (λ events. added (added start (header version)) (events_text events)) (sym (ap (λ (r : Run). r.events) whole));
     }
 
 -- what an answer says, where it says both
@@ -224,19 +224,19 @@ driving-admitted (Ok a) f now w v h same unfinished whole sound run =
     }
 driving-admitted (Err e) f now w v h same unfinished whole sound run = tt
 
-pub reported-admitted : {T E : Type 0} → (r : Result T E) (all : Run) (shown : List Event) (start : Option (List ℕ)) (f now : Driver) (w v : World)
-    (told new : Option (List ℕ)) → HasReported all shown start f w told → lent_of now.lent.items ≡ lent_of f.lent.items
+pub reported-admitted : {T E : Type 0} → (r : Result T E) (version : ℕ) (all : Run) (shown : List Event) (start : Option (List ℕ)) (f now : Driver) (w v : World)
+    (told new : Option (List ℕ)) → HasReported version all shown start f w told → lent_of now.lent.items ≡ lent_of f.lent.items
     → OnOk r (let a = admission (playing_of f.engine w) in a.next ≡ playing_of now.engine v)
     → OnOk r (let a = admission (playing_of f.engine w) in new ≡ added told (events_text a.events))
-    → OnOk r (let a = admission (playing_of f.engine w) in HasReported all (shown ++ a.events) start now v new)
-reported-admitted (Ok x) all shown start f now w v told new h same run wrote =
+    → OnOk r (let a = admission (playing_of f.engine w) in HasReported version all (shown ++ a.events) start now v new)
+reported-admitted (Ok x) version all shown start f now w v told new h same run wrote =
     let a = admission (playing_of f.engine w) in
     record {
       shows = subst (Shows all (shown ++ a.events) (playing_of now.engine v)) (sym same)
           (admitted-shown all shown (playing_of f.engine w) (playing_of now.engine v) (lent_of f.lent.items) h.shows run);
-      wrote = written-more shown a.events start told new h.wrote wrote;
+      wrote = written-more version shown a.events start told new h.wrote wrote;
     }
-reported-admitted (Err e) all shown start f now w v told new h same run wrote = tt
+reported-admitted (Err e) version all shown start f now w v told new h same run wrote = tt
 
 pub over-admitted : {E : Type 0} → (r : Result Admitted E) (e next : Playing) → IfOk r (λ answer. let a = admission e in a.answer ≡ answer)
     → OnOk r (let a = admission e in a.next ≡ next) → IfOk r (λ answer. (w : Verdict) → answer ≡ admitted.Over w → next.verdict ≡ Some w)
@@ -261,61 +261,61 @@ driving-played f now w v hs h bare same unfinished whole sound run =
       sound = sound;
     }
 
-pub reported-played : (all : Run) (shown : List Event) (start : Option (List ℕ)) (f now : Driver) (w v : World) (h : Happening)
-    (told new : Option (List ℕ)) → HasReported all shown start f w told → length f.lent.items ≡ 0
+pub reported-played : (version : ℕ) (all : Run) (shown : List Event) (start : Option (List ℕ)) (f now : Driver) (w v : World) (h : Happening)
+    (told new : Option (List ℕ)) → HasReported version all shown start f w told → length f.lent.items ≡ 0
     → lent_of now.lent.items ≡ lent_of f.lent.items
     → (let d = played (playing_of f.engine w) (h ∷ []) in d.step.next ≡ playing_of now.engine v)
     → (let d = played (playing_of f.engine w) (h ∷ []) in new ≡ added told (events_text d.step.events))
-    → (let after = point_after_happening h (lent_of f.lent.items) (point_of f w shown) in HasReported all after.shown start now v new)
-reported-played all shown start f now w v h told new reported bare same run wrote =
+    → (let after = point_after_happening h (lent_of f.lent.items) (point_of f w shown) in HasReported version all after.shown start now v new)
+reported-played version all shown start f now w v h told new reported bare same run wrote =
     let none = no-items f.lent.items bare in
     let d = played (playing_of f.engine w) (h ∷ []) in
-    let so : HasReported all (shown ++ d.step.events) start now v new = record {
+    let so : HasReported version all (shown ++ d.step.events) start now v new = record {
       shows = subst (Shows all (shown ++ d.step.events) (playing_of now.engine v))
           (sym (same ∙ none))
           (played-shown all shown (playing_of f.engine w) (playing_of now.engine v) (h ∷ [])
           (subst (Shows all shown (playing_of f.engine w)) none reported.shows) run);
-      wrote = written-more shown d.step.events start told new reported.wrote wrote;
+      wrote = written-more version shown d.step.events start told new reported.wrote wrote;
     } in
-    subst (λ lent. (let after = point_after_happening h lent (point_of f w shown) in HasReported all after.shown start now v new))
+    subst (λ lent. (let after = point_after_happening h lent (point_of f w shown) in HasReported version all after.shown start now v new))
     (sym none) so
 
-pub part-played : (all : Run) (shown : List Event) (start : Option (List ℕ)) (f : Driver) (w : World) (hs : List Happening)
-    (told new : Option (List ℕ)) → HasReported all shown start f w told → length f.lent.items ≡ 0
-    → (let d = played (playing_of f.engine w) hs in AddsPart told new (events_text d.step.events)) → WritesPrefix all shown start new
-part-played all shown start f w hs told new h bare part =
-    happenings-write all shown (playing_of f.engine w) hs start told new
+pub part-played : (version : ℕ) (all : Run) (shown : List Event) (start : Option (List ℕ)) (f : Driver) (w : World) (hs : List Happening)
+    (told new : Option (List ℕ)) → HasReported version all shown start f w told → length f.lent.items ≡ 0
+    → (let d = played (playing_of f.engine w) hs in AddsPart told new (events_text d.step.events)) → WritesPrefix version all shown start new
+part-played version all shown start f w hs told new h bare part =
+    happenings-write version all shown (playing_of f.engine w) hs start told new
     (subst (Shows all shown (playing_of f.engine w)) (no-items f.lent.items bare) h.shows) h.wrote part
 
 -- nothing was done
-pub part-still : (all : Run) (shown : List Event) (start : Option (List ℕ)) (f : Driver) (w : World) (told : Option (List ℕ))
-    → HasReported all shown start f w told → WritesPrefix all shown start told
-part-still all shown start f w told h =
-    nothing-writes all shown (playing_of f.engine w) (lent_of f.lent.items) start told h.shows h.wrote
+pub part-still : (version : ℕ) (all : Run) (shown : List Event) (start : Option (List ℕ)) (f : Driver) (w : World) (told : Option (List ℕ))
+    → HasReported version all shown start f w told → WritesPrefix version all shown start told
+part-still version all shown start f w told h =
+    nothing-writes version all shown (playing_of f.engine w) (lent_of f.lent.items) start told h.shows h.wrote
 
 -- a machine was lent, or has come back: nothing was shown
-pub reported-still : (all : Run) (shown same : List Event) (start : Option (List ℕ)) (f now : Driver) (w : World) (told : Option (List ℕ))
-    → same ≡ shown → HasReported all shown start f w told → (HasShown all shown f w → HasShown all shown now w)
-    → HasReported all same start now w told
-reported-still all shown same start f now w told is h still =
-    subst (λ events. HasReported all events start now w told) (sym is) (record { shows = still h.shows; wrote = h.wrote })
+pub reported-still : (version : ℕ) (all : Run) (shown same : List Event) (start : Option (List ℕ)) (f now : Driver) (w : World) (told : Option (List ℕ))
+    → same ≡ shown → HasReported version all shown start f w told → (HasShown all shown f w → HasShown all shown now w)
+    → HasReported version all same start now w told
+reported-still version all shown same start f now w told is h still =
+    subst (λ events. HasReported version all events start now w told) (sym is) (record { shows = still h.shows; wrote = h.wrote })
 
 -- the end of the report
-pub finished-so : (all : Run) (shown : List Event) (e : EngineView) (w : World) (lent : Lent) (v : Verdict) (start told : Option (List ℕ))
-    → Shows all shown (playing_of e w) lent → HasWritten shown start told → e.verdict ≡ Some v → (status : ℕ) (now : World)
+pub finished-so : (version : ℕ) (all : Run) (shown : List Event) (e : EngineView) (w : World) (lent : Lent) (v : Verdict) (start told : Option (List ℕ))
+    → Shows all shown (playing_of e w) lent → HasWritten version shown start told → e.verdict ≡ Some v → (status : ℕ) (now : World)
     (new : Option (List ℕ)) → now ≡ w → IsSoundContainer e.state.container w
     → status ≡ status_by (end_of (members_of e.state.container.shared.pids) FIRST_PID)
     → IfSome e.verdict (λ v. new ≡ added told (last_text v (shared_of e.state.container.shared w)))
-    → Completes all status start new now
-finished-so all shown e w lent v start told h written stands status now new same sound ends wrote =
-    completed all start (added start header) told e w refl (done-by all shown e w lent v start told h written stands)
+    → Completes version all status start new now
+finished-so version all shown e w lent v start told h written stands status now new same sound ends wrote =
+    completed version all start (added start (header version)) told e w refl (done-by version all shown e w lent v start told h written stands)
     {E = RunErr} (Ok status) now new same sound ends wrote
 
-pub part-ended : (all : Run) (shown more : List Event) (e : EngineView) (w : World) (lent : Lent) (v : Verdict)
-    (start told new : Option (List ℕ)) → Shows all (shown ++ more) (playing_of e w) lent → HasWritten (shown ++ more) start told
+pub part-ended : (version : ℕ) (all : Run) (shown more : List Event) (e : EngineView) (w : World) (lent : Lent) (v : Verdict)
+    (start told new : Option (List ℕ)) → Shows all (shown ++ more) (playing_of e w) lent → HasWritten version (shown ++ more) start told
     → e.verdict ≡ Some v → IfSome e.verdict (λ v. AddsPart told new (last_text v (shared_of e.state.container.shared w)))
-    → WritesPrefix all shown start new
-part-ended all shown more e w lent v start told new h written stands part =
-    prefix-fewer all shown more start new
-    (end-writes all (shown ++ more) (playing_of e w) lent v start told new h written stands
+    → WritesPrefix version all shown start new
+part-ended version all shown more e w lent v start told new h written stands part =
+    prefix-fewer version all shown more start new
+    (end-writes version all (shown ++ more) (playing_of e w) lent v start told new h written stands
     (subst (λ v. IfSome v (λ v. AddsPart told new (last_text v (shared_of e.state.container.shared w)))) stands part))

@@ -5,7 +5,7 @@ use Rattle.std.specs.FinMap.{get}
 use Rattle.std.specs.List.{Contains}
 use Rattle.dt_base.specs.declared.event.Event.{Event}
 use Rattle.dt_base.specs.declared.event.Verdict.{Verdict}
-use Rattle.dt_base.specs.declared.image.Entry.{Entry}
+use Rattle.dt_base.specs.Image.{ImageParts}
 use Rattle.dt_base.specs.Command.{Words}
 use Rattle.dt_host.specs.Sink.{AddsPart}
 use Rattle.dt_image.specs.Report.{header, events_text}
@@ -27,8 +27,8 @@ use Rattle.dt_runlaws.specs.Shown.{Lent, IsLent, AreLent, Shows, HasWritten, Wri
 -- a run in play begins with nothing shown and nothing lent
 abbrev pub BeginShows : Type 0
 BeginShows =
-    (entries : List Entry) (words : Words) (seed budget : ℕ)
-    → Shows (run_of entries words seed budget) [] (first_playing entries words seed budget) []
+    (image : ImageParts) (words : Words) (seed budget : ℕ)
+    → Shows (run_of image words seed budget) [] (first_playing image words seed budget) []
 
 -- a machine may be lent just where its process owes a segment and it is none of those that are lent
 abbrev pub MayLendOwed : Type 0
@@ -87,51 +87,51 @@ VerdictShows =
 -- where a verdict stands the end of the report is the verdict and the tree
 abbrev pub VerdictReports : Type 0
 VerdictReports =
-    (all : Run) (shown : List Event) (e : Playing) (lent : Lent) (v : Verdict) → Shows all shown e lent
-    → e.verdict ≡ Some v → report_of all ≡ header ++ (events_text shown ++ last_text v e.state.shared)
+    (version : ℕ) (all : Run) (shown : List Event) (e : Playing) (lent : Lent) (v : Verdict) → Shows all shown e lent
+    → e.verdict ≡ Some v → report_of version all ≡ header version ++ (events_text shown ++ last_text v e.state.shared)
 
 -- a prefix of the first line is a prefix of the report
 abbrev pub BeginWrites : Type 0
 BeginWrites =
-    (all : Run) (start told : Option (List ℕ)) → AddsPart start told header → AddsPart start told (report_of all)
+    (version : ℕ) (all : Run) (start told : Option (List ℕ)) → AddsPart start told (header version) → AddsPart start told (report_of version all)
 
 -- what was written is a prefix of the report that holds what was shown
 abbrev pub ShownIsPrefix : Type 0
 ShownIsPrefix =
-    (all : Run) (shown : List Event) (e : Playing) (lent : Lent) (start told : Option (List ℕ)) → Shows all shown e lent
-    → HasWritten shown start told → WritesPrefix all shown start told
+    (version : ℕ) (all : Run) (shown : List Event) (e : Playing) (lent : Lent) (start told : Option (List ℕ)) → Shows all shown e lent
+    → HasWritten version shown start told → WritesPrefix version all shown start told
 
 -- so is that with a prefix of what an admission shows behind it
 abbrev pub AdmissionWrites : Type 0
 AdmissionWrites =
-    (all : Run) (shown : List Event) (e : Playing) (lent : Lent) (start told new : Option (List ℕ))
-    → Shows all shown e lent → HasWritten shown start told → (let a = admission e in AddsPart told new (events_text a.events))
-    → WritesPrefix all shown start new
+    (version : ℕ) (all : Run) (shown : List Event) (e : Playing) (lent : Lent) (start told new : Option (List ℕ))
+    → Shows all shown e lent → HasWritten version shown start told → (let a = admission e in AddsPart told new (events_text a.events))
+    → WritesPrefix version all shown start new
 
 -- so is that with a prefix of what happenings show behind it, where nothing is lent
 abbrev pub HappeningsWrite : Type 0
 HappeningsWrite =
-    (all : Run) (shown : List Event) (e : Playing) (hs : List Happening) (start told new : Option (List ℕ))
-    → Shows all shown e [] → HasWritten shown start told → (let d = played e hs in AddsPart told new (events_text d.step.events))
-    → WritesPrefix all shown start new
+    (version : ℕ) (all : Run) (shown : List Event) (e : Playing) (hs : List Happening) (start told new : Option (List ℕ))
+    → Shows all shown e [] → HasWritten version shown start told → (let d = played e hs in AddsPart told new (events_text d.step.events))
+    → WritesPrefix version all shown start new
 
 -- so is that with a prefix of the verdict and the tree behind it, where a verdict stands
 abbrev pub EndWrites : Type 0
 EndWrites =
-    (all : Run) (shown : List Event) (e : Playing) (lent : Lent) (v : Verdict) (start told new : Option (List ℕ))
-    → Shows all shown e lent → HasWritten shown start told → e.verdict ≡ Some v
+    (version : ℕ) (all : Run) (shown : List Event) (e : Playing) (lent : Lent) (v : Verdict) (start told new : Option (List ℕ))
+    → Shows all shown e lent → HasWritten version shown start told → e.verdict ≡ Some v
     → AddsPart told new (last_text v e.state.shared)
-    → WritesPrefix all shown start new
+    → WritesPrefix version all shown start new
 
 -- `WritesPrefix` without naming what was shown: a prefix of the report was added
 abbrev pub PrefixIsPart : Type 0
 PrefixIsPart =
-    (all : Run) (shown : List Event) (start told : Option (List ℕ)) → WritesPrefix all shown start told
-    → AddsPart start told (report_of all)
+    (version : ℕ) (all : Run) (shown : List Event) (start told : Option (List ℕ)) → WritesPrefix version all shown start told
+    → AddsPart start told (report_of version all)
 
 -- whatever the actions of a driver are, what was shown at the point after them, and what is left there, is the run
 abbrev pub PointsShow : Type 0
 PointsShow =
-    (entries : List Entry) (words : Words) (seed budget : ℕ) (actions : List Action)
-    → let d = point_after_all actions (first_point entries words seed budget) in
-    Shows (run_of entries words seed budget) d.shown d.playing d.lent
+    (image : ImageParts) (words : Words) (seed budget : ℕ) (actions : List Action)
+    → let d = point_after_all actions (first_point image words seed budget) in
+    Shows (run_of image words seed budget) d.shown d.playing d.lent

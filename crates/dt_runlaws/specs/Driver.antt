@@ -3,7 +3,7 @@ use Rattle.std.specs.Prelude.{◌≡◌, ◌==◌, ◌&&◌, not, ℕ, Bool, Lis
 use Rattle.std.specs.List.{list_any}
 use Rattle.std.specs.FinMap.{get}
 use Rattle.dt_base.specs.declared.event.Event.{Event}
-use Rattle.dt_base.specs.declared.image.Entry.{Entry}
+use Rattle.dt_base.specs.Image.{ImageParts}
 use Rattle.dt_base.specs.Command.{Words}
 use Rattle.dt_host.specs.World.{World}
 use Rattle.dt_rv64.specs.declared.machine.Machine.{Machine}
@@ -34,9 +34,9 @@ pub record Point : Type 0 where
   pub shown : List Event
 
 -- the point before the first turn
-abbrev pub first_point : List Entry → Words → ℕ → ℕ → Point
-first_point entries words seed budget =
-    record { playing = first_playing entries words seed budget; lent = []; shown = [] }
+abbrev pub first_point : ImageParts → Words → ℕ → ℕ → Point
+first_point image words seed budget =
+    record { playing = first_playing image words seed budget; lent = []; shown = [] }
 
 -- a process owes a segment, and its machine is not lent
 abbrev pub may_lend : Playing → Lent → ℕ → Bool
@@ -117,6 +117,6 @@ abbrev pub HasShown : Run → List Event → Driver → World → Type 0
 HasShown all shown f w = Shows all shown (playing_of f.engine w) (lent_of f.lent.items)
 
 -- and since the start they were written, after the report's first line
-pub record HasReported (all : Run) (shown : List Event) (start : Option (List ℕ)) (f : Driver) (w : World) (told : Option (List ℕ)) : Type 0 where
+pub record HasReported (version : ℕ) (all : Run) (shown : List Event) (start : Option (List ℕ)) (f : Driver) (w : World) (told : Option (List ℕ)) : Type 0 where
   pub shows : HasShown all shown f w
-  pub wrote : HasWritten shown start told
+  pub wrote : HasWritten version shown start told

@@ -2,7 +2,7 @@
 use Rattle.std.specs.Prelude.{◌≢◌, ℕ, List, IsSome}
 use Rattle.std.specs.List.{All, AllPairs}
 use Rattle.std.specs.FinMap.{get}
-use Rattle.dt_base.specs.declared.image.Entry.{Entry}
+use Rattle.dt_base.specs.Image.{ImageParts}
 use Rattle.dt_base.specs.Command.{Words}
 use Rattle.dt_engine.specs.declared.happening.Happening.{Happening}
 use Rattle.dt_engine.specs.Work.{Work}
@@ -32,8 +32,8 @@ StatesShowFew = (s : State) → HasFewIn s → TurnShowsFew (turn s)
 -- before its first turn each run has few processes, whichever image, words, seed and budget it is of
 abbrev pub FirstStatesHaveFew : Type 0
 FirstStatesHaveFew =
-    (entries : List Entry) (words : Words) (seed budget : ℕ)
-    → let e = first_playing entries words seed budget in HasFewIn e.state
+    (image : ImageParts) (words : Words) (seed budget : ℕ)
+    → let e = first_playing image words seed budget in HasFewIn e.state
 
 -- an admission shows few events, and the state that it leaves has few processes
 pub record AdmissionShowsFew (a : Admission) : Type 0 where
@@ -58,6 +58,6 @@ PlayingsKeepFew = (e : Playing) → HasFewIn e.state → KeepsFew e
 -- the turn that a run takes after so many, if it is not over then, shows few events
 abbrev pub RunsShowFew : Type 0
 RunsShowFew =
-    (entries : List Entry) (words : Words) (seed budget count : ℕ)
-    → let t = turns count (first_playing entries words seed budget) in
+    (image : ImageParts) (words : Words) (seed budget count : ℕ)
+    → let t = turns count (first_playing image words seed budget) in
     let last = step_of_turn t.next t.next.verdict in ShowsFew last.events

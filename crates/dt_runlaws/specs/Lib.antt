@@ -3,3 +3,4 @@ pub mod Driver
 pub mod Carried
 pub mod Few
 pub mod FewRun
+pub mod Version

@@ -60,13 +60,13 @@ pub record Shows (all : Run) (shown : List Event) (e : Playing) (lent : Lent) : 
   pub whole : all ≡ after_events shown (left_with_lent e lent)
   pub machines : AreLent e lent
 
--- since the start the first line of a report was written and what these events show, and nothing else
-abbrev pub HasWritten : List Event → Option (List ℕ) → Option (List ℕ) → Type 0
-HasWritten shown start told = told ≡ added start (header ++ events_text shown)
+-- since the start the first line of a report on an image of that version was written and what these events show, and nothing else
+abbrev pub HasWritten : ℕ → List Event → Option (List ℕ) → Option (List ℕ) → Type 0
+HasWritten version shown start told = told ≡ added start (header version ++ events_text shown)
 
 -- what was written since the start is a prefix of a run's report, and it holds what these events show
-pub record WritesPrefix (all : Run) (shown : List Event) (start told : Option (List ℕ)) : Type 0 where
+pub record WritesPrefix (version : ℕ) (all : Run) (shown : List Event) (start told : Option (List ℕ)) : Type 0 where
   pub more : List ℕ
   pub rest : List ℕ
-  pub wrote : told ≡ added start (header ++ (events_text shown ++ more))
-  pub whole : report_of all ≡ header ++ (events_text shown ++ (more ++ rest))
+  pub wrote : told ≡ added start (header version ++ (events_text shown ++ more))
+  pub whole : report_of version all ≡ header version ++ (events_text shown ++ (more ++ rest))

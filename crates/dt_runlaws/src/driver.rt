@@ -68,10 +68,10 @@ impl Driver {
         ensures driving { IfOk result (λ f. IsDrivingAt f (H.view host.new)) }
         ensures at { IfOk result
             (λ f. IsAt (first_point image.now command.now seed budget) f (H.view host.new)) }
-        ensures reported { IfOk result (λ f. HasReported (run_of image.now command.now seed budget) []
+        ensures reported { IfOk result (λ f. HasReported image.now.version (run_of image.now command.now seed budget) []
             (O.told out.old) f (H.view host.new) (O.told out.new)) }
         ensures part { AddsPart (O.told out.old) (O.told out.new)
-            (report_of (run_of image.now command.now seed budget)) }
+            (report_of image.now.version (run_of image.now command.now seed budget)) }
         ensures host { HasCause (H.count host.old) (H.count host.new) (IsErrOf result RunErr.Host) }
         ensures sink { HasCause (O.count out.old) (O.count out.new) (IsErrOf result RunErr.Sink) }
     {
@@ -155,14 +155,14 @@ impl Driver {
             (λ answer. let a = admission (playing_of self.old.engine (H.view host.old)) in a.answer ≡ answer) }
         ensures at { (shown : List Event) → let before = point_of self.old (H.view host.old) shown in
             OnOk result (IsAt (point_after_admission before) self.new (H.view host.new)) }
-        ensures reported { (all : Run) (shown : List Event) (start : Option (List ℕ))
-            → HasReported all shown start self.old (H.view host.old) (O.told out.old)
+        ensures reported { (version : ℕ) (all : Run) (shown : List Event) (start : Option (List ℕ))
+            → HasReported version all shown start self.old (H.view host.old) (O.told out.old)
             → OnOk result (let before = point_of self.old (H.view host.old) shown in
             let after = point_after_admission before in
-            HasReported all after.shown start self.new (H.view host.new) (O.told out.new)) }
-        ensures part { (all : Run) (shown : List Event) (start : Option (List ℕ))
-            → HasReported all shown start self.old (H.view host.old) (O.told out.old)
-            → WritesPrefix all shown start (O.told out.new) }
+            HasReported version all after.shown start self.new (H.view host.new) (O.told out.new)) }
+        ensures part { (version : ℕ) (all : Run) (shown : List Event) (start : Option (List ℕ))
+            → HasReported version all shown start self.old (H.view host.old) (O.told out.old)
+            → WritesPrefix version all shown start (O.told out.new) }
         ensures over { IfOk result (λ answer. (w : Verdict) → answer ≡ Admitted.Over w
             → self.new.engine.verdict ≡ Some w) }
         ensures host { HasCause (H.count host.old) (H.count host.new) (IsErrOf result RunErr.Host) }
@@ -182,14 +182,14 @@ impl Driver {
         ensures driving { OnOk result (IsDrivingAt self.new (H.view host.new)) }
         ensures at { (shown : List Event) → let before = point_of self.old (H.view host.old) shown in
             OnOk result (IsAt (point_after_happening happening before.lent before) self.new (H.view host.new)) }
-        ensures reported { (all : Run) (shown : List Event) (start : Option (List ℕ))
-            → HasReported all shown start self.old (H.view host.old) (O.told out.old)
+        ensures reported { (version : ℕ) (all : Run) (shown : List Event) (start : Option (List ℕ))
+            → HasReported version all shown start self.old (H.view host.old) (O.told out.old)
             → OnOk result (let before = point_of self.old (H.view host.old) shown in
             let after = point_after_happening happening before.lent before in
-            HasReported all after.shown start self.new (H.view host.new) (O.told out.new)) }
-        ensures part { (all : Run) (shown : List Event) (start : Option (List ℕ))
-            → HasReported all shown start self.old (H.view host.old) (O.told out.old)
-            → WritesPrefix all shown start (O.told out.new) }
+            HasReported version all after.shown start self.new (H.view host.new) (O.told out.new)) }
+        ensures part { (version : ℕ) (all : Run) (shown : List Event) (start : Option (List ℕ))
+            → HasReported version all shown start self.old (H.view host.old) (O.told out.old)
+            → WritesPrefix version all shown start (O.told out.new) }
         ensures host { HasCause (H.count host.old) (H.count host.new) (IsErrOf result RunErr.Host) }
         ensures sink { HasCause (O.count out.old) (O.count out.new) (IsErrOf result RunErr.Sink) }
     {
@@ -212,14 +212,14 @@ impl Driver {
         ensures driving { OnOk result (IsDrivingAt self.new (H.view host.new)) }
         ensures at { (shown : List Event) → let before = point_of self.old (H.view host.old) shown in
             OnOk result (IsAt (point_after action before) self.new (H.view host.new)) }
-        ensures reported { (all : Run) (shown : List Event) (start : Option (List ℕ))
-            → HasReported all shown start self.old (H.view host.old) (O.told out.old)
+        ensures reported { (version : ℕ) (all : Run) (shown : List Event) (start : Option (List ℕ))
+            → HasReported version all shown start self.old (H.view host.old) (O.told out.old)
             → OnOk result (let before = point_of self.old (H.view host.old) shown in
             let after = point_after action before in
-            HasReported all after.shown start self.new (H.view host.new) (O.told out.new)) }
-        ensures part { (all : Run) (shown : List Event) (start : Option (List ℕ))
-            → HasReported all shown start self.old (H.view host.old) (O.told out.old)
-            → WritesPrefix all shown start (O.told out.new) }
+            HasReported version all after.shown start self.new (H.view host.new) (O.told out.new)) }
+        ensures part { (version : ℕ) (all : Run) (shown : List Event) (start : Option (List ℕ))
+            → HasReported version all shown start self.old (H.view host.old) (O.told out.old)
+            → WritesPrefix version all shown start (O.told out.new) }
         ensures host { HasCause (H.count host.old) (H.count host.new) (IsErrOf result RunErr.Host) }
         ensures sink { HasCause (O.count out.old) (O.count out.new) (IsErrOf result RunErr.Sink) }
     {
@@ -239,22 +239,22 @@ impl Driver {
     /// `None` where the run goes on.
     pub fn end<H: Host, O: Sink>(&mut self, host: &mut H, out: &mut O) -> Result<Option<u8>, RunErr>
         requires { IsDrivingAt self.old (H.view host.old) }
-        ensures completed { (all : Run) (shown : List Event) (start : Option (List ℕ))
-            → HasReported all shown start self.old (H.view host.old) (O.told out.old)
+        ensures completed { (version : ℕ) (all : Run) (shown : List Event) (start : Option (List ℕ))
+            → HasReported version all shown start self.old (H.view host.old) (O.told out.old)
             → IfOk result (λ ended. IfSome ended (λ status.
-            Completes all status start (O.told out.new) (H.view host.new))) }
+            Completes version all status start (O.told out.new) (H.view host.new))) }
         ensures driving { result ≡ Ok None → IsDrivingAt self.new (H.view host.new) }
         ensures at { (shown : List Event) → result ≡ Ok None
             → IsAt (point_after_admission (point_of self.old (H.view host.old) shown)) self.new (H.view host.new) }
-        ensures reported { (all : Run) (shown : List Event) (start : Option (List ℕ))
-            → HasReported all shown start self.old (H.view host.old) (O.told out.old)
+        ensures reported { (version : ℕ) (all : Run) (shown : List Event) (start : Option (List ℕ))
+            → HasReported version all shown start self.old (H.view host.old) (O.told out.old)
             → result ≡ Ok None → let after = point_after_admission (point_of self.old (H.view host.old) shown) in
-            HasReported all after.shown start self.new (H.view host.new) (O.told out.new) }
+            HasReported version all after.shown start self.new (H.view host.new) (O.told out.new) }
         ensures over { IfOk result (λ ended. let a = admission (playing_of self.old.engine (H.view host.old)) in
             is_some ended ≡ is_some a.next.verdict) }
-        ensures part { (all : Run) (shown : List Event) (start : Option (List ℕ))
-            → HasReported all shown start self.old (H.view host.old) (O.told out.old)
-            → WritesPrefix all shown start (O.told out.new) }
+        ensures part { (version : ℕ) (all : Run) (shown : List Event) (start : Option (List ℕ))
+            → HasReported version all shown start self.old (H.view host.old) (O.told out.old)
+            → WritesPrefix version all shown start (O.told out.new) }
         ensures host { HasCause (H.count host.old) (H.count host.new) (IsErrOf result RunErr.Host) }
         ensures sink { HasCause (O.count out.old) (O.count out.new) (IsErrOf result RunErr.Sink) }
     {
@@ -283,16 +283,16 @@ pub fn drive<H: Host, O: Sink>(
 ) -> Result<Option<u8>, RunErr>
     requires { IsEmptyStart (H.view host.old) }
     ensures completed { IfOk result (λ ended. IfSome ended (λ status.
-        Completes (run_of image.now command.now seed budget) status
+        Completes image.now.version (run_of image.now command.now seed budget) status
         (O.told out.old) (O.told out.new) (H.view host.new))) }
     ensures shown { result ≡ Ok None
         → let first = first_point image.now command.now seed budget in
         let last = point_after_admission (point_after_all actions.now first) in
-        HasWritten last.shown (O.told out.old) (O.told out.new) }
+        HasWritten image.now.version last.shown (O.told out.old) (O.told out.new) }
     ensures over { IfOk result (λ ended. let first = first_point image.now command.now seed budget in
         let last = point_after_admission (point_after_all actions.now first) in
         is_some ended ≡ is_some last.playing.verdict) }
-    ensures part { AddsPart (O.told out.old) (O.told out.new) (report_of (run_of image.now command.now seed budget)) }
+    ensures part { AddsPart (O.told out.old) (O.told out.new) (report_of image.now.version (run_of image.now command.now seed budget)) }
     ensures host { HasCause (H.count host.old) (H.count host.new) (IsErrOf result RunErr.Host) }
     ensures sink { HasCause (O.count out.old) (O.count out.new) (IsErrOf result RunErr.Sink) }
 {

@@ -6,6 +6,7 @@ mod driver;
 mod few;
 mod laws;
 mod served;
+mod version;
 
 pub use driver::{Action, Driver, LentMachine, drive};
 pub use few::{
@@ -24,3 +25,9 @@ pub use laws::{
     what_was_shown_is_a_prefix, with_nothing_lent_all_machines_are_at_home,
 };
 pub use served::serve_among_few;
+pub use version::{
+    atomics_are_unknown_to_a_machine_without_them, each_state_of_a_run_keeps_the_version,
+    first_version_has_what_it_had, no_machine_of_the_first_version_has_atomics,
+    read_of_an_empty_input_answers_0, run_keeps_the_version_of_its_image,
+    step_keeps_whether_there_are_atomics,
+};

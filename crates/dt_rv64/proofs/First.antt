@@ -1,5 +1,5 @@
 -- The number kept for register 0 changes nothing but itself: the register reads as 0, and no instruction writes it.
-use Rattle.std.proofs.Common.{◌≡◌, ℕ, zero, suc, ◌+◌, ◌%◌, ◌^◌, ◌<◌, inl, inr, Bool, List, true, false, cond, eqb, [], ◌∷◌, get_or, set, Result, Ok, Err, refl, sym, ◌∙◌, ap, arith}
+use Rattle.std.proofs.Common.{◌≡◌, ℕ, zero, suc, ◌+◌, ◌%◌, ◌^◌, ◌<◌, inl, inr, Bool, List, true, false, cond, eqb, [], ◌∷◌, get_or, set, Option, None, Some, Result, Ok, Err, refl, sym, ◌∙◌, ap, arith}
 use Rattle.std.specs.Prelude.{not, ◌==◌, nat_lt, int_lt, OnErr}
 use Rattle.std.proofs.lemmas.List.{set-set, set_comm, set-get_or, get_or-set_other}
 use Rattle.std.proofs.lemmas.Bool.{cases_eq}
@@ -16,10 +16,11 @@ use Rattle.dt_rv64.specs.declared.machine.Step.TheVariants.{Ran, Call, Counter, 
 use Rattle.dt_rv64.specs.declared.segments.Seg.{Seg}
 use Rattle.dt_rv64.specs.declared.segments.Stop.{Stop}
 use Rattle.dt_rv64.specs.declared.instruction.Instr.{Instr}
-use Rattle.dt_rv64.specs.declared.instruction.Instr.TheVariants.{Lui, Auipc, Jal, Jalr, Beq, Bne, Blt, Bge, Bltu, Bgeu, Lb, Lh, Lw, Ld, Lbu, Lhu, Lwu, Sb, Sh, Sw, Sd, Addi, Slti, Sltiu, Xori, Ori, Andi, Slli, Srli, Srai, Add, Sub, Sll, Slt, Sltu, Xor, Srl, Sra, Or, And, Mul, Mulh, Mulhsu, Mulhu, Div, Divu, Rem, Remu, Addiw, Slliw, Srliw, Sraiw, Addw, Subw, Sllw, Srlw, Sraw, Mulw, Divw, Divuw, Remw, Remuw, Fence, Ecall, Ebreak, ReadCounter, Unknown}
+use Rattle.dt_rv64.specs.declared.instruction.Instr.TheVariants.{Lui, Auipc, Jal, Jalr, Beq, Bne, Blt, Bge, Bltu, Bgeu, Lb, Lh, Lw, Ld, Lbu, Lhu, Lwu, Sb, Sh, Sw, Sd, Addi, Slti, Sltiu, Xori, Ori, Andi, Slli, Srli, Srai, Add, Sub, Sll, Slt, Sltu, Xor, Srl, Sra, Or, And, Mul, Mulh, Mulhsu, Mulhu, Div, Divu, Rem, Remu, Addiw, Slliw, Srliw, Sraiw, Addw, Subw, Sllw, Srlw, Sraw, Mulw, Divw, Divuw, Remw, Remuw, LrW, ScW, AmoswapW, AmoaddW, AmoxorW, AmoandW, AmoorW, AmominW, AmomaxW, AmominuW, AmomaxuW, LrD, ScD, AmoswapD, AmoaddD, AmoxorD, AmoandD, AmoorD, AmominD, AmomaxD, AmominuD, AmomaxuD, Fence, Ecall, Ebreak, ReadCounter, Unknown}
 use Rattle.dt_rv64.specs.Instruction.{instr}
 use Rattle.dt_rv64.specs.Words.{signed_of}
 use Rattle.dt_rv64.specs.Effects.{StepResult, pc_relative, register, with_register, next_pc, with_next_pc, register_result, jump_result, branch_result, load_result, store_result}
+use Rattle.dt_rv64.specs.Atomics.{with_reserved, is_reserved, unless_fault, lr_by_read, sc_by_store, amo_by_store, amo_by_read, lr_result, sc_result, amo_result}
 use Rattle.dt_rv64.specs.Machine.{instr_result, fetch_result, exec}
 use Rattle.dt_rv64.specs.Segment.{SegmentRun, segment_after_step, bounded_segment, segment_of, after_steps, step_after, IsCutShort}
 use Rattle.dt_rv64.specs.inner.Registers.{HasZero, with_register_zero}
@@ -72,6 +73,47 @@ stored-first : (v : ℕ) (m : Machine) (pages : Result (List PageView) Miss) →
 unfolding result_first
 stored-first v m (Ok pages) = refl
 stored-first v m (Err miss) = refl
+
+unless-first : (v : ℕ) (m : Machine) (fault : Option ℕ) (next next' : StepResult) → next' ≡ result_first v next → unless_fault (with_register_zero v m) fault next' ≡ result_first v (unless_fault m fault next)
+unfolding result_first
+unless-first v m None next next' is = is
+unless-first v m (Some signal) next next' is = refl
+
+lr_by_read-first : (v : ℕ) (m : Machine) (size rd at : ℕ) (read : Result ℕ Miss) → lr_by_read (with_register_zero v m) size rd at read ≡ result_first v (lr_by_read m size rd at read)
+unfolding result_first
+lr_by_read-first v m size rd at (Ok value) = wrote-first v (with_reserved (Some (at, size)) m) rd _
+lr_by_read-first v m size rd at (Err miss) = refl
+
+sc_by_store-first : (v : ℕ) (m : Machine) (size rd at : ℕ) (pages : Result (List PageView) Miss) → sc_by_store (with_register_zero v m) size rd at pages ≡ result_first v (sc_by_store m size rd at pages)
+unfolding result_first
+sc_by_store-first v m size rd at (Ok space) = by-test (is_reserved m.reserved at size)
+  where
+    by-test : (b : Bool) → cond b (register_result (with_reserved None (record (with_register_zero v m) { space = space })) rd 0) (register_result (with_reserved None (with_register_zero v m)) rd 1) ≡ result_first v (cond b (register_result (with_reserved None (record m { space = space })) rd 0) (register_result (with_reserved None m) rd 1))
+    by-test true = wrote-first v (with_reserved None (record m { space = space })) rd 0
+    by-test false = wrote-first v (with_reserved None m) rd 1
+sc_by_store-first v m size rd at (Err miss) = refl
+
+amo_by_store-first : (v : ℕ) (m : Machine) (size rd old : ℕ) (pages : Result (List PageView) Miss) → amo_by_store (with_register_zero v m) size rd old pages ≡ result_first v (amo_by_store m size rd old pages)
+unfolding result_first
+amo_by_store-first v m size rd old (Ok space) = wrote-first v (record m { space = space }) rd _
+amo_by_store-first v m size rd old (Err miss) = refl
+
+amo_by_read-first : (v : ℕ) (m : Machine) (size rd at : ℕ) (operation : ℕ → ℕ) (read : Result ℕ Miss) → amo_by_read (with_register_zero v m) size rd at operation read ≡ result_first v (amo_by_read m size rd at operation read)
+unfolding result_first
+amo_by_read-first v m size rd at operation (Ok old) = amo_by_store-first v m size rd old _
+amo_by_read-first v m size rd at operation (Err miss) = refl
+
+lr-first : (v : ℕ) (m : Machine) (size rd rs1 : ℕ) → lr_result (with_register_zero v m) size rd rs1 ≡ result_first v (lr_result m size rd rs1)
+unfolding lr_result result_first
+lr-first v m size rd rs1 = rw (register-first v m rs1) (unless-first v m _ _ _ (lr_by_read-first v m size rd (register m rs1) _))
+
+sc-first : (v : ℕ) (m : Machine) (size rd rs1 rs2 : ℕ) → sc_result (with_register_zero v m) size rd rs1 rs2 ≡ result_first v (sc_result m size rd rs1 rs2)
+unfolding sc_result result_first
+sc-first v m size rd rs1 rs2 = rw (register-first v m rs1, register-first v m rs2) (unless-first v m _ _ _ (sc_by_store-first v m size rd (register m rs1) _))
+
+amo-first : (v : ℕ) (m : Machine) (size rd rs1 rs2 : ℕ) (operation : ℕ → ℕ → ℕ) → amo_result (with_register_zero v m) size rd rs1 rs2 operation ≡ result_first v (amo_result m size rd rs1 rs2 operation)
+unfolding amo_result result_first
+amo-first v m size rd rs1 rs2 operation = rw (register-first v m rs1, register-first v m rs2) (unless-first v m _ _ _ (amo_by_read-first v m size rd (register m rs1) _ _))
 
 instr-first : (v : ℕ) (m : Machine) (i : Instr) → instr_result (with_register_zero v m) i ≡ result_first v (instr_result m i)
 unfolding instr_result result_first
@@ -137,6 +179,28 @@ instr-first v m (Divw rd rs1 rs2) = rw (register-first v m rs1, register-first v
 instr-first v m (Divuw rd rs1 rs2) = rw (register-first v m rs1, register-first v m rs2) (wrote-first v m rd _)
 instr-first v m (Remw rd rs1 rs2) = rw (register-first v m rs1, register-first v m rs2) (wrote-first v m rd _)
 instr-first v m (Remuw rd rs1 rs2) = rw (register-first v m rs1, register-first v m rs2) (wrote-first v m rd _)
+instr-first v m (LrW rd rs1) = lr-first v m 4 rd rs1
+instr-first v m (ScW rd rs1 rs2) = sc-first v m 4 rd rs1 rs2
+instr-first v m (AmoswapW rd rs1 rs2) = amo-first v m 4 rd rs1 rs2 _
+instr-first v m (AmoaddW rd rs1 rs2) = amo-first v m 4 rd rs1 rs2 _
+instr-first v m (AmoxorW rd rs1 rs2) = amo-first v m 4 rd rs1 rs2 _
+instr-first v m (AmoandW rd rs1 rs2) = amo-first v m 4 rd rs1 rs2 _
+instr-first v m (AmoorW rd rs1 rs2) = amo-first v m 4 rd rs1 rs2 _
+instr-first v m (AmominW rd rs1 rs2) = amo-first v m 4 rd rs1 rs2 _
+instr-first v m (AmomaxW rd rs1 rs2) = amo-first v m 4 rd rs1 rs2 _
+instr-first v m (AmominuW rd rs1 rs2) = amo-first v m 4 rd rs1 rs2 _
+instr-first v m (AmomaxuW rd rs1 rs2) = amo-first v m 4 rd rs1 rs2 _
+instr-first v m (LrD rd rs1) = lr-first v m 8 rd rs1
+instr-first v m (ScD rd rs1 rs2) = sc-first v m 8 rd rs1 rs2
+instr-first v m (AmoswapD rd rs1 rs2) = amo-first v m 8 rd rs1 rs2 _
+instr-first v m (AmoaddD rd rs1 rs2) = amo-first v m 8 rd rs1 rs2 _
+instr-first v m (AmoxorD rd rs1 rs2) = amo-first v m 8 rd rs1 rs2 _
+instr-first v m (AmoandD rd rs1 rs2) = amo-first v m 8 rd rs1 rs2 _
+instr-first v m (AmoorD rd rs1 rs2) = amo-first v m 8 rd rs1 rs2 _
+instr-first v m (AmominD rd rs1 rs2) = amo-first v m 8 rd rs1 rs2 _
+instr-first v m (AmomaxD rd rs1 rs2) = amo-first v m 8 rd rs1 rs2 _
+instr-first v m (AmominuD rd rs1 rs2) = amo-first v m 8 rd rs1 rs2 _
+instr-first v m (AmomaxuD rd rs1 rs2) = amo-first v m 8 rd rs1 rs2 _
 instr-first v m Fence = refl
 instr-first v m Ecall = refl
 instr-first v m Ebreak = refl

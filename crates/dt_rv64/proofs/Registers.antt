@@ -2,9 +2,10 @@
 use Rattle.std.proofs.Common.{ℕ, ◌<◌, Bool, true, false, cond, arith}
 use Rattle.std.specs.Prelude.{◌==◌, ◌&&◌, nat_le}
 use Rattle.dt_rv64.specs.declared.instruction.Instr.{Instr}
-use Rattle.dt_rv64.specs.declared.instruction.Instr.TheVariants.{Lui, Auipc, Jal, Jalr, Beq, Bne, Blt, Bge, Bltu, Bgeu, Lb, Lh, Lw, Ld, Lbu, Lhu, Lwu, Sb, Sh, Sw, Sd, Addi, Slti, Sltiu, Xori, Ori, Andi, Slli, Srli, Srai, Add, Sub, Sll, Slt, Sltu, Xor, Srl, Sra, Or, And, Mul, Mulh, Mulhsu, Mulhu, Div, Divu, Rem, Remu, Addiw, Slliw, Srliw, Sraiw, Addw, Subw, Sllw, Srlw, Sraw, Mulw, Divw, Divuw, Remw, Remuw, Fence, Ecall, Ebreak, ReadCounter, Unknown}
-use Rattle.dt_rv64.specs.Formats.{rd, rs1, rs2, opcode, funct3, funct6, funct7, shift, csr, i_immediate, s_immediate, b_immediate, u_immediate, j_immediate}
+use Rattle.dt_rv64.specs.declared.instruction.Instr.TheVariants.{Lui, Auipc, Jal, Jalr, Beq, Bne, Blt, Bge, Bltu, Bgeu, Lb, Lh, Lw, Ld, Lbu, Lhu, Lwu, Sb, Sh, Sw, Sd, Addi, Slti, Sltiu, Xori, Ori, Andi, Slli, Srli, Srai, Add, Sub, Sll, Slt, Sltu, Xor, Srl, Sra, Or, And, Mul, Mulh, Mulhsu, Mulhu, Div, Divu, Rem, Remu, Addiw, Slliw, Srliw, Sraiw, Addw, Subw, Sllw, Srlw, Sraw, Mulw, Divw, Divuw, Remw, Remuw, LrW, ScW, AmoswapW, AmoaddW, AmoxorW, AmoandW, AmoorW, AmominW, AmomaxW, AmominuW, AmomaxuW, LrD, ScD, AmoswapD, AmoaddD, AmoxorD, AmoandD, AmoorD, AmominD, AmomaxD, AmominuD, AmomaxuD, Fence, Ecall, Ebreak, ReadCounter, Unknown}
+use Rattle.dt_rv64.specs.Formats.{rd, rs1, rs2, opcode, funct3, funct5, funct6, funct7, shift, csr, i_immediate, s_immediate, b_immediate, u_immediate, j_immediate}
 use Rattle.dt_rv64.specs.Operations.{shift_left_of, shift_right_of, op_imm_of, shift_left_32_of, shift_right_32_of, op_imm_32_of, op_base_of, op_multiply_of, op_other_of, op_of, op_32_base_of, op_32_multiply_of, op_32_other_of, op_32_of}
+use Rattle.dt_rv64.specs.AtomicWords.{lr_32_of, lr_64_of, atomic_32_of, atomic_64_of, atomic_of}
 use Rattle.dt_rv64.specs.Instruction.{jalr_of, branch_of, load_of, store_of, misc_mem_of, read_counter_of, system_of, instr}
 use Rattle.dt_rv64.specs.inner.Registers.{HasRegisters}
 
@@ -148,6 +149,47 @@ store-within word =
     (either (funct3 word == 2) (leaf (Sw (rs1 word) (rs2 word) (s_immediate word)) (rs1-low word, rs2-low word))
     (either (funct3 word == 3) (leaf (Sd (rs1 word) (rs2 word) (s_immediate word)) (rs1-low word, rs2-low word)) (leaf Unknown tt))))
 
+lr_32-within : (word : ℕ) → IsWithin (lr_32_of word)
+lr_32-within word =
+    either (rs2 word == 0) (leaf (LrW (rd word) (rs1 word)) (rd-low word, rs1-low word)) (leaf Unknown tt)
+
+atomic_32-within : (word : ℕ) → IsWithin (atomic_32_of word)
+atomic_32-within word =
+    either (funct5 word == 0x02) (lr_32-within word)
+    (either (funct5 word == 0x03) (leaf (ScW (rd word) (rs1 word) (rs2 word)) (rd-low word, rs1-low word, rs2-low word))
+    (either (funct5 word == 0x01) (leaf (AmoswapW (rd word) (rs1 word) (rs2 word)) (rd-low word, rs1-low word, rs2-low word))
+    (either (funct5 word == 0x00) (leaf (AmoaddW (rd word) (rs1 word) (rs2 word)) (rd-low word, rs1-low word, rs2-low word))
+    (either (funct5 word == 0x04) (leaf (AmoxorW (rd word) (rs1 word) (rs2 word)) (rd-low word, rs1-low word, rs2-low word))
+    (either (funct5 word == 0x0C) (leaf (AmoandW (rd word) (rs1 word) (rs2 word)) (rd-low word, rs1-low word, rs2-low word))
+    (either (funct5 word == 0x08) (leaf (AmoorW (rd word) (rs1 word) (rs2 word)) (rd-low word, rs1-low word, rs2-low word))
+    (either (funct5 word == 0x10) (leaf (AmominW (rd word) (rs1 word) (rs2 word)) (rd-low word, rs1-low word, rs2-low word))
+    (either (funct5 word == 0x14) (leaf (AmomaxW (rd word) (rs1 word) (rs2 word)) (rd-low word, rs1-low word, rs2-low word))
+    (either (funct5 word == 0x18) (leaf (AmominuW (rd word) (rs1 word) (rs2 word)) (rd-low word, rs1-low word, rs2-low word))
+    (either (funct5 word == 0x1C) (leaf (AmomaxuW (rd word) (rs1 word) (rs2 word)) (rd-low word, rs1-low word, rs2-low word)) (leaf Unknown tt)))))))))))
+
+lr_64-within : (word : ℕ) → IsWithin (lr_64_of word)
+lr_64-within word =
+    either (rs2 word == 0) (leaf (LrD (rd word) (rs1 word)) (rd-low word, rs1-low word)) (leaf Unknown tt)
+
+atomic_64-within : (word : ℕ) → IsWithin (atomic_64_of word)
+atomic_64-within word =
+    either (funct5 word == 0x02) (lr_64-within word)
+    (either (funct5 word == 0x03) (leaf (ScD (rd word) (rs1 word) (rs2 word)) (rd-low word, rs1-low word, rs2-low word))
+    (either (funct5 word == 0x01) (leaf (AmoswapD (rd word) (rs1 word) (rs2 word)) (rd-low word, rs1-low word, rs2-low word))
+    (either (funct5 word == 0x00) (leaf (AmoaddD (rd word) (rs1 word) (rs2 word)) (rd-low word, rs1-low word, rs2-low word))
+    (either (funct5 word == 0x04) (leaf (AmoxorD (rd word) (rs1 word) (rs2 word)) (rd-low word, rs1-low word, rs2-low word))
+    (either (funct5 word == 0x0C) (leaf (AmoandD (rd word) (rs1 word) (rs2 word)) (rd-low word, rs1-low word, rs2-low word))
+    (either (funct5 word == 0x08) (leaf (AmoorD (rd word) (rs1 word) (rs2 word)) (rd-low word, rs1-low word, rs2-low word))
+    (either (funct5 word == 0x10) (leaf (AmominD (rd word) (rs1 word) (rs2 word)) (rd-low word, rs1-low word, rs2-low word))
+    (either (funct5 word == 0x14) (leaf (AmomaxD (rd word) (rs1 word) (rs2 word)) (rd-low word, rs1-low word, rs2-low word))
+    (either (funct5 word == 0x18) (leaf (AmominuD (rd word) (rs1 word) (rs2 word)) (rd-low word, rs1-low word, rs2-low word))
+    (either (funct5 word == 0x1C) (leaf (AmomaxuD (rd word) (rs1 word) (rs2 word)) (rd-low word, rs1-low word, rs2-low word)) (leaf Unknown tt)))))))))))
+
+atomic-within : (word : ℕ) → IsWithin (atomic_of word)
+atomic-within word =
+    either (funct3 word == 2) (atomic_32-within word)
+    (either (funct3 word == 3) (atomic_64-within word) (leaf Unknown tt))
+
 misc_mem-within : (word : ℕ) → IsWithin (misc_mem_of word)
 misc_mem-within word = either (funct3 word == 0) (leaf Fence tt) (leaf Unknown tt)
 
@@ -174,8 +216,9 @@ decoded word =
     (either (opcode word == 0x33) (op-within word)
     (either (opcode word == 0x1B) (op_imm_32-within word)
     (either (opcode word == 0x3B) (op_32-within word)
+    (either (opcode word == 0x2F) (atomic-within word)
     (either (opcode word == 0x0F) (misc_mem-within word)
-    (either (opcode word == 0x73) (system-within word) (leaf Unknown tt)))))))))))))
+    (either (opcode word == 0x73) (system-within word) (leaf Unknown tt))))))))))))))
 
 pub instr-within : (word : ℕ) → HasRegisters (instr word)
 instr-within word = (decoded word).has

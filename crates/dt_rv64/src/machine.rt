@@ -1,8 +1,9 @@
 // The machine: registers, a program counter and a space, and one step of it.
-ghost use Rattle.std.specs.Prelude.{◌≡◌, ◌≢◌, ◌<◌, IfOk, OnErr};
+ghost use Rattle.std.specs.Prelude.{◌≡◌, ◌≢◌, ◌<◌, IfOk, None, OnErr};
 ghost use Rattle.dt_rv64.specs.Effects.{register, with_register, register_result, jump_result, branch_result};
 ghost use Rattle.dt_rv64.specs.Effects.{advance_result, pc_relative, even};
 ghost use Rattle.dt_rv64.specs.Effects.{address, machine_after_answer, machine_after_counter};
+ghost use Rattle.dt_rv64.specs.Atomics.{with_reserved};
 ghost use Rattle.dt_rv64.specs.Machine.{exec};
 ghost use Rattle.dt_rv64.specs.Valid.{IsMachine};
 ghost use Rattle.dt_rv64.specs.inner.Registers.{HasZero};
@@ -32,6 +33,10 @@ pub struct Machine {
     pub regs: [u64; 32],
     pub pc: u64,
     pub space: Space,
+    /// The address and the size of the load that reserved them last, while they are reserved.
+    pub reserved: Option<(u64, u8)>,
+    /// Whether the machine has atomics. To one that has not their words are none.
+    pub atomics: bool,
 }
 
 impl Machine {
@@ -94,6 +99,14 @@ impl Machine {
     {
         self.set_reg(rd, value);
         self.pc = self.pc.wrapping_add(4);
+    }
+
+    /// Reserves nothing from here on.
+    pub fn unreserve(&mut self)
+        ensures unreserved { self.new ≡ with_reserved None self.old }
+        ensures sound { IsMachine self.old → IsMachine self.new }
+    {
+        self.reserved = None;
     }
 
     /// Takes one step. At any answer but `Ran`, and at want of memory, the machine stays.

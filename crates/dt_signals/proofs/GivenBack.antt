@@ -1,5 +1,5 @@
 -- What a frame keeps is what is read from it.
-use Rattle.std.proofs.Common.{◌≡◌, ℕ, ◌+◌, ◌-◌, ◌<◌, ◌^◌, List, [], ◌∷◌, ◌++◌, length, get_or, take, drop, replicate, Ok, refl, sym, ap, ◌∙◌, append_assoc, length-append, length-drop, arith}
+use Rattle.std.proofs.Common.{◌≡◌, ℕ, ◌+◌, ◌-◌, ◌<◌, ◌^◌, List, [], ◌∷◌, ◌++◌, length, get_or, take, drop, replicate, None, Ok, refl, sym, ap, ◌∙◌, append_assoc, length-append, length-drop, arith}
 use Rattle.std.specs.List.{All}
 use Rattle.std.proofs.lemmas.List.{take_at, drop_at, drop_more, length-replicate}
 use Rattle.std.proofs.lemmas.List.Elements.{All-head, All-tail, All-drop, All-from_get_or}
@@ -97,9 +97,9 @@ module _ (signal mask : ℕ) (m : Machine) (is : IsMachine m) where
       let first : m.regs ≡ get_or m.regs 0 0 ∷ registers = drop_more m.regs 0 0 (omega (arith, is.registers)) in
       rw (registers-back, ← is.zero) (sym first)
 
-  pub machine-back : (other : Machine) → machine_of_frame (frame_of signal m mask) other ≡ record m { space = other.space }
+  pub machine-back : (other : Machine) → machine_of_frame (frame_of signal m mask) other ≡ record m { space = other.space; reserved = None; atomics = other.atomics }
   machine-back other = rw (pc-back, all-back) refl
 
-pub return-back : (signal : ℕ) (m : Machine) (mask : ℕ) (g : Sig) (handler : Machine) → IsMachine m → mask < 2 ^ 64 → load handler.space READ (register handler SP) FRAME_SIZE ≡ Ok (frame_of signal m mask) → sigreturn_of g handler ≡ Ok (sigreturn_state (with_mask mask g) (record m { space = handler.space }))
+pub return-back : (signal : ℕ) (m : Machine) (mask : ℕ) (g : Sig) (handler : Machine) → IsMachine m → mask < 2 ^ 64 → load handler.space READ (register handler SP) FRAME_SIZE ≡ Ok (frame_of signal m mask) → sigreturn_of g handler ≡ Ok (sigreturn_state (with_mask mask g) (record m { space = handler.space; reserved = None; atomics = handler.atomics }))
 unfolding sigreturn_of
 return-back signal m mask g handler is fits reads = rw (reads, mask-back signal mask m is fits, machine-back signal mask m is handler) refl

@@ -7,6 +7,7 @@ use Rattle.dt_base.specs.Abi.{has_flag}
 use Rattle.dt_base.specs.Errno.{errno_number}
 use Rattle.dt_elf.specs.declared.layout.TheConstants.{TRAMPOLINE}
 use Rattle.dt_rv64.specs.declared.machine.Machine.{Machine}
+use Rattle.dt_rv64.specs.Atomics.{with_reserved}
 use Rattle.dt_rv64.specs.Effects.{register, with_register, machine_after_answer}
 use Rattle.dt_space.specs.declared.access.Miss.{Miss}
 use Rattle.dt_space.specs.Space.{PageView}
@@ -50,9 +51,10 @@ abbrev pub with_handler_registers : ℕ → ℕ → Machine → Machine
 with_handler_registers signal at m =
     with_register (with_register (with_register (with_register (with_register m SP at) RA TRAMPOLINE) A0 signal) A1 at) A2 0
 
--- a machine at the start of a handler
+-- a machine at the start of a handler; it has nothing reserved
 abbrev pub at_handler : ℕ → Action → ℕ → Machine → List PageView → Machine
-at_handler signal action at m pages = record (with_handler_registers signal at m) { pc = action.handler; space = pages }
+at_handler signal action at m pages =
+    with_reserved None (record (with_handler_registers signal at m) { pc = action.handler; space = pages })
 
 -- a handler is entered where its frame could be written, and else the process ends by SIGSEGV, whatever it does about
 -- that

@@ -1,5 +1,5 @@
 -- Laws of handlers.
-use Rattle.std.specs.Prelude.{◌≡◌, ℕ, ◌<◌, ◌^◌, Ok}
+use Rattle.std.specs.Prelude.{◌≡◌, ℕ, ◌<◌, ◌^◌, None, Ok}
 use Rattle.dt_base.specs.declared.abi.TheConstants.{SP}
 use Rattle.dt_rv64.specs.declared.machine.Machine.{Machine}
 use Rattle.dt_rv64.specs.Effects.{register}
@@ -23,9 +23,9 @@ EntryLeavesItsFrame =
     → load handler.space READ (register handler SP) FRAME_SIZE ≡ Ok (frame_of signal m g.mask)
 
 -- whatever a handler did, it returns to the program counter, the registers and the mask that its entry kept, if the
--- frame at the stack pointer is still the one that its entry wrote
+-- frame at the stack pointer is still the one that its entry wrote; nothing is reserved then
 abbrev pub ReturnGivesBack : Type 0
 ReturnGivesBack =
     (signal : ℕ) (m : Machine) (mask : ℕ) (g : Sig) (handler : Machine) → IsMachine m → mask < 2 ^ 64
     → load handler.space READ (register handler SP) FRAME_SIZE ≡ Ok (frame_of signal m mask)
-    → sigreturn_of g handler ≡ Ok (sigreturn_state (with_mask mask g) (record m { space = handler.space }))
+    → sigreturn_of g handler ≡ Ok (sigreturn_state (with_mask mask g) (record m { space = handler.space; reserved = None; atomics = handler.atomics }))

@@ -189,6 +189,7 @@ fn enter(
     machine.regs[usize::from(A1)] = at;
     machine.regs[usize::from(A2)] = 0;
     machine.pc = action.handler;
+    machine.reserved = None;
     sig.set_mask(sig.mask | action.mask | bit_of(signal));
     Ok(Delivery::Handler)
 }

@@ -25,6 +25,7 @@ pub fn sigreturn(machine: &mut Machine, sig: &mut Sig) -> Result<(), Miss>
     machine.space.read_bytes(machine.reg(SP), &mut frame)?;
     machine.pc = word_in(&frame, FRAME_PC);
     machine.regs = registers_in(&frame);
+    machine.reserved = None;
     sig.set_mask(word_in(&frame, FRAME_MASK));
     Ok(())
 }

@@ -5,7 +5,7 @@ use Rattle.std.proofs.lemmas.Bool.{eq-eqb, ne_eqb}
 use Rattle.std.proofs.lemmas.List.Elements.{All-head, All-drop}
 use Rattle.std.specs.Prelude.{Result, Ok, Err, IsErrAnd, IfSome, if◌then◌else◌}
 use Rattle.std.specs.List.{All}
-use Rattle.dt_base.specs.declared.image.Entry.{Entry}
+use Rattle.dt_base.specs.Image.{ImageParts}
 use Rattle.dt_base.specs.Command.{Words}
 use Rattle.dt_base.proofs.Lists.{drop-at}
 use Rattle.dt_export.specs.declared.refusal.ExportRefusal.{ExportRefusal}
@@ -45,26 +45,26 @@ after-more : (run : List StepInput) (input : StepInput) (old mid new : CacheView
 after-more [] input old mid new is step = (new, subst (λ c. IsAfterStep input c new) is step, refl)
 after-more (first ∷ run) input old mid new is step = (is.0, is.1, after-more run input is.0 mid new is.2 step)
 
-texts-more : (number : ℕ) (run : List StepInput) (input : StepInput) → steps_text number (run ++ input ∷ []) ≡ steps_text number run ++ step_text (number + length run) (run_of_step input)
-texts-more number [] input = append-nil (step_text number (run_of_step input)) ∙ ap (λ n. step_text n (run_of_step input)) (omega arith)
+texts-more : (number : ℕ) (run : List StepInput) (input : StepInput) → steps_text number (run ++ input ∷ []) ≡ steps_text number run ++ step_text (number + length run) input.image.version (run_of_step input)
+texts-more number [] input = append-nil (step_text number input.image.version (run_of_step input)) ∙ ap (λ n. step_text n input.image.version (run_of_step input)) (omega arith)
 texts-more number (first ∷ run) input =
-    ap (λ text. step_text number (run_of_step first) ++ text) (
-    texts-more (number + 1) run input ∙ ap (λ n. steps_text (number + 1) run ++ step_text n (run_of_step input)) (omega arith)
+    ap (λ text. step_text number first.image.version (run_of_step first) ++ text) (
+    texts-more (number + 1) run input ∙ ap (λ n. steps_text (number + 1) run ++ step_text n input.image.version (run_of_step input)) (omega arith)
     )
-    ∙ sym (append_assoc (step_text number (run_of_step first)) (steps_text (number + 1) run) (step_text (number + length (first ∷ run)) (run_of_step input)))
+    ∙ sym (append_assoc (step_text number first.image.version (run_of_step first)) (steps_text (number + 1) run) (step_text (number + length (first ∷ run)) input.image.version (run_of_step input)))
 
 pub gone-step : (whole rest : Steps) (number : ℕ) (input : StepInput) (told now new : Option (List ℕ)) (cache mid after : CacheView)
-    → HasGone whole (step_before input (step_text number (run_of_step input)) rest) number told now cache mid → new ≡ added now (step_text number (run_of_step input)) → IsAfterStep input mid after
+    → HasGone whole (step_before input (step_text number input.image.version (run_of_step input)) rest) number told now cache mid → new ≡ added now (step_text number input.image.version (run_of_step input)) → IsAfterStep input mid after
     → HasGone whole rest (number + 1) told new cache after
 gone-step whole rest number input told now new cache mid after gone wrote step =
-    let text = step_text number (run_of_step input) in
+    let text = step_text number input.image.version (run_of_step input) in
     record {
       run = gone.run ++ input ∷ [];
       text = gone.text ++ text;
       counted = omega (arith, gone.counted, length-append gone.run (input ∷ []));
       texts =
           ap (λ first. first ++ text) gone.texts
-          ∙ ap (λ n. steps_text 1 gone.run ++ step_text n (run_of_step input)) (omega (arith, gone.counted))
+          ∙ ap (λ n. steps_text 1 gone.run ++ step_text n input.image.version (run_of_step input)) (omega (arith, gone.counted))
           ∙ sym (texts-more 1 gone.run input);
       inputs = gone.inputs ∙ sym (append_assoc gone.run (input ∷ []) rest.run);
       output = gone.output ∙ sym (append_assoc gone.text text rest.output);
@@ -118,12 +118,12 @@ pub gone-some : (whole rest : Steps) (number : ℕ) (told now : Option (List ℕ
 gone-some whole rest number told now cache after gone = some-after whole rest number told now now cache after gone (adds_none now _)
 
 pub gone-some-next : (whole rest : Steps) (number : ℕ) (input : StepInput) (told now new : Option (List ℕ)) (cache after : CacheView)
-    → HasGone whole (step_before input (step_text number (run_of_step input)) rest) number told now cache after → AddsPart now new (step_text number (run_of_step input))
+    → HasGone whole (step_before input (step_text number input.image.version (run_of_step input)) rest) number told now cache after → AddsPart now new (step_text number input.image.version (run_of_step input))
     → IsAfterSome whole.run told new cache after
 gone-some-next whole rest number input told now new cache after gone part =
-    let next = step_before input (step_text number (run_of_step input)) rest in
+    let next = step_before input (step_text number input.image.version (run_of_step input)) rest in
     some-after whole next number told now new cache after gone
-    (subst (AddsPart now new) (ap (λ n. step_text n (run_of_step input)) gone.counted ∙ sym (append-nil (step_text (length gone.run + 1) (run_of_step input)))) part)
+    (subst (AddsPart now new) (ap (λ n. step_text n input.image.version (run_of_step input)) gone.counted ∙ sym (append-nil (step_text (length gone.run + 1) input.image.version (run_of_step input)))) part)
 
 -- where the cache had all steps from the start, it knows the next one
 pub knows-next : (whole rest : Steps) (number : ℕ) (input : StepInput) (text : List ℕ) (told now : Option (List ℕ)) (cache mid : CacheView)
@@ -149,13 +149,13 @@ by-zero : (status : ℕ) (on off : Steps) → status ≡ ENDED_ZERO → (if stat
 by-zero status on off zero = ap (λ b. if b then on else off) (eq-eqb status ENDED_ZERO zero)
 
 module _ (seed budget : ℕ) where
-  pub gone-start : (image first : List Entry) (commands : List Words) (told : Option (List ℕ)) (cache : CacheView) → first ≡ image
+  pub gone-start : (image first : ImageParts) (commands : List Words) (told : Option (List ℕ)) (cache : CacheView) → first ≡ image
       → HasGone (steps_on image commands seed budget) (steps_on first commands seed budget) 1 told told cache cache
   gone-start image first commands told cache same =
       subst (λ from. HasGone (steps_on image commands seed budget) (steps_on from commands seed budget) 1 told told cache cache) (sym same)
       (gone-first (steps_on image commands seed budget) told cache)
 
-  none-left : (number : ℕ) (from : Result (List Entry) ExportRefusal) → steps_from seed budget number from [] ≡ no_step (Ok ENDED_ZERO)
+  none-left : (number : ℕ) (from : Result ImageParts ExportRefusal) → steps_from seed budget number from [] ≡ no_step (Ok ENDED_ZERO)
   unfolding steps_from
   none-left number from = refl
 
@@ -164,14 +164,14 @@ module _ (seed budget : ℕ) where
   unfolding steps_from
   refused-first number refusal command rest = refl
 
-  next-first : (number : ℕ) (image : List Entry) (command : Words) (rest : List Words)
+  next-first : (number : ℕ) (image : ImageParts) (command : Words) (rest : List Words)
       → steps_from seed budget number (Ok image) (command ∷ rest)
       ≡ (let input = input_of seed budget image command in
-      step_before input (step_text number (run_of_step input)) (rest-of seed budget number (run_of_step input) rest))
+      step_before input (step_text number input.image.version (run_of_step input)) (rest-of seed budget number (run_of_step input) rest))
   unfolding steps_from
   next-first number image command rest = refl
 
-  module _ (commands : List Words) (i : ℕ) (next : Result (List Entry) NoImage) (whole : Steps) (told now : Option (List ℕ)) (cache mid : CacheView)
+  module _ (commands : List Words) (i : ℕ) (next : Result ImageParts NoImage) (whole : Steps) (told now : Option (List ℕ)) (cache mid : CacheView)
       (gone : HasGone whole (steps_from seed budget (i + 1) (image_or_refusal next) (drop i commands)) (i + 1) told now cache mid) where
     -- no command is left
     pub gone-end : length commands ≤ i → HasGone whole (no_step (Ok ENDED_ZERO)) (i + 1) told now cache mid
@@ -188,9 +188,9 @@ module _ (seed budget : ℕ) where
         ∙ refused-first (i + 1) (refusal_of none) (get_or commands i d) (drop (i + 1) commands)) gone
 
     -- the next one has an image
-    pub gone-turn : (image : List Entry) (command found : Words) → i < length commands → next ≡ Ok image → command ≡ found → found ≡ get_or commands i found
+    pub gone-turn : (image : ImageParts) (command found : Words) → i < length commands → next ≡ Ok image → command ≡ found → found ≡ get_or commands i found
         → (let input = input_of seed budget image command in
-        HasGone whole (step_before input (step_text (i + 1) (run_of_step input)) (rest-of seed budget (i + 1) (run_of_step input) (drop (i + 1) commands))) (i + 1) told now cache mid)
+        HasGone whole (step_before input (step_text (i + 1) input.image.version (run_of_step input)) (rest-of seed budget (i + 1) (run_of_step input) (drop (i + 1) commands))) (i + 1) told now cache mid)
     gone-turn image command found within is same at =
         subst (λ rest. HasGone whole rest (i + 1) told now cache mid)
         (ap (λ n. steps_from seed budget (i + 1) (image_or_refusal n) (drop i commands)) is
@@ -199,15 +199,15 @@ module _ (seed budget : ℕ) where
 
   module _ (number : ℕ) (input : StepInput) (commands : List Words) (step : Step) (is : IsStep (run_of_step input) step) (whole : Steps)
       (told now new : Option (List ℕ)) (cache mid after : CacheView)
-      (turn : HasGone whole (step_before input (step_text number (run_of_step input)) (rest-of seed budget number (run_of_step input) commands)) number told now cache mid)
-      (wrote : new ≡ added now (step_text number (run_of_step input))) (behind : IsAfterStep input mid after) where
+      (turn : HasGone whole (step_before input (step_text number input.image.version (run_of_step input)) (rest-of seed budget number (run_of_step input) commands)) number told now cache mid)
+      (wrote : new ≡ added now (step_text number input.image.version (run_of_step input))) (behind : IsAfterStep input mid after) where
     -- a status that is not 0 ends the steps
     pub turn-ends : step.status ≢ ENDED_ZERO → HasGone whole (no_step (Ok step.status)) (number + 1) told new cache after
     turn-ends fails =
         let ends = by-other (status_of_run (run_of_step input)) (steps_from seed budget (number + 1) (image_after (run_of_step input)) commands) (no_step (Ok (status_of_run (run_of_step input)))) (λ zero. fails (is.status ∙ zero))
         ∙ ap (λ status. no_step (Ok status)) (sym is.status) in
         gone-step whole (no_step (Ok step.status)) number input told now new cache mid after
-        (subst (λ rest. HasGone whole (step_before input (step_text number (run_of_step input)) rest) number told now cache mid) ends turn) wrote behind
+        (subst (λ rest. HasGone whole (step_before input (step_text number input.image.version (run_of_step input)) rest) number told now cache mid) ends turn) wrote behind
 
     -- and after 0 the others follow
     pub turn-follows : step.status ≡ ENDED_ZERO → HasGone whole (steps_from seed budget (number + 1) (image_or_refusal step.left) commands) (number + 1) told new cache after
@@ -215,7 +215,7 @@ module _ (seed budget : ℕ) where
         let follows = by-zero (status_of_run (run_of_step input)) (steps_from seed budget (number + 1) (image_after (run_of_step input)) commands) (no_step (Ok (status_of_run (run_of_step input)))) (sym is.status ∙ zero)
         ∙ ap (λ image. steps_from seed budget (number + 1) image commands) (sym is.left) in
         gone-step whole (steps_from seed budget (number + 1) (image_or_refusal step.left) commands) number input told now new cache mid after
-        (subst (λ rest. HasGone whole (step_before input (step_text number (run_of_step input)) rest) number told now cache mid) follows turn) wrote behind
+        (subst (λ rest. HasGone whole (step_before input (step_text number input.image.version (run_of_step input)) rest) number told now cache mid) follows turn) wrote behind
 
 -- the answer of steps whose next one has no image
 pub refused-answer : (whole : Steps) (told now : Option (List ℕ)) (cache after : CacheView) (none : NoImage) (result : Result ℕ StepsErr)

@@ -6,10 +6,10 @@ use Rattle.std.proofs.lemmas.Option.{same_Some}
 use Rattle.dt_host.proofs.Growth.{added-added}
 use Rattle.std.specs.Prelude.{codes, Result, Ok, Err, if◌then◌else◌}
 use Rattle.std.specs.Fmt.{decimal}
-use Rattle.dt_base.specs.declared.image.Entry.{Entry}
+use Rattle.dt_base.specs.Image.{ImageParts}
 use Rattle.dt_export.specs.declared.refusal.ExportRefusal.{ExportRefusal}
 use Rattle.dt_export.specs.declared.refusal.ExportRefusal.TheVariants as refusal
-use Rattle.dt_export.specs.ExportedImage.{image_of_tree, unless_refused, has_long_path, has_too_many_paths, exported_entries}
+use Rattle.dt_export.specs.ExportedImage.{image_of_tree, unless_refused, has_long_path, has_too_many_paths, exported_image}
 use Rattle.dt_image.specs.Paths.{paths_of}
 use Rattle.dt_tree.specs.FileTree.{FileTree}
 use Rattle.dt_host.specs.Sink.{added, AddsPart}
@@ -19,12 +19,12 @@ use Rattle.dt_steps.specs.Steps.{run_of_step}
 use Rattle.dt_steps.specs.inner.Left.{IsOfPaths}
 
 -- the report that was gathered
-pub gathered : (i : StepInput) (old new : List ℕ) → Some new ≡ added (Some old) (report_of (run_of i.image i.command i.seed i.budget))
-    → new ≡ old ++ report_of (run_of_step i)
+pub gathered : (i : StepInput) (old new : List ℕ) → Some new ≡ added (Some old) (report_of i.image.version (run_of i.image i.command i.seed i.budget))
+    → new ≡ old ++ report_of i.image.version (run_of_step i)
 unfolding run_of_step
-gathered i old new e = same_Some new (old ++ report_of (run_of i.image i.command i.seed i.budget)) e
+gathered i old new e = same_Some new (old ++ report_of i.image.version (run_of i.image i.command i.seed i.budget)) e
 
-same_refusal : (a b : ExportRefusal) → ◌≡◌ {A = Result (List Entry) ExportRefusal} (Err a) (Err b) → a ≡ b
+same_refusal : (a b : ExportRefusal) → ◌≡◌ {A = Result ImageParts ExportRefusal} (Err a) (Err b) → a ≡ b
 same_refusal a b e = cc
 
 -- a tree is refused by its paths
@@ -32,10 +32,10 @@ pub of-paths : (t : FileTree) (r : ExportRefusal) → image_of_tree t ≡ Err r 
 unfolding image_of_tree
 of-paths t r e = by_tests (has_long_path (paths_of t.shape)) (has_too_many_paths (paths_of t.shape)) e
   where
-    by_tests : (long many : Bool) → unless_refused (if long then Some refusal.LongPath else (if many then Some refusal.TooMany else None)) (Ok (exported_entries t)) ≡ Err r → IsOfPaths r
+    by_tests : (long many : Bool) → unless_refused (if long then Some refusal.LongPath else (if many then Some refusal.TooMany else None)) (Ok (exported_image t)) ≡ Err r → IsOfPaths r
     by_tests true many e = subst IsOfPaths (same_refusal refusal.LongPath r e) tt
     by_tests false true e = subst IsOfPaths (same_refusal refusal.TooMany r e) tt
-    by_tests false false e = absurd (let x : ◌≡◌ {A = Result (List Entry) ExportRefusal} (Ok (exported_entries t)) (Err r) = e in cc)
+    by_tests false false e = absurd (let x : ◌≡◌ {A = Result ImageParts ExportRefusal} (Ok (exported_image t)) (Err r) = e in cc)
 
 -- the parts of what is written of a step
 pub joined : (number : ℕ) (line report : List ℕ) → line ≡ codes "step " ++ (decimal number ++ codes "\n")

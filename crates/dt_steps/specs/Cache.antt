@@ -1,7 +1,7 @@
 -- A cache of steps: what each entry says, and what a step leaves of it.
 use Rattle.std.specs.Prelude.{◌≡◌, ℕ, ◌-◌, ◌≤◌, List, [], ◌∷◌, ◌++◌, length, map, drop, Result, Ok, Err}
 use Rattle.std.specs.List.{All, Contains}
-use Rattle.dt_base.specs.declared.image.Entry.{Entry}
+use Rattle.dt_base.specs.Image.{ImageParts}
 use Rattle.dt_export.specs.declared.refusal.ExportRefusal.{ExportRefusal}
 use Rattle.dt_engine.specs.Run.{status_of_run, report_of}
 use Rattle.dt_steps.specs.declared.cache.TheConstants.{CACHE_LIMIT}
@@ -10,10 +10,10 @@ use Rattle.dt_steps.specs.declared.input.StepInput.{StepInput}
 use Rattle.dt_steps.specs.Steps.{run_of_step, image_after}
 
 -- what is kept of a step that left a tree with this image
-abbrev pub cached : StepInput → List Entry → CachedStep
+abbrev pub cached : StepInput → ImageParts → CachedStep
 cached input left =
     let run = run_of_step input in
-    record { input = input; report = report_of run; status = status_of_run run; left = left }
+    record { input = input; report = report_of input.image.version run; status = status_of_run run; left = left }
 
 -- an entry is the run of its input: its report and its status, and the image of the tree that it leaves
 pub record IsCached (step : CachedStep) : Type 0 where
@@ -40,7 +40,7 @@ abbrev pub newest : ℕ → List CachedStep → List CachedStep
 newest room steps = drop (length steps - room) steps
 
 -- with an entry for a step behind all others, where the tree that it leaves has an image
-abbrev pub with_step : CacheView → StepInput → Result (List Entry) ExportRefusal → CacheView
+abbrev pub with_step : CacheView → StepInput → Result ImageParts ExportRefusal → CacheView
 with_step c input (Err refusal) = c
 with_step c input (Ok left) = record c { steps = newest c.room (c.steps ++ cached input left ∷ []) }
 

@@ -28,7 +28,7 @@ impl StepInput {
 fn is_same_command(a: &Command, b: &Command) -> bool
     ensures { Decides result (a.now ≡ b.now) }
 {
-    are_same_words(a.args(), b.args()) && are_same_words(a.env(), b.env())
+    are_same_words(a.args(), b.args()) && are_same_words(a.env(), b.env()) && a.input() == b.input()
 }
 
 fn are_same_words(a: &[Blob], b: &[Blob]) -> bool
@@ -40,7 +40,7 @@ fn are_same_words(a: &[Blob], b: &[Blob]) -> bool
 fn is_same_image(a: &Image, b: &Image) -> bool
     ensures { Decides result (a.now ≡ b.now) }
 {
-    are_same_entries(a.entries(), b.entries())
+    a.version() == b.version() && are_same_entries(a.entries(), b.entries())
 }
 
 fn are_same_entries(a: &[Entry], b: &[Entry]) -> bool
@@ -70,6 +70,7 @@ fn is_same_what(a: &What, b: &What) -> bool
         (What::File(a), What::File(b)) => a == b,
         (What::Link(a), What::Link(b)) => a == b,
         (What::Dir, What::Dir) => true,
+        (What::Dev(a), What::Dev(b)) => a == b,
         _ => false,
     }
 }

@@ -18,7 +18,7 @@ use crate::cache::Cache;
 use crate::input::StepInput;
 use dt_base::{Image, NoMemory};
 use dt_engine::{Ended, RunErr, run_to_end};
-use dt_export::{ExportErr, ExportRefusal, IMAGE_VERSION, image_of_tree};
+use dt_export::{ExportErr, ExportRefusal, image_of_tree};
 use dt_host::{Gate, Host, HostErr, Sink, SinkErr, VecSink, sink_all};
 use dt_tree::Tree;
 use std::alloc::Global;
@@ -56,8 +56,8 @@ pub fn take_step<R: AllocGlobal + Clock + Threads + Sync, H: Host + Send, O: Sin
     requires budget { (1 ≤ input.budget) × (input.budget ≤ 1000000000) }
     requires workers { (1 ≤ workers) × (workers ≤ 64) }
     ensures step { IfOk result (IsStep (run_of_step input)) }
-    ensures wrote { OnOk result (O.told out.new ≡ added (O.told out.old) (step_text number (run_of_step input))) }
-    ensures part { AddsPart (O.told out.old) (O.told out.new) (step_text number (run_of_step input)) }
+    ensures wrote { OnOk result (O.told out.new ≡ added (O.told out.old) (step_text number input.image.version (run_of_step input))) }
+    ensures part { AddsPart (O.told out.old) (O.told out.new) (step_text number input.image.version (run_of_step input)) }
     ensures after { OnOk result (IsAfterStep input cache.old cache.new) }
     ensures err { OnErr result (cache.new ≡ cache.old) }
     ensures empty { OnOk result (IsEmptyStart (H.view host.new)) }
@@ -93,8 +93,8 @@ fn run_step<R: AllocGlobal + Clock + Threads + Sync, H: Host + Send, O: Sink, G:
     requires budget { (1 ≤ input.budget) × (input.budget ≤ 1000000000) }
     requires workers { (1 ≤ workers) × (workers ≤ 64) }
     ensures step { IfOk result (IsStep (run_of_step input)) }
-    ensures wrote { OnOk result (O.told out.new ≡ added (O.told out.old) (step_text number (run_of_step input))) }
-    ensures part { AddsPart (O.told out.old) (O.told out.new) (step_text number (run_of_step input)) }
+    ensures wrote { OnOk result (O.told out.new ≡ added (O.told out.old) (step_text number input.image.version (run_of_step input))) }
+    ensures part { AddsPart (O.told out.old) (O.told out.new) (step_text number input.image.version (run_of_step input)) }
     ensures kept { OnOk result (cache.new ≡ with_step cache.old input (image_after (run_of_step input))) }
     ensures err { OnErr result (cache.new ≡ cache.old) }
     ensures empty { OnOk result (IsEmptyStart (H.view host.new)) }
@@ -126,7 +126,7 @@ fn run_alone<R: AllocGlobal + Clock + Threads + Sync, H: Host + Send, G: Gate + 
     requires budget { (1 ≤ input.now.budget) × (input.now.budget ≤ 1000000000) }
     requires workers { (1 ≤ workers) × (workers ≤ 64) }
     ensures step { IfOk result (IsStep (run_of_step input.now)) }
-    ensures report { OnOk result (report.new ≡ report.old ++ report_of (run_of_step input.now)) }
+    ensures report { OnOk result (report.new ≡ report.old ++ report_of input.now.image.version (run_of_step input.now)) }
     ensures empty { OnOk result (IsEmptyStart (H.view host.new)) }
     ensures cause { HasCause (H.count host.old) (H.count host.new) (IsErrOf result HostErr.Failed) }
 {
@@ -150,7 +150,7 @@ fn gather<R: AllocGlobal + Clock + Threads + Sync, H: Host + Send, G: Gate + Syn
     requires budget { (1 ≤ input.now.budget) × (input.now.budget ≤ 1000000000) }
     requires workers { (1 ≤ workers) × (workers ≤ 64) }
     ensures status { IfOk result (λ ended. ended.status ≡ status_of_run (run_of_step input.now)) }
-    ensures report { OnOk result (report.new ≡ report.old ++ report_of (run_of_step input.now)) }
+    ensures report { OnOk result (report.new ≡ report.old ++ report_of input.now.image.version (run_of_step input.now)) }
     ensures left { IfOk result (λ ended. (let run = run_of_step input.now in run.last)
         ≡ shared_of ended.container.shared (H.view host.new)) }
     ensures sound { IfOk result (λ ended. IsSoundContainer ended.container (H.view host.new)) }
@@ -186,7 +186,7 @@ fn image_left<H: Host>(
         (λ left. image_or_refusal left ≡ image_of_tree (tree_of tree.now (H.view host.old).forest)) }
     ensures asks { Asks H.view H.count host.old host.new result }
 {
-    match image_of_tree(alloc, host, tree, IMAGE_VERSION) {
+    match image_of_tree(alloc, host, tree, tree.version()) {
         Ok(image) => Ok(Ok(image)),
         Err(ExportErr::Refused(refusal)) => Ok(Err(no_image(refusal))),
         Err(ExportErr::Host) => Err(HostErr::Failed),

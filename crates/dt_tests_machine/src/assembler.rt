@@ -482,6 +482,8 @@ fn start_machine(alloc: Global, code: &[u8]) -> Result<Machine, Fail> {
         regs: [0; 32],
         pc: CODE,
         space: Space::new(alloc).with_pages(alloc, 16, 4, 5, code)?,
+        reserved: None,
+        atomics: false,
     })
 }
 

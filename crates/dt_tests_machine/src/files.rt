@@ -145,7 +145,7 @@ pub fn start_file(
     ensures { IfOk result IsMachine }
 {
     let elf = read_elf(alloc, file)?;
-    Ok(start(alloc, &elf, file, command, execfn, &RANDOM)?)
+    Ok(start(alloc, &elf, file, command, execfn, &RANDOM, false)?)
 }
 
 /// The machine that starts `hello` under its own path.

@@ -65,7 +65,7 @@ fn counters_are_read_by_x0_alone(rt: HostRuntime) -> Result<(), Fail> {
     Ok(())
 }
 
-const WITHOUT_A_ROW: [u32; 17] = [
+const WITHOUT_A_ROW: [u32; 20] = [
     0,
     0xffff_ffff,
     0x0000_100f,
@@ -82,7 +82,10 @@ const WITHOUT_A_ROW: [u32; 17] = [
     0x0600_0033,
     0x0200_103b,
     0x4000_403b,
-    0x0000_202f,
+    0x0000_102f,
+    0x0000_402f,
+    0x1010_202f,
+    0x2800_302f,
 ];
 
 #[test]
@@ -120,6 +123,8 @@ fn machine_before(alloc: Global, word: u32, a: u64, b: u64) -> Result<Machine, F
         regs,
         pc: CODE,
         space: space_before(alloc, word, held)?,
+        reserved: None,
+        atomics: false,
     })
 }
 

@@ -5,6 +5,10 @@
 #[cfg(test)]
 mod assembler;
 #[cfg(test)]
+mod atomic_vectors;
+#[cfg(test)]
+mod atomics;
+#[cfg(test)]
 mod breaks;
 #[cfg(test)]
 mod clocks;

@@ -83,6 +83,8 @@ fn counting_machine(alloc: Global, pc: u64, count: u64) -> Result<Machine, Fail>
         regs,
         pc,
         space: Space::new(alloc).with_pages(alloc, 16, 1, 5, &code)?,
+        reserved: None,
+        atomics: false,
     })
 }
 

@@ -16,10 +16,12 @@ fn pages_of(
     command: &Command,
 ) -> Result<Result<usize, StartErr>, ElfErr> {
     let elf = read_elf(alloc, bytes)?;
-    Ok(match start(alloc, &elf, bytes, command, b"/p", &RANDOM) {
-        Ok(machine) => Ok(machine.space.pages()),
-        Err(error) => Err(error),
-    })
+    Ok(
+        match start(alloc, &elf, bytes, command, b"/p", &RANDOM, false) {
+            Ok(machine) => Ok(machine.space.pages()),
+            Err(error) => Err(error),
+        },
+    )
 }
 
 // The same of a file with these segments.
@@ -131,5 +133,5 @@ fn refusal_of(
     requires { length path.now ≤ PATH_LIMIT }
 {
     let elf = read_elf(alloc, bytes)?;
-    Ok(start(alloc, &elf, bytes, command, path, &RANDOM).err())
+    Ok(start(alloc, &elf, bytes, command, path, &RANDOM, false).err())
 }

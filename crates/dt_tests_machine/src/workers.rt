@@ -88,6 +88,8 @@ fn slot_at(alloc: Global, vpid: u32, words: [u32; 4]) -> Result<Slot, Fail> {
         regs: [0; 32],
         pc: BASE,
         space: Space::new(alloc).with_pages(alloc, 16, 1, 5, &code)?,
+        reserved: None,
+        atomics: false,
     };
     Ok(Slot {
         vpid,

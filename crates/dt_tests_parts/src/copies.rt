@@ -23,7 +23,8 @@ fn words(alloc: Global, given: &[&str]) -> Result<Vec<String>, AllocError> {
 /// The image of an index with one blob.
 pub fn image(alloc: Global, index: &[u8], blob: &str, bytes: &[u8]) -> Result<Image, ImageErr> {
     let mut store = store(alloc, index, blob, bytes)?;
-    read_image(alloc, &mut store, "img")
+    let (image, _input) = read_image(alloc, &mut store, "img", None)?;
+    Ok(image)
 }
 
 fn store(alloc: Global, index: &[u8], blob: &str, bytes: &[u8]) -> Result<MemStore, NoMemory> {
@@ -52,7 +53,7 @@ fn expect_entry(rt: &impl Abort, entry: &Entry) -> Result<(), NoMemory> {
 fn expect_file(rt: &impl Abort, what: &What) -> Result<(), NoMemory> {
     match what.copy()? {
         What::File(bytes) => same(rt, bytes.as_slice(), b"some bytes".as_slice()),
-        What::Dir | What::Link(_) => assert!(rt; false, "no file"),
+        What::Dir | What::Link(_) | What::Dev(_) => assert!(rt; false, "no file"),
     }
     Ok(())
 }
@@ -60,7 +61,7 @@ fn expect_file(rt: &impl Abort, what: &What) -> Result<(), NoMemory> {
 fn expect_link(rt: &impl Abort, what: &What) -> Result<(), NoMemory> {
     match what.copy()? {
         What::Link(target) => same(rt, target.as_slice(), b"to".as_slice()),
-        What::Dir | What::File(_) => assert!(rt; false, "no link"),
+        What::Dir | What::File(_) | What::Dev(_) => assert!(rt; false, "no link"),
     }
     Ok(())
 }

@@ -1,19 +1,13 @@
 -- As many bytes are drawn as are asked for, and they go where so many may be written.
-use Rattle.std.proofs.Common.{◌≡◌, ℕ, List, length, Ok, Err, sym, subst, arith}
-use Rattle.std.proofs.lemmas.List.{length-take-le}
+use Rattle.std.proofs.Common.{◌≡◌, ℕ, List, Ok, Err, sym, subst}
 use Rattle.std.specs.Prelude.{IsOk}
 use Rattle.dt_space.specs.declared.access.Miss.{Miss}
 use Rattle.dt_space.specs.declared.access.TheConstants.{WRITE}
 use Rattle.dt_space.specs.Space.{PageView, load}
 use Rattle.dt_space.specs.Write.{pages_after_store, pages_after_write}
 use Rattle.dt_space.proofs.Kept.{stored-allowed, stored-missed}
-use Rattle.dt_virt.specs.Words.{SeededWords, next_bytes, bytes_from, word_count}
-use Rattle.dt_virt.proofs.Drawing.{length-bytes_from}
-
-pub length-drawn : (words : SeededWords) (count : ℕ) → length (next_bytes words count) ≡ count
-length-drawn words count =
-    let all = length-bytes_from words.key 0 words.word_pos (word_count count) in
-    length-take-le count (bytes_from words.key 0 words.word_pos (word_count count)) (omega (arith, all))
+use Rattle.dt_virt.specs.Words.{SeededWords, next_bytes}
+use Rattle.dt_virt.proofs.Drawing.{length-drawn}
 
 pub drawn-stored : (pages : List PageView) (words : SeededWords) (address count : ℕ) → IsOk (load pages WRITE address count) → pages_after_store pages address (next_bytes words count) ≡ Ok (pages_after_write pages address (next_bytes words count))
 drawn-stored pages words address count may =

@@ -5,7 +5,7 @@ use Rattle.std.specs.Ordering.{nat_cmp}
 use Rattle.std.specs.Cmp.{nat_cmp_total}
 use Rattle.std.specs.Cmp.Lexicographic.{slice_cmp, nat_list_cmp_total}
 use Rattle.std.specs.FinMap.{empty, get, insert, get-empty, same_map, nat_cmp-IsAntisymmetric}
-use Rattle.dt_host.specs.World.{Forest, Node, file, dir, link, node_at, dir_names, names_at, entry, with_node, IsLive}
+use Rattle.dt_host.specs.World.{Forest, Node, file, dir, link, device, node_at, dir_names, names_at, entry, with_node, IsLive}
 use Rattle.dt_tables.proofs.Found.{none_there}
 use Rattle.dt_tables.proofs.Maps.{at_insert, names_tie, get-insert_same, get-insert_other}
 use Rattle.dt_tree.specs.declared.inode.Inode.{Inode}
@@ -22,6 +22,7 @@ use Rattle.dt_tree.proofs.Mirroring.{node_at-shape, real_live}
 pub renumbered-bare : (f : ℕ → ℕ) (node : Node) → unwrap_or (dir_names node) empty ≡ empty → renumbered_node f node ≡ node
 renumbered-bare f (file bytes) e = refl
 renumbered-bare f (link target) e = refl
+renumbered-bare f (device which) e = refl
 renumbered-bare f (dir names) e = ap dir (same_map nat_list_cmp_total names_tie _ _ (λ q. get-map_values nat_list_cmp_total f names q ∙ ap (λ m. option_map f (get m q)) e ∙ ap (option_map f) (get-empty (slice_cmp nat_cmp) q) ∙ sym (ap (λ m. get m q) e ∙ get-empty (slice_cmp nat_cmp) q)))
 
 module _ (t : Table) (v : Forest) (inode : Inode) (node : Node) (s : IsMirror t v) (free : get t.inodes t.next ≡ None) (free_real : node_at v inode.real ≡ None) (bare : unwrap_or (dir_names node) empty ≡ empty) where
@@ -34,6 +35,7 @@ module _ (t : Table) (v : Forest) (inode : Inode) (node : Node) (s : IsMirror t 
   same_numbers other None e = refl
   same_numbers other (Some (file bytes)) e = refl
   same_numbers other (Some (link target)) e = refl
+  same_numbers other (Some (device which)) e = refl
   same_numbers other (Some (dir names)) e = ap dir (map_values-alike nat_list_cmp_total (vino_of (with_new t inode)) names_tie (vino_of t) names
       (λ name real there. ap (λ found. unwrap_or found 0) (get-insert_other nat_cmp_total nat_cmp-IsAntisymmetric t.by_real inode.real t.next real (apart_real real (s.pairs.closed other.real real name (ap (λ found. get (unwrap_or (option_and_then dir_names found) empty) name) e ∙ there)))))
       (get-map_values nat_list_cmp_total (vino_of t) names))
@@ -53,8 +55,8 @@ module _ (t : Table) (v : Forest) (inode : Inode) (node : Node) (s : IsMirror t 
           ap (λ found. Some (renumbered_node (vino_of (with_new t inode)) (unwrap_or found (file [])))) (get-insert_other nat_cmp_total nat_cmp-IsAntisymmetric v.nodes inode.real node other.real (apart_real other.real (real_live t v s.pairs q other e)))
           ∙ ap Some (same_numbers other (node_at v other.real) refl)
 
-  pub tree-new : tree_of (with_new t inode) (with_node v inode.real node) ≡ record { shape = with_node (shape_of t v) t.next node; attributes = insert (map_values attributes_of t.inodes) t.next (attributes_of inode); next = t.next + 1 }
-  tree-new = let shape = shape-new in let attributes = map_values-insert nat_cmp_total attributes_of nat_cmp-IsAntisymmetric t.inodes t.next inode in λ i. record { shape = shape i; attributes = attributes i; next = t.next + 1 }
+  pub tree-new : tree_of (with_new t inode) (with_node v inode.real node) ≡ record { shape = with_node (shape_of t v) t.next node; attributes = insert (map_values attributes_of t.inodes) t.next (attributes_of inode); next = t.next + 1; version = t.version }
+  tree-new = let shape = shape-new in let attributes = map_values-insert nat_cmp_total attributes_of nat_cmp-IsAntisymmetric t.inodes t.next inode in λ i. record { shape = shape i; attributes = attributes i; next = t.next + 1; version = t.version }
 
   free_node : node_at (shape_of t v) t.next ≡ None
   free_node = node_at-shape t v t.next ∙ ap (option_map (node_for t v)) free

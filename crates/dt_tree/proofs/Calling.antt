@@ -9,12 +9,12 @@ use Rattle.std.specs.Cmp.Lexicographic.{slice_cmp}
 use Rattle.std.specs.FinMap.{get, len, empty_of_len, get-empty, nat_cmp-IsAntisymmetric}
 use Rattle.dt_base.specs.declared.image.What.{What}
 use Rattle.dt_base.specs.declared.limits.TheConstants.{MODE_LIMIT}
-use Rattle.dt_host.specs.World.{Forest, Node, Names, file, dir, link, node_at, dir_names, link_target, names_at, entry, with_node, with_entry, without_entry, IsDir, IsLive, IsBare}
+use Rattle.dt_host.specs.World.{Forest, Node, Names, file, dir, link, device, node_at, dir_names, link_target, names_at, entry, with_node, with_entry, without_entry, IsDir, IsLive, IsBare}
 use Rattle.dt_tables.specs.inner.Weight.{weight}
 use Rattle.dt_tables.proofs.Maps.{get-insert_same, get-insert_other}
-use Rattle.dt_host.proofs.Changes.{IsFile-bound}
-use Rattle.dt_host.proofs.Spots.{is_some-with_entry, len-with_entry, IsDir-with_entry, root-with_entry, IsFile-with_new, IsDir-with_new}
-use Rattle.dt_host.proofs.Gone.{is_some-without_entry, len-without_entry, root-without_entry, IsDir-without_entry, IsFile-without_entry, without_entry-none}
+use Rattle.dt_host.proofs.Changes.{IsFile-bound, IsDevice-bound}
+use Rattle.dt_host.proofs.Spots.{is_some-with_entry, len-with_entry, IsDir-with_entry, root-with_entry, IsFile-with_new, IsDevice-with_new, IsDir-with_new}
+use Rattle.dt_host.proofs.Gone.{is_some-without_entry, len-without_entry, root-without_entry, IsDir-without_entry, IsFile-without_entry, IsDevice-without_entry, without_entry-none}
 use Rattle.dt_tree.specs.declared.limits.TheConstants.{NAMES_LIMIT}
 use Rattle.dt_tree.specs.Shape.{one_for, name_count_of, name_count, is_dir, is_link, is_bare, is_removed, IsShaped, IsUnder}
 use Rattle.dt_tree.specs.FileTree.{Attributes, FileTree, is_entry_name, holds_of, IsGoodNode, IsTree, IsTreeBut}
@@ -81,14 +81,14 @@ module _ (t : FileTree) (d : ℕ) (name : List ℕ) (m stamp : ℕ) (s : IsTree 
       (root-with_entry t.shape d name m)
       (is_some-with_entry t.shape d name m is)
       (len-with_entry t.shape d name m is)
-      (good-with_entry t.shape t.attributes s.good d is name m good)
+      (good-with_entry t.version t.shape t.attributes s.good d is name m good)
       (let more = name_count-with_entry t.shape d name m free in omega arith)
       (λ n _. let sum = names_of-with_entry t.shape d n name m in let none = ap (weight (one_for n)) free in omega arith))
 
   pub KeepsHeld-linked : KeepsHeld t (tree_after_link t d name m stamp)
   unfolding tree_after_link
   KeepsHeld-linked = KeepsHeld-then t (with_shape t (with_entry t.shape d name m)) (tree_after_link t d name m stamp)
-      (KeepsHeld-with_shape t (with_entry t.shape d name m) (λ n h. IsFile-bound t.shape d name m n is h) (IsDir-with_entry t.shape d name m))
+      (KeepsHeld-with_shape t (with_entry t.shape d name m) (λ n h. IsFile-bound t.shape d name m n is h) (IsDir-with_entry t.shape d name m) (λ n h. IsDevice-bound t.shape d name m n is h))
       (KeepsHeld-stamped (with_shape t (with_entry t.shape d name m)) d stamp)
 
 -- unlink(2) and rmdir(2)
@@ -107,7 +107,7 @@ module _ (t : FileTree) (d : ℕ) (name : List ℕ) (stamp : ℕ) (s : IsTree t)
       (root-without_entry t.shape d name)
       (is_some-without_entry t.shape d name is)
       (len-without_entry t.shape d name is)
-      (good-without_entry t.shape t.attributes s.good d is name)
+      (good-without_entry t.version t.shape t.attributes s.good d is name)
       (let less = name_count-without_entry t.shape d name m (sym e) in omega (arith, s.few_names))
       (λ n apart. let sum = names_of-without_entry t.shape d n name in let none = ap (weight (one_for n)) (sym e) ∙ weight_zero n (Some m) apart in omega arith))
 
@@ -120,7 +120,7 @@ module _ (t : FileTree) (d : ℕ) (name : List ℕ) (stamp : ℕ) (s : IsTree t)
       subst (λ t2. KeepsHeld t t2) (sym (unlinked-is t d name stamp found e))
       (KeepsHeld-then t (tree_with_stamp cut d stamp) (without_unused_found found (tree_with_stamp cut d stamp))
       (KeepsHeld-then t cut (tree_with_stamp cut d stamp)
-      (KeepsHeld-with_shape t (without_entry t.shape d name) (IsFile-without_entry t.shape d name is) (IsDir-without_entry t.shape d name))
+      (KeepsHeld-with_shape t (without_entry t.shape d name) (IsFile-without_entry t.shape d name is) (IsDir-without_entry t.shape d name) (IsDevice-without_entry t.shape d name is))
       (KeepsHeld-stamped cut d stamp))
       (KeepsHeld-swept_found (tree_with_stamp cut d stamp) found (IsTreeBut-unlinked found e bare)))
 
@@ -158,6 +158,7 @@ module _ (t : FileTree) (d : ℕ) (name : List ℕ) (what : What) (mode stamp : 
       ];
       files = λ q _ h. IsFile-with_new t.shape t.next (new_node what) (free_next None t s) (bare_new what) q h;
       dirs = λ q _ h. IsDir-with_new t.shape t.next (new_node what) (free_next None t s) (bare_new what) q h;
+      devices = λ q _ h. IsDevice-with_new t.shape t.next (new_node what) (free_next None t s) (bare_new what) q h;
     }
 
     pub KeepsHeld-made : KeepsHeld t (tree_after_make t d name what mode stamp)
@@ -167,17 +168,18 @@ module _ (t : FileTree) (d : ℕ) (name : List ℕ) (what : What) (mode stamp : 
         let is = is_first t d name what mode stamp s may in
         KeepsHeld-then t new (tree_after_make t d name what mode stamp) KeepsHeld-with_made
         (KeepsHeld-then new (with_shape new (with_entry new.shape d name t.next)) (tree_after_make t d name what mode stamp)
-        (KeepsHeld-with_shape new (with_entry new.shape d name t.next) (λ n h. IsFile-bound new.shape d name t.next n is h) (IsDir-with_entry new.shape d name t.next))
+        (KeepsHeld-with_shape new (with_entry new.shape d name t.next) (λ n h. IsFile-bound new.shape d name t.next n is h) (IsDir-with_entry new.shape d name t.next) (λ n h. IsDevice-bound new.shape d name t.next n is h))
         (KeepsHeld-stamped (with_shape new (with_entry new.shape d name t.next)) d stamp))
 
 -- chmod(2)
 pub IsTree-chmodded : (t : FileTree) (n mode : ℕ) → IsTree t → is_link t.shape n ≡ false → mode ≤ MODE_LIMIT → IsTree (tree_after_chmod t n mode)
 IsTree-chmodded t n mode s no_link low = IsTreeBut-with_attributes t n (with_mode mode) None s (λ node a at good. by_node node a.mode (ap (λ found. is_some (option_and_then link_target found)) (sym at) ∙ no_link) good) (λ _ a. omega arith)
   where
-    by_node : (node : Node) (was : ℕ) → is_some (link_target node) ≡ false → IsGoodNode node was → IsGoodNode node mode
+    by_node : (node : Node) (was : ℕ) → is_some (link_target node) ≡ false → IsGoodNode t.version node was → IsGoodNode t.version node mode
     by_node (file bytes) was e good = (good.0, low)
     by_node (dir names) was e good = (good.0, low)
     by_node (link target) was e good = cc
+    by_node (device which) was e good = (good.0, low)
 
 pub KeepsHeld-chmodded : (t : FileTree) (n mode : ℕ) → KeepsHeld t (tree_after_chmod t n mode)
 KeepsHeld-chmodded t n mode = KeepsHeld-with_attributes t n (with_mode mode) (λ a. refl)

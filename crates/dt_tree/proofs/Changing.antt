@@ -2,9 +2,10 @@
 use Rattle.std.proofs.Common.{arith, ◌≡◌, ◌≢◌, ℕ, ◌+◌, ◌-◌, ◌≤◌, ◌<◌, cond, true, false, Bool, ◌&&◌, not, Option, Some, None, inl, inr, refl, sym, ap, subst, ◌∙◌}
 use Rattle.std.proofs.lemmas.Bool.{cases_eq}
 use Rattle.std.proofs.lemmas.Bool.Decides.{nat_tests}
-use Rattle.std.specs.Prelude.{is_some, IsSome, unwrap_or, option_map, ◌==◌}
+use Rattle.std.specs.Prelude.{is_some, IsSome, IsTrue, unwrap_or, option_map, ◌==◌}
 use Rattle.std.specs.Cmp.{nat_cmp_total}
 use Rattle.std.specs.FinMap.{get, remove, len, len-remove, nat_cmp-IsAntisymmetric}
+use Rattle.dt_base.specs.Profile.{is_version}
 use Rattle.dt_host.specs.World.{Forest, Node, node_at, without_node, IsLive, IsBare}
 use Rattle.dt_tables.proofs.Maps.{at_insert, at_remove, get-remove_other}
 use Rattle.dt_tree.specs.declared.limits.TheConstants.{ROOT, NAMES_LIMIT}
@@ -43,6 +44,10 @@ module _ (t : FileTree) (k : ℕ) (f : Attributes → Attributes) where
   unfolding with_attributes
   next-with_attributes = refl
 
+  pub version-with_attributes : (with_attributes t k f).version ≡ t.version
+  unfolding with_attributes
+  version-with_attributes = refl
+
   pub is_some-attributes : (q : ℕ) → is_some (get (with_attributes t k f).attributes q) ≡ is_some (get t.attributes q)
   is_some-attributes q = at_attributes (λ found. is_some found ≡ is_some (get t.attributes q)) q (λ same. is_some-map f (get t.attributes k) ∙ ap (λ x. is_some (get t.attributes x)) (sym same)) (λ _. refl)
 
@@ -55,12 +60,13 @@ module _ (t : FileTree) (k : ℕ) (f : Attributes → Attributes) where
       by_found (Some a) = same a
 
   -- other attributes make a tree, where the mode stays good and the holds grow, but for a node that may be lost
-  pub IsTreeBut-with_attributes : (lost : Option ℕ) → IsTreeBut lost t → ((node : Node) (a : Attributes) → node_at t.shape k ≡ Some node → IsGoodNode node a.mode → (let b = f a in IsGoodNode node b.mode)) → (lost ≢ Some k → (a : Attributes) → (let b = f a in a.holds ≤ b.holds)) → IsTreeBut lost (with_attributes t k f)
+  pub IsTreeBut-with_attributes : (lost : Option ℕ) → IsTreeBut lost t → ((node : Node) (a : Attributes) → node_at t.shape k ≡ Some node → IsGoodNode t.version node a.mode → (let b = f a in IsGoodNode t.version node b.mode)) → (lost ≢ Some k → (a : Attributes) → (let b = f a in a.holds ≤ b.holds)) → IsTreeBut lost (with_attributes t k f)
   IsTreeBut-with_attributes lost s good more = record {
+    version = subst (λ version. IsTrue (is_version version)) (sym version-with_attributes) s.version;
     shaped = subst IsShaped (sym shape-with_attributes) s.shaped;
     root = ap (λ (v : Forest). v.root) shape-with_attributes ∙ s.root;
     same = λ n. is_some-attributes n ∙ s.same n ∙ ap (λ v. is_some (node_at v n)) (sym shape-with_attributes);
-    good = λ n node b at. good_at n node b (ap (λ v. node_at v n) (sym shape-with_attributes) ∙ at);
+    good = λ n node b at kept. subst (λ version. IsGoodNode version node b.mode) (sym version-with_attributes) (good_at n node b (ap (λ v. node_at v n) (sym shape-with_attributes) ∙ at) kept);
     low = λ n live. s.low n (back n live);
     fresh = λ n live. subst (λ next. n < next) (sym next-with_attributes) (s.fresh n (back n live));
     few = subst (λ (v : Forest). len v.nodes ≤ 4096) (sym shape-with_attributes) s.few;
@@ -71,16 +77,16 @@ module _ (t : FileTree) (k : ℕ) (f : Attributes → Attributes) where
       back : (n : ℕ) → (let new = with_attributes t k f in IsLive new.shape n) → IsLive t.shape n
       back n live = subst (λ v. IsLive v n) shape-with_attributes live
 
-      good_at : (n : ℕ) (node : Node) (b : Attributes) → node_at t.shape n ≡ Some node → get (with_attributes t k f).attributes n ≡ Some b → IsGoodNode node b.mode
-      good_at n node b at = at_attributes (λ found. found ≡ Some b → IsGoodNode node b.mode) n
+      good_at : (n : ℕ) (node : Node) (b : Attributes) → node_at t.shape n ≡ Some node → get (with_attributes t k f).attributes n ≡ Some b → IsGoodNode t.version node b.mode
+      good_at n node b at = at_attributes (λ found. found ≡ Some b → IsGoodNode t.version node b.mode) n
           (λ same. by_found (get t.attributes k) refl same)
           (λ _ e. s.good n node b at e)
         where
-          by_found : (found : Option Attributes) → get t.attributes k ≡ found → n ≡ k → option_map f found ≡ Some b → IsGoodNode node b.mode
+          by_found : (found : Option Attributes) → get t.attributes k ≡ found → n ≡ k → option_map f found ≡ Some b → IsGoodNode t.version node b.mode
           by_found None e same is = cc
           by_found (Some a) e same is =
               let new : f a ≡ b = cc in
-              subst (λ (x : Attributes). IsGoodNode node x.mode) new (good node a (ap (node_at t.shape) (sym same) ∙ at) (s.good n node a at (ap (get t.attributes) same ∙ e)))
+              subst (λ (x : Attributes). IsGoodNode t.version node x.mode) new (good node a (ap (node_at t.shape) (sym same) ∙ at) (s.good n node a at (ap (get t.attributes) same ∙ e)))
 
       used : (n : ℕ) → IsLive t.shape n → n ≢ ROOT → lost ≢ Some n → 1 ≤ name_count_of t.shape n + holds_of (with_attributes t k f) n
       used n live low apart = at_attributes (λ found. 1 ≤ name_count_of t.shape n + unwrap_or (option_map (λ a. a.holds) found) 0) n
@@ -93,7 +99,7 @@ module _ (t : FileTree) (k : ℕ) (f : Attributes → Attributes) where
 
 -- a node may be lost that isn't
 pub IsTreeBut-weaker : (lost : Option ℕ) (t : FileTree) → IsTree t → IsTreeBut lost t
-IsTreeBut-weaker lost t s = record { shaped = s.shaped; root = s.root; same = s.same; good = s.good; low = s.low; fresh = s.fresh; few = s.few; few_names = s.few_names; used = λ n live low _. s.used n live low (λ e. cc) }
+IsTreeBut-weaker lost t s = record { version = s.version; shaped = s.shaped; root = s.root; same = s.same; good = s.good; low = s.low; fresh = s.fresh; few = s.few; few_names = s.few_names; used = λ n live low _. s.used n live low (λ e. cc) }
 
 pub IsTreeBut-stamped : (lost : Option ℕ) (t : FileTree) (k stamp : ℕ) → IsTreeBut lost t → IsTreeBut lost (tree_with_stamp t k stamp)
 IsTreeBut-stamped lost t k stamp s = IsTreeBut-with_attributes t k (with_stamp stamp) lost s (λ node a _ good. good) (λ _ a. omega arith)
@@ -103,8 +109,9 @@ pub IsTreeBut-released : (t : FileTree) (n : ℕ) → IsTree t → IsTreeBut (So
 IsTreeBut-released t n s = IsTreeBut-with_attributes t n attributes_without_hold (Some n) (IsTreeBut-weaker (Some n) t s) (λ node a _ good. good) (λ apart. absurd (apart refl))
 
 -- a shape of the same nodes, in which all but one have as many names
-pub IsTreeBut-with_shape : (lost : Option ℕ) (t : FileTree) (w : Forest) → IsTree t → IsShaped w → w.root ≡ t.shape.root → ((n : ℕ) → is_some (node_at w n) ≡ is_some (node_at t.shape n)) → len w.nodes ≡ len t.shape.nodes → ((n : ℕ) (node : Node) (a : Attributes) → node_at w n ≡ Some node → get t.attributes n ≡ Some a → IsGoodNode node a.mode) → name_count w ≤ NAMES_LIMIT → ((n : ℕ) → lost ≢ Some n → name_count_of t.shape n ≤ name_count_of w n) → IsTreeBut lost (with_shape t w)
+pub IsTreeBut-with_shape : (lost : Option ℕ) (t : FileTree) (w : Forest) → IsTree t → IsShaped w → w.root ≡ t.shape.root → ((n : ℕ) → is_some (node_at w n) ≡ is_some (node_at t.shape n)) → len w.nodes ≡ len t.shape.nodes → ((n : ℕ) (node : Node) (a : Attributes) → node_at w n ≡ Some node → get t.attributes n ≡ Some a → IsGoodNode t.version node a.mode) → name_count w ≤ NAMES_LIMIT → ((n : ℕ) → lost ≢ Some n → name_count_of t.shape n ≤ name_count_of w n) → IsTreeBut lost (with_shape t w)
 IsTreeBut-with_shape lost t w s shaped top same size good few_names more = record {
+  version = s.version;
   shaped = shaped;
   root = top ∙ s.root;
   same = λ n. s.same n ∙ sym (same n);
@@ -168,6 +175,7 @@ IsTree-swept t n s = at_swept IsTree t n gone stays
         let unused = unused_node t n s e in
         let bare = unused.2 in
         record {
+          version = s.version;
           shaped = shaped-without_node t.shape s.shaped n unused.1 bare (λ same. unused.0 (same ∙ s.root));
           root = s.root;
           same = λ q. both_gone q;
@@ -208,6 +216,7 @@ IsTree-swept t n s = at_swept IsTree t n gone stays
 
     stays : is_unused t n ≡ false → IsTree t
     stays e = record {
+      version = s.version;
       shaped = s.shaped;
       root = s.root;
       same = s.same;

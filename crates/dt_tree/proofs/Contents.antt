@@ -8,12 +8,13 @@ use Rattle.std.specs.Prelude.{true, IsSome, is_some, IfSome, OnOk, Result, Ok, E
 use Rattle.std.specs.Cmp.Lexicographic.{slice_cmp, nat_list_cmp_total}
 use Rattle.std.specs.Ordering.{nat_cmp}
 use Rattle.std.specs.FinMap.{empty, get, len, get-empty, len-empty}
-use Rattle.dt_base.specs.declared.limits.TheConstants.{FILE_LIMIT, MODE_LIMIT}
+use Rattle.dt_base.specs.declared.limits.TheConstants.{MODE_LIMIT}
+use Rattle.dt_base.specs.Profile.{file_limit}
 use Rattle.dt_base.specs.Bytes.{with_bytes_at, with_trailing_zeros, with_length}
-use Rattle.dt_host.specs.World.{World, Forest, Node, file, dir, link, node_at, dir_names, file_bytes, file_at, names_at, entry, content, with_node, with_bytes, with_forest, IsDir, IsFile, IsLive}
+use Rattle.dt_host.specs.World.{World, Forest, Node, file, dir, link, device, node_at, dir_names, file_bytes, file_at, names_at, entry, content, with_node, with_bytes, with_forest, IsDir, IsFile, IsLive, node_device, IsDevice}
 use Rattle.dt_host.specs.Legal.{with_write, with_size, Cuts, WritesAll}
 use Rattle.dt_tables.specs.Total.{total}
-use Rattle.dt_host.proofs.Changes.{apart_from_file}
+use Rattle.dt_host.proofs.Changes.{apart_from_file, device_apart_from_file}
 use Rattle.dt_tables.proofs.Totals.{total-empty}
 use Rattle.dt_host.proofs.Worlds.{content-with_bytes, with_bytes-with_bytes, with_bytes-content}
 use Rattle.dt_host.proofs.Spots.{IsDir-entry, at_node, entry_other, entry_here, is_some-with_node, len-with_node}
@@ -38,6 +39,7 @@ file_node None h = cc
 file_node (Some (file bytes)) h = (bytes, refl)
 file_node (Some (dir names)) h = cc
 file_node (Some (link target)) h = cc
+file_node (Some (device which)) h = cc
 
 module _ (v : Forest) (n : ℕ) (bytes : List ℕ) (is : IsFile v n) where
   live_file : IsLive v n
@@ -82,6 +84,9 @@ module _ (v : Forest) (n : ℕ) (bytes : List ℕ) (is : IsFile v n) where
   pub IsDir-with_file : (q : ℕ) → IsDir v q → IsDir (with_node v n (file bytes)) q
   IsDir-with_file q h = at_node v n (file bytes) (λ found. IsSome (option_and_then dir_names found)) q (λ same. absurd (apart_from_file v q n h is same)) (λ _. h)
 
+  pub IsDevice-with_file : (q : ℕ) → IsDevice v q → IsDevice (with_node v n (file bytes)) q
+  IsDevice-with_file q h = at_node v n (file bytes) (λ found. IsSome (option_and_then node_device found)) q (λ same. absurd (device_apart_from_file v q n h is same)) (λ _. h)
+
   pub IsFile-with_file : (q : ℕ) → IsFile v q → IsFile (with_node v n (file bytes)) q
   IsFile-with_file q h = at_node v n (file bytes) (λ found. IsSome (option_and_then file_bytes found)) q (λ _. refl) (λ _. h)
 
@@ -105,7 +110,7 @@ module _ (v : Forest) (n : ℕ) (bytes : List ℕ) (is : IsFile v n) where
       by_place k (inr r) = inr (record { nameless = names_of-with_file k ∙ r.nameless; bare = λ c. entry-with_file k c ∙ r.bare c })
 
 -- a tree with other bytes in a file is a tree
-pub IsTree-with_bytes : (t : FileTree) (n : ℕ) (bytes : List ℕ) → IsTree t → IsFile t.shape n → length bytes ≤ FILE_LIMIT → IsTree (with_shape t (with_bytes t.shape n bytes))
+pub IsTree-with_bytes : (t : FileTree) (n : ℕ) (bytes : List ℕ) → IsTree t → IsFile t.shape n → length bytes ≤ file_limit t.version → IsTree (with_shape t (with_bytes t.shape n bytes))
 unfolding with_bytes
 IsTree-with_bytes t n bytes s is fits =
     IsTreeBut-with_shape None t (with_node t.shape n (file bytes)) s
@@ -113,8 +118,8 @@ IsTree-with_bytes t n bytes s is fits =
     refl
     (same_nodes t.shape n bytes is)
     (len-with_node t.shape n (file bytes) (live_file t.shape n bytes is))
-    (λ q node a. at_node t.shape n (file bytes) (λ found. found ≡ Some node → get t.attributes q ≡ Some a → IsGoodNode node a.mode) q
-    (λ same e kept. subst (λ x. IsGoodNode x a.mode) (same_Some (file bytes) node e) (fits, mode q same a kept))
+    (λ q node a. at_node t.shape n (file bytes) (λ found. found ≡ Some node → get t.attributes q ≡ Some a → IsGoodNode t.version node a.mode) q
+    (λ same e kept. subst (λ x. IsGoodNode t.version x a.mode) (same_Some (file bytes) node e) (fits, mode q same a kept))
     (λ _ e kept. s.good q node a e kept))
     (omega (arith, name_count-with_file t.shape n bytes is, s.few_names))
     (λ q _. omega (arith, names_of-with_file t.shape n bytes is q))
@@ -215,32 +220,32 @@ writes-padded old mid new n off bytes (Ok _) a b =
 writes-padded old mid new n off bytes (Err _) a b = tt
 
 -- a file of a tree is within the limit
-content-fits : (t : FileTree) (n : ℕ) → IsTree t → IsFile t.shape n → length (content t.shape n) ≤ FILE_LIMIT
+content-fits : (t : FileTree) (n : ℕ) → IsTree t → IsFile t.shape n → length (content t.shape n) ≤ file_limit t.version
 unfolding content
 content-fits t n s is =
     let node = file_node (node_at t.shape n) is in
     let kept = by_found (get t.attributes n) (s.same n ∙ ap is_some node.1) in
-    subst (λ found. length (unwrap_or (option_and_then file_bytes found) []) ≤ FILE_LIMIT) (sym node.1) (s.good n (file node.0) kept.0 node.1 kept.1).0
+    subst (λ found. length (unwrap_or (option_and_then file_bytes found) []) ≤ file_limit t.version) (sym node.1) (s.good n (file node.0) kept.0 node.1 kept.1).0
   where
     by_found : (found : Option Attributes) → is_some found ≡ true → (a : Attributes) × (found ≡ Some a)
     by_found None e = cc
     by_found (Some a) e = (a, refl)
 
 -- a file tree after a write or a cut
-pub IsTree-written : (t : FileTree) (n off : ℕ) (bytes : List ℕ) (stamp : ℕ) → IsTree t → IsFile t.shape n → off + length bytes ≤ FILE_LIMIT → IsTree (tree_after_write t n off bytes stamp)
+pub IsTree-written : (t : FileTree) (n off : ℕ) (bytes : List ℕ) (stamp : ℕ) → IsTree t → IsFile t.shape n → off + length bytes ≤ file_limit t.version → IsTree (tree_after_write t n off bytes stamp)
 unfolding tree_after_write
-IsTree-written t n off bytes stamp s is h = IsTreeBut-stamped None _ n stamp (IsTree-with_bytes t n _ s is (fits-written (content t.shape n) off FILE_LIMIT bytes (content-fits t n s is) h))
+IsTree-written t n off bytes stamp s is h = IsTreeBut-stamped None _ n stamp (IsTree-with_bytes t n _ s is (fits-written (content t.shape n) off (file_limit t.version) bytes (content-fits t n s is) h))
 
-pub IsTree-truncated : (t : FileTree) (n size stamp : ℕ) → IsTree t → IsFile t.shape n → size ≤ FILE_LIMIT → IsTree (tree_after_truncate t n size stamp)
+pub IsTree-truncated : (t : FileTree) (n size stamp : ℕ) → IsTree t → IsFile t.shape n → size ≤ file_limit t.version → IsTree (tree_after_truncate t n size stamp)
 unfolding tree_after_truncate
-IsTree-truncated t n size stamp s is h = IsTreeBut-stamped None _ n stamp (IsTree-with_bytes t n _ s is (fits-resized (content t.shape n) size FILE_LIMIT h))
+IsTree-truncated t n size stamp s is h = IsTreeBut-stamped None _ n stamp (IsTree-with_bytes t n _ s is (fits-resized (content t.shape n) size (file_limit t.version) h))
 
 keeps-with_bytes : (t : FileTree) (n : ℕ) (bytes : List ℕ) (stamp : ℕ) → IsFile t.shape n → KeepsHeld t (tree_with_stamp (with_shape t (with_bytes t.shape n bytes)) n stamp)
 unfolding with_bytes
 keeps-with_bytes t n bytes stamp is =
     let new : FileTree = with_shape t (with_bytes t.shape n bytes) in
     KeepsHeld-then t new (tree_with_stamp new n stamp)
-    (KeepsHeld-with_shape t (with_bytes t.shape n bytes) (IsFile-with_file t.shape n bytes is) (IsDir-with_file t.shape n bytes is))
+    (KeepsHeld-with_shape t (with_bytes t.shape n bytes) (IsFile-with_file t.shape n bytes is) (IsDir-with_file t.shape n bytes is) (IsDevice-with_file t.shape n bytes is))
     (KeepsHeld-stamped new n stamp)
 
 pub keeps-written : (t : FileTree) (n off : ℕ) (bytes : List ℕ) (stamp : ℕ) → IsFile t.shape n → KeepsHeld t (tree_after_write t n off bytes stamp)
@@ -268,7 +273,7 @@ module _ (old new : Table) (w after : World) (n : ℕ) (inode : Inode) (stamp : 
       same_tree (with_bytes_at (with_trailing_zeros (content w.forest inode.real) off) off bytes) e
       ∙ ap (λ x. tree_with_stamp (with_shape (tree_of old w.forest) (with_bytes (shape_of old w.forest) n (with_bytes_at (with_trailing_zeros x off) off bytes))) n stamp) (sym (content-inode old w.forest s.mirrors.pairs n inode at))
 
-  pub stands-written : (off : ℕ) (bytes : List ℕ) → off + length bytes ≤ FILE_LIMIT → after ≡ with_padded_write w inode.real off bytes → Stands new after.forest
+  pub stands-written : (off : ℕ) (bytes : List ℕ) → off + length bytes ≤ file_limit old.version → after ≡ with_padded_write w inode.real off bytes → Stands new after.forest
   stands-written off bytes fits e = record {
     mirrors = mirrors after.forest (still (with_bytes_at (with_trailing_zeros (content w.forest inode.real) off) off bytes) e);
     tree = subst IsTree (sym (tree-written off bytes e)) (IsTree-written (tree_of old w.forest) n off bytes stamp s.tree is fits);
@@ -280,7 +285,7 @@ module _ (old new : Table) (w after : World) (n : ℕ) (inode : Inode) (stamp : 
       same_tree (with_length (content w.forest inode.real) size) e
       ∙ ap (λ x. tree_with_stamp (with_shape (tree_of old w.forest) (with_bytes (shape_of old w.forest) n (with_length x size))) n stamp) (sym (content-inode old w.forest s.mirrors.pairs n inode at))
 
-  pub stands-truncated : (size : ℕ) → size ≤ FILE_LIMIT → after ≡ with_size w inode.real size → Stands new after.forest
+  pub stands-truncated : (size : ℕ) → size ≤ file_limit old.version → after ≡ with_size w inode.real size → Stands new after.forest
   stands-truncated size fits e = record {
     mirrors = mirrors after.forest (still (with_length (content w.forest inode.real) size) e);
     tree = subst IsTree (sym (tree-truncated size e)) (IsTree-truncated (tree_of old w.forest) n size stamp s.tree is fits);

@@ -10,7 +10,7 @@ use Rattle.std.specs.Cmp.{nat_cmp_total}
 use Rattle.std.specs.Cmp.Lexicographic.{slice_cmp, nat_list_cmp_total}
 use Rattle.std.specs.FinMap.{FinMap, empty, find, is_sorted, entries, entries_sorted, get, get-entries, get-empty, same_map, nat_cmp-IsAntisymmetric}
 use Rattle.std.specs.FinMap.Entries.{below_all}
-use Rattle.dt_host.specs.World.{Forest, Node, Names, file, dir, link, node_at, dir_names, names_at, entry, with_node, without_entry, without_node, empty_forest, IsDir, IsLive, IsBare, IsNameless}
+use Rattle.dt_host.specs.World.{Forest, Node, Names, file, dir, link, device, node_at, dir_names, names_at, entry, with_node, without_entry, without_node, empty_forest, IsDir, IsLive, IsBare, IsNameless}
 use Rattle.dt_host.specs.World.{World, with_forest, without_pipe}
 use Rattle.dt_host.specs.Legal.{Forgets}
 use Rattle.dt_host.proofs.Spots.{at_node, IsDir-entry, IsLive-IsDir}
@@ -20,8 +20,9 @@ use Rattle.std.proofs.lemmas.Option.{same_Some}
 use Rattle.dt_tables.proofs.Conjuncts.{first, second}
 use Rattle.dt_tables.proofs.Maps.{at_insert, at_remove, names_tie}
 use Rattle.dt_tree.specs.declared.inode.Inode.{Inode}
+use Rattle.dt_base.specs.declared.image.Device as base
 use Rattle.dt_tree.specs.declared.inode.Kind.{Kind}
-use Rattle.dt_tree.specs.declared.inode.Kind.TheVariants.{File, Dir, Link}
+use Rattle.dt_tree.specs.declared.inode.Kind.TheVariants.{File, Dir, Link, Device}
 use Rattle.dt_tree.specs.declared.limits.TheConstants.{ROOT}
 use Rattle.dt_tree.specs.Table.{Table, real_of, vino_of, kind_of, renumbered_node, node_for, shape_of, Stands}
 use Rattle.dt_tree.specs.inner.Emptied.{AreEntries, Thins, HasKinds, IsLeft, IsForgotten, IsEmptied}
@@ -97,12 +98,14 @@ dir_kind None h = cc
 dir_kind (Some (file bytes)) h = cc
 dir_kind (Some (dir names)) h = refl
 dir_kind (Some (link target)) h = cc
+dir_kind (Some (device which)) h = cc
 
 kind_dir : (found : Option Node) → option_map kind_of found ≡ Some Dir → IsSome (option_and_then dir_names found)
 kind_dir None h = cc
 kind_dir (Some (file bytes)) h = cc
 kind_dir (Some (dir names)) h = refl
 kind_dir (Some (link target)) h = cc
+kind_dir (Some (device which)) h = cc
 
 pub Thins-unbound : (v : Forest) (d : ℕ) (name : List ℕ) → IsDir v d → Thins v (without_entry v d name)
 unfolding without_entry
@@ -126,9 +129,10 @@ dir-thinned v w d thins is = kind_dir (node_at v d) (sym (thins.kinds d) ∙ dir
 pub dir-of-kind : (t : Table) (v : Forest) (n : ℕ) (inode : Inode) → HasKinds t v → get t.inodes n ≡ Some inode → inode.kind ≡ Dir → IsDir v inode.real
 dir-of-kind t v n inode kinds there is = kind_dir (node_at v inode.real) (kinds n inode there ∙ ap Some is)
 
-pub not-dir : (kind : Kind) → (kind ≡ File) ⊎ (kind ≡ Link) → kind ≢ Dir
+pub not-dir : (kind : Kind) → (kind ≡ File) ⊎ ((kind ≡ Link) ⊎ ((which : base.Device) × (kind ≡ Device which))) → kind ≢ Dir
 not-dir kind (inl same) is = let e : File ≡ Dir = sym same ∙ is in cc
-not-dir kind (inr same) is = let e : Link ≡ Dir = sym same ∙ is in cc
+not-dir kind (inr (inl same)) is = let e : Link ≡ Dir = sym same ∙ is in cc
+not-dir kind (inr (inr other)) is = let e : Device other.0 ≡ Dir = sym other.1 ∙ is in cc
 
 -- what is no directory has no entries
 pub bare-of-kind : (t : Table) (v : Forest) (n : ℕ) (inode : Inode) → HasKinds t v → get t.inodes n ≡ Some inode → inode.kind ≢ Dir → IsBare v inode.real
@@ -148,6 +152,7 @@ same_kinds f None = refl
 same_kinds f (Some (file bytes)) = refl
 same_kinds f (Some (dir names)) = refl
 same_kinds f (Some (link target)) = refl
+same_kinds f (Some (device which)) = refl
 
 pub has-kinds : (t : Table) (v : Forest) → Stands t v → HasKinds t v
 has-kinds t v stands = λ n inode there.
@@ -325,5 +330,6 @@ root-left t n v past is = ap (λ nodes. record { nodes = nodes; root = v.root })
     root_node None e h = absurd (let x : false ≡ true = h in cc)
     root_node (Some (file bytes)) e h = absurd (let x : false ≡ true = h in cc)
     root_node (Some (link target)) e h = absurd (let x : false ≡ true = h in cc)
+    root_node (Some (device which)) e h = absurd (let x : false ≡ true = h in cc)
     root_node (Some (dir names)) e h = e ∙ ap (λ (m : Names). Some (dir m)) (same_map nat_list_cmp_total names_tie _ _ (λ name.
         ap (λ found. get (unwrap_or (option_and_then dir_names found) empty) name) (sym e) ∙ is.bare v.root name ∙ sym (get-empty (slice_cmp nat_cmp) name)))

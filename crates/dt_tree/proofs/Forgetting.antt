@@ -4,7 +4,7 @@ use Rattle.std.specs.Prelude.{IsSome, is_some, unwrap_or, option_map, option_and
 use Rattle.std.specs.Cmp.{nat_cmp_total}
 use Rattle.std.specs.Cmp.Lexicographic.{nat_list_cmp_total}
 use Rattle.std.specs.FinMap.{empty, get, remove, same_map, nat_cmp-IsAntisymmetric}
-use Rattle.dt_host.specs.World.{Forest, Node, file, dir, link, node_at, dir_names, names_at, entry, without_node, IsLive, IsBare, IsNameless}
+use Rattle.dt_host.specs.World.{Forest, Node, file, dir, link, device, node_at, dir_names, names_at, entry, without_node, IsLive, IsBare, IsNameless}
 use Rattle.dt_tables.proofs.Maps.{at_remove, names_tie, get-remove_same, get-remove_other}
 use Rattle.dt_tree.specs.declared.inode.Inode.{Inode}
 use Rattle.dt_tree.specs.Shape.{name_count_of, name_count}
@@ -62,6 +62,7 @@ module _ (t : Table) (v : Forest) (m : ℕ) (old : Inode) (s : IsMirror t v) (at
   same_numbers other n at None e = refl
   same_numbers other n at (Some (file bytes)) e = refl
   same_numbers other n at (Some (link target)) e = refl
+  same_numbers other n at (Some (device which)) e = refl
   same_numbers other n at (Some (dir names)) e = ap dir (map_values-alike nat_list_cmp_total (vino_of (without_inode t m old.real)) names_tie (vino_of t) names
       (λ name real there. ap (λ found. unwrap_or found 0) (get-remove_other nat_cmp_total nat_cmp-IsAntisymmetric t.by_real old.real real (λ same. real_nameless other.real name (ap (λ found. get (unwrap_or (option_and_then dir_names found) empty) name) e ∙ there ∙ ap Some same))))
       (get-map_values nat_list_cmp_total (vino_of t) names))
@@ -82,7 +83,7 @@ module _ (t : Table) (v : Forest) (m : ℕ) (old : Inode) (s : IsMirror t v) (at
           ∙ ap Some (same_numbers other q e (node_at v other.real) refl)
 
   pub tree-without : tree_of (without_inode t m old.real) (without_node v old.real) ≡ tree_without (tree_of t v) m
-  tree-without = let shape = shape-without in let attributes = map_values-remove nat_cmp_total attributes_of nat_cmp-IsAntisymmetric t.inodes m in λ i. record { shape = shape i; attributes = attributes i; next = t.next }
+  tree-without = let shape = shape-without in let attributes = map_values-remove nat_cmp_total attributes_of nat_cmp-IsAntisymmetric t.inodes m in λ i. record { shape = shape i; attributes = attributes i; next = t.next; version = t.version }
 
   pub mirrors-without : IsMirror (without_inode t m old.real) (without_node v old.real)
   mirrors-without = record {

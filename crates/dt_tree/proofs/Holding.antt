@@ -4,9 +4,9 @@ use Rattle.std.proofs.lemmas.Bool.{cases_eq}
 use Rattle.std.specs.Prelude.{IsSome, is_some, unwrap_or, option_map}
 use Rattle.std.specs.Cmp.{nat_cmp_total}
 use Rattle.std.specs.FinMap.{get, nat_cmp-IsAntisymmetric}
-use Rattle.dt_host.specs.World.{Forest, Node, node_at, without_node, IsDir, IsFile, IsLive, IsBare}
+use Rattle.dt_host.specs.World.{Forest, Node, node_at, without_node, IsDir, IsFile, IsLive, IsBare, IsDevice}
 use Rattle.dt_tables.proofs.Maps.{get-remove_same, get-remove_other}
-use Rattle.dt_host.proofs.Gone.{IsFile-without_node, IsDir-without_node}
+use Rattle.dt_host.proofs.Gone.{IsFile-without_node, IsDir-without_node, IsDevice-without_node}
 use Rattle.dt_tree.specs.Shape.{one_for}
 use Rattle.dt_tree.specs.FileTree.{Attributes, FileTree, holds_of, IsTree, IsTreeBut}
 use Rattle.dt_tree.specs.Changes.{with_shape, with_attributes, attributes_with_hold, attributes_without_hold, with_stamp, tree_with_stamp, is_unused, tree_without, without_unused, without_unused_found, tree_after_hold, tree_after_release}
@@ -15,13 +15,14 @@ use Rattle.dt_tree.proofs.Namings.{one_for-same, one_for-other}
 use Rattle.dt_tree.proofs.Changing.{at_attributes, shape-with_attributes, holds-same, unused_node, unused_held, swept-goes, at_swept, IsTreeBut-released}
 
 pub KeepsHeld-same : (t : FileTree) → KeepsHeld t t
-KeepsHeld-same t = record { holds = λ n. refl; files = λ n _ is. is; dirs = λ n _ is. is }
+KeepsHeld-same t = record { holds = λ n. refl; files = λ n _ is. is; dirs = λ n _ is. is; devices = λ n _ is. is }
 
 pub KeepsHeld-then : (a b c : FileTree) → KeepsHeld a b → KeepsHeld b c → KeepsHeld a c
 KeepsHeld-then a b c p q = record {
   holds = λ n. q.holds n ∙ p.holds n;
   files = λ n some is. q.files n (subst (λ h. 1 ≤ h) (sym (p.holds n)) some) (p.files n some is);
   dirs = λ n some is. q.dirs n (subst (λ h. 1 ≤ h) (sym (p.holds n)) some) (p.dirs n some is);
+  devices = λ n some is. q.devices n (subst (λ h. 1 ≤ h) (sym (p.holds n)) some) (p.devices n some is);
 }
 
 -- other attributes, with the same holds
@@ -30,14 +31,15 @@ KeepsHeld-with_attributes t k f same = record {
   holds = holds-same t k f same;
   files = λ n _ is. subst (λ v. IsFile v n) (sym (shape-with_attributes t k f)) is;
   dirs = λ n _ is. subst (λ v. IsDir v n) (sym (shape-with_attributes t k f)) is;
+  devices = λ n _ is. subst (λ v. IsDevice v n) (sym (shape-with_attributes t k f)) is;
 }
 
 pub KeepsHeld-stamped : (t : FileTree) (k stamp : ℕ) → KeepsHeld t (tree_with_stamp t k stamp)
 KeepsHeld-stamped t k stamp = KeepsHeld-with_attributes t k (with_stamp stamp) (λ a. refl)
 
--- a shape with the same files and directories
-pub KeepsHeld-with_shape : (t : FileTree) (w : Forest) → ((n : ℕ) → IsFile t.shape n → IsFile w n) → ((n : ℕ) → IsDir t.shape n → IsDir w n) → KeepsHeld t (with_shape t w)
-KeepsHeld-with_shape t w files dirs = record { holds = λ n. refl; files = λ n _ is. files n is; dirs = λ n _ is. dirs n is }
+-- a shape with the same files, directories and devices
+pub KeepsHeld-with_shape : (t : FileTree) (w : Forest) → ((n : ℕ) → IsFile t.shape n → IsFile w n) → ((n : ℕ) → IsDir t.shape n → IsDir w n) → ((n : ℕ) → IsDevice t.shape n → IsDevice w n) → KeepsHeld t (with_shape t w)
+KeepsHeld-with_shape t w files dirs devices = record { holds = λ n. refl; files = λ n _ is. files n is; dirs = λ n _ is. dirs n is; devices = λ n _ is. devices n is }
 
 -- without a node nothing holds it
 holds-gone : (t : FileTree) (n : ℕ) → holds_of (tree_without t n) n ≡ 0
@@ -61,6 +63,7 @@ KeepsHeld-swept t n s = at_swept (λ t2. KeepsHeld t t2) t n gone (λ _. KeepsHe
           ];
           files = λ q some is. IsFile-without_node t.shape n bare q (λ same. let at = ap (holds_of t) same in absurd (omega arith)) is;
           dirs = λ q some is. IsDir-without_node t.shape n bare q (λ same. let at = ap (holds_of t) same in absurd (omega arith)) is;
+          devices = λ q some is. IsDevice-without_node t.shape n bare q (λ same. let at = ap (holds_of t) same in absurd (omega arith)) is;
         }
 
 pub KeepsHeld-swept_found : (t : FileTree) (found : Option ℕ) → IsTreeBut found t → KeepsHeld t (without_unused_found found t)
@@ -133,3 +136,6 @@ module _ (t : FileTree) (n : ℕ) where
 
   pub IsDir-released : IsTree t → (q : ℕ) → (q ≡ n → 1 ≤ holds_of (tree_after_release t n) q) → IsDir t.shape q → (let new = tree_after_release t n in IsDir new.shape q)
   IsDir-released = kept IsDir (λ v bare q apart is. IsDir-without_node v n bare q apart is)
+
+  pub IsDevice-released : IsTree t → (q : ℕ) → (q ≡ n → 1 ≤ holds_of (tree_after_release t n) q) → IsDevice t.shape q → (let new = tree_after_release t n in IsDevice new.shape q)
+  IsDevice-released = kept IsDevice (λ v bare q apart is. IsDevice-without_node v n bare q apart is)

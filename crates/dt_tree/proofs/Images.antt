@@ -16,7 +16,8 @@ use Rattle.std.specs.Cmp.Lexicographic.{slice_cmp, nat_list_cmp_total}
 use Rattle.std.specs.FinMap.{empty, get, insert, find, from_entries, from_entries_push, get-from_entries, get-empty, same_map, nat_cmp-IsAntisymmetric}
 use Rattle.dt_base.specs.declared.image.Entry.{Entry}
 use Rattle.dt_base.specs.declared.image.What.{What}
-use Rattle.dt_base.specs.declared.image.What.TheVariants.{File, Dir, Link}
+use Rattle.dt_base.specs.declared.image.What.TheVariants.{File, Dir, Link, Dev}
+use Rattle.dt_base.specs.Image.{ImageParts}
 use Rattle.dt_base.specs.Path.{is_path, parent_of}
 use Rattle.dt_host.specs.World.{dir, dir_names, names_at, with_node, with_entry}
 use Rattle.dt_tables.proofs.MapOf.{equal_if}
@@ -133,6 +134,10 @@ no_place name path a (x ∷ xs) h = by_test (bytes_eq (parent_of x.path) path) r
     by_test true e rest = by_name (is_eq (slice_cmp nat_cmp name (last_name x.path))) refl ((bytes_eq-Decides (parent_of x.path) path).0 e) rest
     by_test false e rest = rest
 
+-- the image of that version with these entries
+abbrev pub image_of : ℕ → List Entry → ImageParts
+image_of version entries = record { version = version; entries = entries }
+
 -- an inode is that of the directory at a path
 abbrev pub IsInodeAt : List Entry → List ℕ → ℕ → Type 0
 IsInodeAt es path n = ((path ≡ []) × (n ≡ 1)) ⊎ ((j : ℕ) × (x : Entry) × (slice_get es j ≡ Some x) × (x.what ≡ Dir) × (x.path ≡ path) × (n ≡ 2 + j))
@@ -185,6 +190,7 @@ module _ (es : List Entry) (e : Entry) (d : ℕ)
   node_new (File bytes) = refl
   node_new Dir = ap dir bare
   node_new (Link target) = refl
+  node_new (Dev which) = refl
 
   -- its directory is there
   pub node_d : get (image_nodes es) d ≡ Some (dir (names_below es (parent_of e.path)))
@@ -235,6 +241,7 @@ module _ (es : List Entry) (e : Entry) (d : ℕ)
       by_what x here (File bytes) = refl
       by_what x here Dir = ap dir (no_more x.path (λ same. by_place x here same at_d))
       by_what x here (Link target) = refl
+      by_what x here (Dev which) = refl
 
       by_entry : (found : Option Entry) → slice_get es k ≡ found → option_map (λ x. node_of (es ++ e ∷ []) x.path x.what) (slice_get (es ++ e ∷ []) k) ≡ option_map (λ x. node_of es x.path x.what) (slice_get es k)
       by_entry None at = ap (option_map (λ x. node_of (es ++ e ∷ []) x.path x.what)) (get_past es e k at (λ same. other (omega arith))) ∙ sym (ap (option_map (λ x. node_of es x.path x.what)) at)
@@ -265,16 +272,16 @@ module _ (es : List Entry) (e : Entry) (d : ℕ)
       (λ is. ap (get (image_attributes (es ++ e ∷ []))) is ∙ attributes_at (es ++ e ∷ []) (length es) (2 + length es) refl ∙ ap (option_map (λ (x : Entry). start_attributes x.mode)) (get_last es e))
       (λ other. attributes_same q other))
 
-  names_first : names_at (with_node (image_tree es).shape (2 + length es) (new_node e.what)) d ≡ names_below es (parent_of e.path)
+  names_first : names_at (with_node (record { nodes = image_nodes es; root = 1 }) (2 + length es) (new_node e.what)) d ≡ names_below es (parent_of e.path)
   unfolding names_at
-  names_first = ap (λ found. unwrap_or (option_and_then dir_names found) empty) (node_at-with_node_other (image_tree es).shape (2 + length es) (new_node e.what) d d_low ∙ node_d)
+  names_first = ap (λ found. unwrap_or (option_and_then dir_names found) empty) (node_at-with_node_other (record { nodes = image_nodes es; root = 1 }) (2 + length es) (new_node e.what) d d_low ∙ node_d)
 
   -- the tree with one entry more is the tree in which its node was created
-  pub image_more : image_tree (es ++ e ∷ []) ≡ tree_with_new (image_tree es) d (last_name e.path) (new_node e.what) e.mode 0
+  pub image_more : (version : ℕ) → image_tree (image_of version (es ++ e ∷ [])) ≡ tree_with_new (image_tree (image_of version es)) d (last_name e.path) (new_node e.what) e.mode 0
   unfolding tree_with_new with_entry
-  image_more =
+  image_more version =
       let nodes = nodes_more ∙ ap (λ names. insert (insert (image_nodes es) (2 + length es) (new_node e.what)) d (dir (insert names (last_name e.path) (2 + length es)))) (sym names_first) in
       let attributes = attributes_more in
       let size = length-append es (e ∷ []) in
       let next : 2 + length (es ++ e ∷ []) ≡ 2 + length es + 1 = omega arith in
-      λ i. record { shape = record { nodes = nodes i; root = 1 }; attributes = attributes i; next = next i }
+      λ i. record { shape = record { nodes = nodes i; root = 1 }; attributes = attributes i; next = next i; version = version }

@@ -15,7 +15,7 @@ use Rattle.std.specs.Cmp.Lexicographic.{slice_cmp, nat_list_cmp_total}
 use Rattle.std.specs.FinMap.{empty, get, len}
 use Rattle.dt_base.specs.declared.image.Entry.{Entry}
 use Rattle.dt_base.specs.declared.image.What.{What}
-use Rattle.dt_base.specs.declared.image.What.TheVariants.{File, Dir, Link}
+use Rattle.dt_base.specs.declared.image.What.TheVariants.{File, Dir, Link, Dev}
 use Rattle.dt_base.specs.declared.limits.TheConstants.{ENTRY_LIMIT}
 use Rattle.dt_base.specs.Path.{is_path, is_top, parent_of}
 use Rattle.dt_base.specs.Image.{is_good_what, is_good_entry, is_dir, is_dir_at, has_parent, IsImage}
@@ -30,22 +30,23 @@ use Rattle.dt_tree.specs.inner.Places.{IsInodeOfPath}
 use Rattle.dt_tree.proofs.Shapes.{itself}
 use Rattle.dt_tree.proofs.Paths.{begins, parent_before, last_good, top_parent}
 use Rattle.dt_tree.proofs.Entries.{Before, all_at, any_index, taken, still_taken, take_next, rises, one_index, lower}
-use Rattle.dt_tree.proofs.Images.{IsInodeAt, node_d, free, not_held, image_more}
+use Rattle.dt_tree.proofs.Images.{image_of, IsInodeAt, node_d, free, not_held, image_more}
 
 dir_only : (what : What) → is_dir what ≡ true → what ≡ Dir
 dir_only (File bytes) e = cc
 dir_only Dir e = refl
 dir_only (Link target) e = cc
+dir_only (Dev which) e = cc
 
-module _ (entries : List Entry) (is : IsImage entries) (i : ℕ) (e : Entry) (at : slice_get entries i ≡ Some e) where
-  good_parts : (is_path e.path ≡ true) × (is_good_what e.what e.mode ≡ true)
-  good_parts = and_parts (is_path e.path) (is_good_what e.what e.mode) (all_at is_good_entry entries i e is.good at)
+module _ (version : ℕ) (entries : List Entry) (is : IsImage (image_of version entries)) (i : ℕ) (e : Entry) (at : slice_get entries i ≡ Some e) where
+  good_parts : (is_path e.path ≡ true) × (is_good_what version e.what e.mode ≡ true)
+  good_parts = and_parts (is_path e.path) (is_good_what version e.what e.mode) (all_at (is_good_entry version) entries i e is.good at)
 
   low : i < ENTRY_LIMIT
   low = let within = slice_get_within entries i e at in let few = is.few in omega arith
 
   good_path_at : (k : ℕ) (x : Entry) → slice_get entries k ≡ Some x → is_path x.path ≡ true
-  good_path_at k x at_k = (and_parts (is_path x.path) (is_good_what x.what x.mode) (all_at is_good_entry entries k x is.good at_k)).0
+  good_path_at k x at_k = (and_parts (is_path x.path) (is_good_what version x.what x.mode) (all_at (is_good_entry version) entries k x is.good at_k)).0
 
   paths : (k : ℕ) (x : Entry) → slice_get (take i entries) k ≡ Some x → IsTrue (is_path x.path)
   paths k x at_k = good_path_at k x (taken entries i k x at_k).0
@@ -73,56 +74,56 @@ module _ (entries : List Entry) (is : IsImage entries) (i : ℕ) (e : Entry) (at
         by_top true top h = let none = top_parent e.path good_parts.0 top in inl (none, leads.root none)
         by_top false top h = by_parent (any_index (is_dir_at (parent_of e.path)) entries h)
 
-    there : node_at (image_tree (take i entries)).shape n ≡ Some (dir (names_below (take i entries) (parent_of e.path)))
+    there : node_at (image_tree (image_of version (take i entries))).shape n ≡ Some (dir (names_below (take i entries) (parent_of e.path)))
     there = node_d (take i entries) e n place paths once before good_parts.0
 
-    is_dir_there : IsDir (image_tree (take i entries)).shape n
+    is_dir_there : IsDir (image_tree (image_of version (take i entries))).shape n
     is_dir_there = subst (λ found. IsSome (option_and_then dir_names found)) (sym there) refl
 
-    under : IsTree (image_tree (take i entries)) → IsUnder (image_tree (take i entries)).shape n
+    under : IsTree (image_tree (image_of version (take i entries))) → IsUnder (image_tree (image_of version (take i entries))).shape n
     under s = by_place (s.shaped.placed n is_dir_there)
       where
         some_there : (found : Option Node) → found ≡ Some (dir (names_below (take i entries) (parent_of e.path))) → IsSome found
         some_there None h = cc
         some_there (Some x) h = refl
 
-        by_place : IsUnder (image_tree (take i entries)).shape n ⊎ IsRemoved (image_tree (take i entries)).shape n → IsUnder (image_tree (take i entries)).shape n
+        by_place : IsUnder (image_tree (image_of version (take i entries))).shape n ⊎ IsRemoved (image_tree (image_of version (take i entries))).shape n → IsUnder (image_tree (image_of version (take i entries))).shape n
         by_place (inl u) = u
         by_place (inr r) = elim (cases_eq n 1) [
-          | inl top ↦ subst (λ x. IsUnder (image_tree (take i entries)).shape x) (sym top) (itself (image_tree (take i entries)).shape 1)
+          | inl top ↦ subst (λ x. IsUnder (image_tree (image_of version (take i entries))).shape x) (sym top) (itself (image_tree (image_of version (take i entries))).shape 1)
           | inr apart ↦
-              let used = s.used n (some_there (node_at (image_tree (take i entries)).shape n) there) apart (λ h. cc) in
+              let used = s.used n (some_there (node_at (image_tree (image_of version (take i entries))).shape n) there) apart (λ h. cc) in
               let none = not_held (take i entries) n in
               let nameless = r.nameless in
               absurd (omega arith)
         ]
 
-    name_free : entry (image_tree (take i entries)).shape n (last_name e.path) ≡ None
+    name_free : entry (image_tree (image_of version (take i entries))).shape n (last_name e.path) ≡ None
     unfolding entry names_at
     name_free = ap (λ found. get (unwrap_or (option_and_then dir_names found) empty) (last_name e.path)) there ∙ free (take i entries) e n place paths once before good_parts.0
 
-    pub may : (t : FileTree) → t ≡ image_tree (take i entries) → IsTree t → len t.shape.nodes ≡ i + 1 → MayCreate t n (last_name e.path) e.what e.mode
+    pub may : (t : FileTree) → t ≡ image_tree (image_of version (take i entries)) → IsTree t → len t.shape.nodes ≡ i + 1 → MayCreate t n (last_name e.path) e.what e.mode
     may t same s nodes = record {
       is_dir = subst (λ (t : FileTree). IsDir t.shape n) (sym same) is_dir_there;
       under = subst (λ (t : FileTree). IsUnder t.shape n) (sym same) (under (subst IsTree same s));
       free = subst (λ (t : FileTree). entry t.shape n (last_name e.path) ≡ None) (sym same) name_free;
       named = last_good e.path good_parts.0;
-      good = good_parts.1;
+      good = subst (λ (t : FileTree). IsTrue (is_good_what t.version e.what e.mode)) (sym same) good_parts.1;
       room = omega (arith, low);
     }
 
-    pub more : image_tree (take (i + 1) entries) ≡ tree_with_new (image_tree (take i entries)) n (last_name e.path) (new_node e.what) e.mode 0
-    more = ap image_tree (take_next entries i e at) ∙ image_more (take i entries) e n place paths once before good_parts.0
+    pub more : image_tree (image_of version (take (i + 1) entries)) ≡ tree_with_new (image_tree (image_of version (take i entries))) n (last_name e.path) (new_node e.what) e.mode 0
+    more = ap (λ some. image_tree (image_of version some)) (take_next entries i e at) ∙ image_more (take i entries) e n place paths once before good_parts.0 version
 
 -- a search by paths
-some_path : (entries : List Entry) → IsImage entries → (path : List ℕ) → length path ≡ 0 → (k : ℕ) (x : Entry) → slice_get entries k ≡ Some x → x.path ≡ path → ⊥
-some_path entries is path none k x at same =
-    let first = begins x.path (and_parts (is_path x.path) (is_good_what x.what x.mode) (all_at is_good_entry entries k x is.good at)).0 in
+some_path : (version : ℕ) (entries : List Entry) → IsImage (image_of version entries) → (path : List ℕ) → length path ≡ 0 → (k : ℕ) (x : Entry) → slice_get entries k ≡ Some x → x.path ≡ path → ⊥
+some_path version entries is path none k x at same =
+    let first = begins x.path (and_parts (is_path x.path) (is_good_what version x.what x.mode) (all_at (is_good_entry version) entries k x is.good at)).0 in
     let size = ap length (sym same ∙ first.1) in
     omega arith
 
-pub leads_root : (entries : List Entry) → IsImage entries → (path : List ℕ) → length path ≡ 0 → IsInodeOfPath entries path 1
-leads_root entries is path none = record { root = λ _. refl; entry = λ k x at same. absurd (some_path entries is path none k x at same) }
+pub leads_root : (version : ℕ) (entries : List Entry) → IsImage (image_of version entries) → (path : List ℕ) → length path ≡ 0 → IsInodeOfPath entries path 1
+leads_root version entries is path none = record { root = λ _. refl; entry = λ k x at same. absurd (some_path version entries is path none k x at same) }
 
 goes_up : (a b path : List ℕ) (r : Ordering) → slice_cmp nat_cmp a b ≡ Less → slice_cmp nat_cmp b path ≡ r → ordering_index (slice_cmp nat_cmp a path) ≤ ordering_index r
 goes_up a b path Less low e = let less = ap ordering_index (nat_list_cmp_total.trans a b path low e) in omega arith
@@ -134,7 +135,7 @@ goes_up a b path Greater low e = most (slice_cmp nat_cmp a path)
     most Equal = omega arith
     most Greater = omega arith
 
-module _ (entries : List Entry) (is : IsImage entries) (path : List ℕ) (some : 0 < length path) where
+module _ (version : ℕ) (entries : List Entry) (is : IsImage (image_of version entries)) (path : List ℕ) (some : 0 < length path) where
   not_root : path ≡ [] → ⊥
   not_root none = let size = ap length none in omega arith
 

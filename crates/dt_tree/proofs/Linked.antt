@@ -3,7 +3,7 @@ use Rattle.std.proofs.Common.{arith, ◌≡◌, ◌≢◌, ℕ, ◌+◌, ◌-◌
 use Rattle.std.specs.Prelude.{not, ◌&&◌, ◌==◌, IsSome, is_some, unwrap_or, option_map, option_and_then}
 use Rattle.std.specs.Cmp.{nat_cmp_total}
 use Rattle.std.specs.FinMap.{get, insert, nat_cmp-IsAntisymmetric}
-use Rattle.dt_host.specs.World.{Forest, Node, Names, file, dir, link, node_at, dir_names, entry, with_node, with_entry, without_entry, IsDir, IsLive}
+use Rattle.dt_host.specs.World.{Forest, Node, Names, file, dir, link, device, node_at, dir_names, entry, with_node, with_entry, without_entry, IsDir, IsLive}
 use Rattle.dt_tables.specs.inner.Weight.{weight}
 use Rattle.dt_tables.specs.Values.{map_values}
 use Rattle.dt_tables.proofs.Found.{not_both}
@@ -29,12 +29,14 @@ dir_kind None e = cc
 dir_kind (Some (file bytes)) e = cc
 dir_kind (Some (dir names)) e = refl
 dir_kind (Some (link target)) e = cc
+dir_kind (Some (device which)) e = cc
 
 pub kind_dir : (found : Option Node) → IsSome (option_and_then dir_names found) → option_map kind_of found ≡ Some Dir
 kind_dir None e = cc
 kind_dir (Some (file bytes)) e = cc
 kind_dir (Some (dir names)) e = refl
 kind_dir (Some (link target)) e = cc
+kind_dir (Some (device which)) e = cc
 
 -- a directory changed in place leaves the kinds
 kind-with_node : (v : Forest) (d : ℕ) (names : Names) → IsDir v d → (q : ℕ) → option_map kind_of (node_at (with_node v d (dir names)) q) ≡ option_map kind_of (node_at v q)
@@ -97,7 +99,7 @@ attributes-changed t m old new f there same =
 module _ (t : Table) (v : Forest) (m : ℕ) (old new : Inode) (f : Attributes → Attributes) (s : IsMirror t v) (there : get t.inodes m ≡ Some old) (changed : attributes_of new ≡ f (attributes_of old)) (real : new.real ≡ old.real) (kind : new.kind ≡ old.kind) (names : new.names ≡ old.names) (up : new.up ≡ old.up) where
   pub tree-changed : tree_of (with_inode t m new) v ≡ with_attributes (tree_of t v) m f
   unfolding with_attributes
-  tree-changed = let shape = shape-with_inode t v m old new there real in let attributes = attributes-changed t m old new f there changed in λ i. record { shape = shape i; attributes = attributes i; next = t.next }
+  tree-changed = let shape = shape-with_inode t v m old new there real in let attributes = attributes-changed t m old new f there changed in λ i. record { shape = shape i; attributes = attributes i; next = t.next; version = t.version }
 
   pub mirrors-changed : IsMirror (with_inode t m new) v
   mirrors-changed = record {
@@ -126,7 +128,7 @@ module _ (t : Table) (v : Forest) (d m : ℕ) (above old : Inode) (name : List �
       ∙ ap (λ found. with_entry (shape_of t v) d name (unwrap_or found 0)) (s.pairs.forth m old at_m)
 
   pub tree-named : tree_of (with_names (with_inode t m (record old { names = old.names + 1; up = Some d })) (t.names + 1)) (with_entry v above.real name old.real) ≡ with_shape (tree_of t v) (with_entry (shape_of t v) d name m)
-  tree-named = let attributes = attributes-same t m old (record old { names = old.names + 1; up = Some d }) at_m refl in let shape = shape-named in λ i. record { shape = shape i; attributes = attributes i; next = t.next }
+  tree-named = let attributes = attributes-same t m old (record old { names = old.names + 1; up = Some d }) at_m refl in let shape = shape-named in λ i. record { shape = shape i; attributes = attributes i; next = t.next; version = t.version }
 
   stays : (q n : ℕ) (c : List ℕ) → entry (shape_of t v) q c ≡ Some n → entry (with_entry (shape_of t v) d name m) q c ≡ Some n
   stays q n c e = at_with_entry (shape_of t v) d name m (λ found. found ≡ Some n) q c (λ same alike. absurd (not_both (entry (shape_of t v) q c) n (ap (λ x. entry (shape_of t v) x c) same ∙ ap (entry (shape_of t v) d) alike ∙ free) e)) (λ _. e)
@@ -176,7 +178,7 @@ module _ (t : Table) (v : Forest) (d m : ℕ) (above old : Inode) (name : List �
       ∙ shape-without_entry t v s.pairs d above name at_d
 
   pub tree-unnamed : tree_of (with_names (with_inode t m (record old { names = old.names - 1; up = None })) (t.names - 1)) (without_entry v above.real name) ≡ with_shape (tree_of t v) (without_entry (shape_of t v) d name)
-  tree-unnamed = let attributes = attributes-same t m old (record old { names = old.names - 1; up = None }) at_m refl in let shape = shape-unnamed in λ i. record { shape = shape i; attributes = attributes i; next = t.next }
+  tree-unnamed = let attributes = attributes-same t m old (record old { names = old.names - 1; up = None }) at_m refl in let shape = shape-unnamed in λ i. record { shape = shape i; attributes = attributes i; next = t.next; version = t.version }
 
   one_less : (n : ℕ) → name_count_of (without_entry (shape_of t v) d name) n + one_for n m ≡ name_count_of (shape_of t v) n
   one_less n = let sum = names_of-without_entry (shape_of t v) d n name in let one = ap (weight (one_for n)) here in omega arith

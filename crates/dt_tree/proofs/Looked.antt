@@ -3,12 +3,13 @@ use Rattle.std.proofs.Common.{◌≡◌, ℕ, ◌+◌, List, [], length, cond, t
 use Rattle.std.specs.Prelude.{IsSome, is_some, unwrap_or, option_map, option_and_then, IfSome}
 use Rattle.std.specs.Cmp.{nat_cmp_total}
 use Rattle.std.specs.FinMap.{get}
-use Rattle.dt_host.specs.World.{Forest, Node, file, dir, link, node_at, dir_names, dir_at, link_target, target_at, file_bytes, file_at, IsDir, IsLink, content}
+use Rattle.dt_base.specs.declared.image.Device as base
+use Rattle.dt_host.specs.World.{Forest, Node, file, dir, link, device, node_at, dir_names, dir_at, link_target, target_at, node_device, device_at, file_bytes, file_at, IsDir, IsLink, content}
 use Rattle.dt_tables.specs.Values.{map_values}
 use Rattle.dt_tables.proofs.Found.{some_true}
 use Rattle.dt_tables.proofs.Valued.{get-map_values}
 use Rattle.dt_tree.specs.declared.inode.Kind.{Kind}
-use Rattle.dt_tree.specs.declared.inode.Kind.TheVariants.{File, Dir, Link}
+use Rattle.dt_tree.specs.declared.inode.Kind.TheVariants.{File, Dir, Link, Device}
 use Rattle.dt_tree.specs.declared.inode.Inode.{Inode}
 use Rattle.dt_tree.specs.declared.limits.TheConstants.{DIR_SIZE}
 use Rattle.dt_tree.specs.Shape.{name_count_of, is_dir, is_link, is_removed}
@@ -16,7 +17,7 @@ use Rattle.dt_tree.specs.Listing.{type_of, type_at}
 use Rattle.dt_tree.specs.FileTree.{Attributes}
 use Rattle.dt_tree.specs.declared.meta.Meta.{Meta}
 use Rattle.dt_tree.specs.Meta.{node_size, nlink_of, subdirectory_count, meta_of}
-use Rattle.dt_tree.specs.Table.{Table, node_for, attributes_of, shape_of, tree_of, kind_of, IsMirror, IsPairing}
+use Rattle.dt_tree.specs.Table.{Table, node_for, attributes_of, shape_of, tree_of, kind_of, device_of_kind, IsMirror, IsPairing}
 use Rattle.dt_tree.specs.inner.Kinds.{type_for}
 use Rattle.dt_tree.proofs.Mirroring.{node_at-shape, target_at-inode, file_at-inode}
 
@@ -30,6 +31,9 @@ is_dir-none t v n e = sym (ap (λ found. is_some (option_and_then dir_names foun
 pub is_link-none : (t : Table) (v : Forest) (n : ℕ) → get t.inodes n ≡ None → false ≡ is_link (shape_of t v) n
 is_link-none t v n e = sym (ap (λ found. is_some (option_and_then link_target found)) (none_at t v n e))
 
+pub device_at-none : (t : Table) (v : Forest) (n : ℕ) → get t.inodes n ≡ None → None ≡ device_at (shape_of t v) n
+device_at-none t v n e = sym (ap (option_and_then node_device) (none_at t v n e))
+
 pub type_at-none : (t : Table) (v : Forest) (n : ℕ) → get t.inodes n ≡ None → 0 ≡ type_at (shape_of t v) n
 type_at-none t v n e = sym (ap (λ found. unwrap_or (option_map type_of found) 0) (none_at t v n e))
 
@@ -38,10 +42,21 @@ type_by None kind e = cc
 type_by (Some (file bytes)) kind e = let same : File ≡ kind = cc in ap (λ k. Some (type_for k)) same
 type_by (Some (dir names)) kind e = let same : Dir ≡ kind = cc in ap (λ k. Some (type_for k)) same
 type_by (Some (link target)) kind e = let same : Link ≡ kind = cc in ap (λ k. Some (type_for k)) same
+type_by (Some (device which)) kind e = let same : Device which ≡ kind = cc in ap (λ k. Some (type_for k)) same
+
+device_by : (found : Option Node) (kind : Kind) → option_map kind_of found ≡ Some kind → option_and_then node_device found ≡ device_of_kind kind
+device_by None kind e = cc
+device_by (Some (file bytes)) kind e = let same : File ≡ kind = cc in ap device_of_kind same
+device_by (Some (dir names)) kind e = let same : Dir ≡ kind = cc in ap device_of_kind same
+device_by (Some (link target)) kind e = let same : Link ≡ kind = cc in ap device_of_kind same
+device_by (Some (device which)) kind e = let same : Device which ≡ kind = cc in ap device_of_kind same
 
 module _ (t : Table) (v : Forest) (s : IsMirror t v) (n : ℕ) (inode : Inode) (at : get t.inodes n ≡ Some inode) where
   pub type_at-some : type_for inode.kind ≡ type_at (shape_of t v) n
   type_at-some = sym (ap (λ found. unwrap_or found 0) (type_by (node_at (shape_of t v) n) inode.kind (s.kept n inode at).kind))
+
+  pub device_at-some : device_of_kind inode.kind ≡ device_at (shape_of t v) n
+  device_at-some = sym (device_by (node_at (shape_of t v) n) inode.kind (s.kept n inode at).kind)
 
   -- a node of each kind
   pub kept_file : inode.kind ≡ File → (bytes : List ℕ) × (node_at (shape_of t v) n ≡ Some (file bytes)) × (file_at v inode.real ≡ Some bytes)
@@ -52,6 +67,7 @@ module _ (t : Table) (v : Forest) (s : IsMirror t v) (n : ℕ) (inode : Inode) (
       by_node (Some (file bytes)) e h = (bytes, e, sym (file_at-inode t v s.pairs n inode at) ∙ ap (option_and_then file_bytes) e)
       by_node (Some (dir names)) e h = cc
       by_node (Some (link target)) e h = cc
+      by_node (Some (device which)) e h = cc
 
   pub kept_link : inode.kind ≡ Link → (target : List ℕ) × (node_at (shape_of t v) n ≡ Some (link target)) × (target_at v inode.real ≡ Some target)
   kept_link is = by_node (node_at (shape_of t v) n) refl ((s.kept n inode at).kind ∙ ap Some is)
@@ -61,6 +77,7 @@ module _ (t : Table) (v : Forest) (s : IsMirror t v) (n : ℕ) (inode : Inode) (
       by_node (Some (file bytes)) e h = cc
       by_node (Some (dir names)) e h = cc
       by_node (Some (link target)) e h = (target, e, sym (target_at-inode t v s.pairs n inode at) ∙ ap (option_and_then link_target) e)
+      by_node (Some (device which)) e h = cc
 
   pub size-file : inode.kind ≡ File → (size : ℕ) → IfSome (file_at v inode.real) (λ bytes. size ≡ length bytes) → option_map node_size (node_at (shape_of t v) n) ≡ Some size
   size-file is size h =
@@ -76,6 +93,17 @@ module _ (t : Table) (v : Forest) (s : IsMirror t v) (n : ℕ) (inode : Inode) (
       by_node (Some (file bytes)) h = cc
       by_node (Some (dir names)) h = refl
       by_node (Some (link target)) h = cc
+      by_node (Some (device which)) h = cc
+
+  pub size-device : (which : base.Device) → inode.kind ≡ Device which → option_map node_size (node_at (shape_of t v) n) ≡ Some 0
+  size-device which is = by_node (node_at (shape_of t v) n) ((s.kept n inode at).kind ∙ ap Some is)
+    where
+      by_node : (found : Option Node) → option_map kind_of found ≡ Some (Device which) → option_map node_size found ≡ Some 0
+      by_node None h = cc
+      by_node (Some (file bytes)) h = cc
+      by_node (Some (dir names)) h = cc
+      by_node (Some (link target)) h = cc
+      by_node (Some (device other)) h = refl
 
   pub size-link : inode.kind ≡ Link → (target : List ℕ) → target_at v inode.real ≡ Some target → option_map node_size (node_at (shape_of t v) n) ≡ Some (length target)
   size-link is target h =

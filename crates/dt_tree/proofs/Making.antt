@@ -53,7 +53,7 @@ module _ (t : Table) (v : Forest) (inode : Inode) (node : Node) (s : Stands t v)
   pub mirrors_made : inode.names ≡ 0 → inode.up ≡ None → kind_of node ≡ inode.kind → IsMirror (with_new t inode) (with_node v inode.real node)
   mirrors_made names up kind = mirrors-new t v inode node s.mirrors free_inode free_real bare nameless names up kind
 
-  pub tree_made : tree_of (with_new t inode) (with_node v inode.real node) ≡ record { shape = with_node (shape_of t v) t.next node; attributes = insert (map_values attributes_of t.inodes) t.next (attributes_of inode); next = t.next + 1 }
+  pub tree_made : tree_of (with_new t inode) (with_node v inode.real node) ≡ record { shape = with_node (shape_of t v) t.next node; attributes = insert (map_values attributes_of t.inodes) t.next (attributes_of inode); next = t.next + 1; version = t.version }
   tree_made = tree-new t v inode node s.mirrors free_inode free_real bare
 
 -- a new node brings no names

@@ -7,7 +7,7 @@ use Rattle.std.specs.Ordering.{nat_cmp}
 use Rattle.std.specs.Cmp.{nat_cmp_total}
 use Rattle.std.specs.Cmp.Lexicographic.{slice_cmp, nat_list_cmp_total}
 use Rattle.std.specs.FinMap.{empty, entries, len, len-entries, get, insert, remove, get-empty, same_map, nat_cmp-IsAntisymmetric}
-use Rattle.dt_host.specs.World.{Forest, Node, file, dir, link, file_bytes, file_at, IsFile, link_target, target_at, IsLink, node_at, dir_names, names_at, entry, with_node, with_entry, without_entry, IsDir, IsLive}
+use Rattle.dt_host.specs.World.{Forest, Node, file, dir, link, device, file_bytes, file_at, IsFile, link_target, target_at, IsLink, node_at, dir_names, names_at, entry, with_node, with_entry, without_entry, IsDir, IsLive}
 use Rattle.dt_tables.specs.Values.{map_values}
 use Rattle.dt_tables.proofs.Found.{none_there}
 use Rattle.dt_tables.proofs.Maps.{at_insert, names_tie, get-insert_same, get-insert_other}
@@ -44,6 +44,7 @@ names_of_node f None = same_map nat_list_cmp_total names_tie _ _ (λ q. get-empt
 names_of_node f (Some (file bytes)) = same_map nat_list_cmp_total names_tie _ _ (λ q. get-empty (slice_cmp nat_cmp) q ∙ sym (get-map_values nat_list_cmp_total f empty q ∙ ap (option_map f) (get-empty (slice_cmp nat_cmp) q)))
 names_of_node f (Some (dir names)) = refl
 names_of_node f (Some (link target)) = same_map nat_list_cmp_total names_tie _ _ (λ q. get-empty (slice_cmp nat_cmp) q ∙ sym (get-map_values nat_list_cmp_total f empty q ∙ ap (option_map f) (get-empty (slice_cmp nat_cmp) q)))
+names_of_node f (Some (device which)) = same_map nat_list_cmp_total names_tie _ _ (λ q. get-empty (slice_cmp nat_cmp) q ∙ sym (get-map_values nat_list_cmp_total f empty q ∙ ap (option_map f) (get-empty (slice_cmp nat_cmp) q)))
 
 module _ (t : Table) (v : Forest) (s : IsPairing t v) where
   -- the node of the host that a inode stands for is there
@@ -84,6 +85,7 @@ module _ (t : Table) (v : Forest) (s : IsPairing t v) where
       by_found (Some (file bytes)) h = cc
       by_found (Some (dir names)) h = refl
       by_found (Some (link target)) h = cc
+      by_found (Some (device which)) h = cc
 
   -- a node put at the host in the place of a inode's is put in the tree
   pub shape-with_node : (d : ℕ) (inode : Inode) (node : Node) → get t.inodes d ≡ Some inode → shape_of t (with_node v inode.real node) ≡ with_node (shape_of t v) d (renumbered_node (vino_of t) node)
@@ -207,6 +209,7 @@ target_at-inode t v s n inode there = ap (option_and_then link_target) (node_at-
     by_found (Some (file bytes)) = refl
     by_found (Some (dir names)) = refl
     by_found (Some (link target)) = refl
+    by_found (Some (device which)) = refl
 
 -- so are a file's bytes
 pub file_at-inode : (t : Table) (v : Forest) (s : IsPairing t v) (n : ℕ) (inode : Inode) → get t.inodes n ≡ Some inode → file_at (shape_of t v) n ≡ file_at v inode.real
@@ -217,6 +220,7 @@ file_at-inode t v s n inode there = ap (option_and_then file_bytes) (node_at-ino
     by_found (Some (file bytes)) = refl
     by_found (Some (dir names)) = refl
     by_found (Some (link target)) = refl
+    by_found (Some (device which)) = refl
 
 pub has_inode-file : (t : Table) (v : Forest) (n : ℕ) → IsFile (shape_of t v) n → IsSome (get t.inodes n)
 has_inode-file t v n is = has_inode t v n (IsLive-IsFile (shape_of t v) n is)

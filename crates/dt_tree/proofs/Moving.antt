@@ -2,12 +2,12 @@
 use Rattle.std.proofs.Common.{arith, ◌≡◌, ◌≢◌, ℕ, zero, suc, ◌+◌, ◌≤◌, true, false, List, Option, Some, None, ◌⊎◌, inl, inr, refl, sym, ap, subst, ◌∙◌}
 use Rattle.std.proofs.lemmas.Bool.{cases_eq}
 use Rattle.std.specs.Prelude.{IfSome, unwrap_or}
-use Rattle.dt_host.specs.World.{Forest, entry, with_entry, without_entry, IsDir, IsFile, IsLive, IsBare}
+use Rattle.dt_host.specs.World.{Forest, entry, with_entry, without_entry, IsDir, IsFile, IsLive, IsBare, IsDevice}
 use Rattle.dt_tables.specs.inner.Weight.{weight}
 use Rattle.dt_tables.proofs.Found.{not_both}
-use Rattle.dt_host.proofs.Changes.{IsFile-bound}
+use Rattle.dt_host.proofs.Changes.{IsFile-bound, IsDevice-bound}
 use Rattle.dt_host.proofs.Spots.{IsDir-entry, at_with_entry, IsDir-with_entry, IsDir-from_with_entry, IsLive-with_entry, is_some-with_entry, len-with_entry, root-with_entry}
-use Rattle.dt_host.proofs.Gone.{at_without_entry, IsDir-without_entry, IsDir-from_without_entry, IsFile-without_entry, IsLive-without_entry, is_some-without_entry, len-without_entry, root-without_entry, without_entry-none, with_entry-cleared}
+use Rattle.dt_host.proofs.Gone.{at_without_entry, IsDir-without_entry, IsDir-from_without_entry, IsFile-without_entry, IsDevice-without_entry, IsLive-without_entry, is_some-without_entry, len-without_entry, root-without_entry, without_entry-none, with_entry-cleared}
 use Rattle.dt_tree.specs.declared.limits.TheConstants.{NODE_LIMIT}
 use Rattle.std.specs.FinMap.{len}
 use Rattle.dt_tree.specs.Shape.{one_for, name_count_of, name_count, is_bare, is_removed, LeadsUp, IsBelow, IsUnder, IsRemoved, IsShaped}
@@ -87,6 +87,9 @@ module _ (v : Forest) (s : IsShaped v) (from : ℕ) (old : List ℕ) (to : ℕ) 
 
   pub is_file_third : (n : ℕ) → IsFile v n → IsFile (with_entry (without_entry v from old) to new m) n
   is_file_third n h = IsFile-bound (without_entry v from old) to new m n is_first (IsFile-without_entry v from old is_from n h)
+
+  pub is_device_third : (n : ℕ) → IsDevice v n → IsDevice (with_entry (without_entry v from old) to new m) n
+  is_device_third n h = IsDevice-bound (without_entry v from old) to new m n is_first (IsDevice-without_entry v from old is_from n h)
 
   pub live_third : (n : ℕ) → IsLive v n → IsLive (with_entry (without_entry v from old) to new m) n
   live_third n h = IsLive-with_entry (without_entry v from old) to new m n (IsLive-without_entry v from old n h)
@@ -202,7 +205,7 @@ module _ (t : FileTree) (s : IsTree t) (from : ℕ) (old : List ℕ) (to : ℕ) 
       (top_same t.shape s.shaped from old to new m may)
       (λ n. is_some-with_entry (without_entry t.shape from old) to new m is_to n ∙ is_some-without_entry t.shape from old is n)
       (len-with_entry (without_entry t.shape from old) to new m is_to ∙ len-without_entry t.shape from old is)
-      (good-with_entry (without_entry t.shape from old) t.attributes (good-without_entry t.shape t.attributes s.good from is old) to is_to new m may.good)
+      (good-with_entry t.version (without_entry t.shape from old) t.attributes (good-without_entry t.version t.shape t.attributes s.good from is old) to is_to new m may.good)
       (omega (arith, few_moved t.shape s.shaped from old to new m may, s.few_names))
       (λ n apart. omega (arith, moved_count t.shape s.shaped from old to new m may n, weight_zero n (entry t.shape to new) apart))))
 
@@ -220,7 +223,7 @@ module _ (t : FileTree) (s : IsTree t) (from : ℕ) (old : List ℕ) (to : ℕ) 
       let second : FileTree = tree_with_stamp first to stamp in
       subst (λ t2. KeepsHeld t t2) (sym renamed-is)
       (KeepsHeld-then t moved (without_unused_found (entry t.shape to new) second)
-      (KeepsHeld-with_shape t (with_entry (without_entry t.shape from old) to new m) (is_file_third t.shape s.shaped from old to new m may) (is_third t.shape s.shaped from old to new m may))
+      (KeepsHeld-with_shape t (with_entry (without_entry t.shape from old) to new m) (is_file_third t.shape s.shaped from old to new m may) (is_third t.shape s.shaped from old to new m may) (is_device_third t.shape s.shaped from old to new m may))
       (KeepsHeld-then moved first (without_unused_found (entry t.shape to new) second) (KeepsHeld-stamped moved from stamp)
       (KeepsHeld-then first second (without_unused_found (entry t.shape to new) second) (KeepsHeld-stamped first to stamp)
       (KeepsHeld-swept_found second (entry t.shape to new) IsTreeBut-moved))))

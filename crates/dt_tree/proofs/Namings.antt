@@ -7,7 +7,7 @@ use Rattle.std.specs.Cmp.Lexicographic.{nat_list_cmp_total}
 use Rattle.std.specs.FinMap.{empty, entries, len, len-entries, len-empty, len-insert, len-remove, get, get-empty, insert, remove, same_map, nat_cmp-IsAntisymmetric}
 use Rattle.std.specs.Ordering.{nat_cmp}
 use Rattle.std.specs.Cmp.Lexicographic.{slice_cmp}
-use Rattle.dt_host.specs.World.{Forest, Node, Names, file, dir, link, node_at, dir_names, names_at, entry, with_node, with_entry, without_entry, without_node, IsBare}
+use Rattle.dt_host.specs.World.{Forest, Node, Names, file, dir, link, device, node_at, dir_names, names_at, entry, with_node, with_entry, without_entry, without_node, IsBare}
 use Rattle.dt_tables.specs.Total.{total, total_in}
 use Rattle.dt_tables.specs.inner.Weight.{weight}
 use Rattle.dt_tables.proofs.Maps.{at_insert, names_tie, get-remove_same}
@@ -32,6 +32,7 @@ held n None = sym (total-empty nat_list_cmp_total (one_for n))
 held n (Some (file bytes)) = refl
 held n (Some (dir names)) = refl
 held n (Some (link target)) = refl
+held n (Some (device which)) = refl
 
 no_names : (names : Names) → ((name : List ℕ) → get names name ≡ None) → names ≡ empty
 no_names names none = same_map nat_list_cmp_total names_tie names empty (λ name. none name ∙ sym (get-empty (slice_cmp nat_cmp) name))
@@ -94,6 +95,7 @@ counted None = sym (len-empty (slice_cmp nat_cmp) ℕ)
 counted (Some (file bytes)) = refl
 counted (Some (dir names)) = refl
 counted (Some (link target)) = refl
+counted (Some (device which)) = refl
 
 module _ (v : Forest) (d : ℕ) where
   pub name_count-with_node : (node : Node) → name_count (with_node v d node) + len (names_at v d) ≡ name_count v + len (unwrap_or (dir_names node) empty)

@@ -4,7 +4,8 @@ use Rattle.std.specs.Prelude.{Option, Some, None, IsSome, is_some, unwrap_or, op
 use Rattle.std.specs.FinMap.{get}
 use Rattle.std.proofs.lemmas.List.{take_min, take_at, length-take-le, length-drop, drop_all}
 use Rattle.dt_base.specs.declared.limits.TheConstants.{FILE_LIMIT}
-use Rattle.dt_host.specs.World.{Node, file, dir, link, node_at, file_bytes, IsFile, content}
+use Rattle.dt_base.proofs.Profiles.{file_limit-most}
+use Rattle.dt_host.specs.World.{Node, file, dir, link, device, node_at, file_bytes, IsFile, content}
 use Rattle.dt_tree.specs.declared.meta.Meta.{Meta}
 use Rattle.dt_tree.specs.FileTree.{Attributes, FileTree, IsTree}
 use Rattle.dt_tree.specs.Meta.{meta_of, node_size, nlink_of}
@@ -27,6 +28,7 @@ sized t n meta is told = by_node (node_at t.shape n) (get t.attributes n) is tol
     by_node (Some (file bytes)) (Some a) is told = cc
     by_node (Some (dir names)) a is told = cc
     by_node (Some (link target)) a is told = cc
+    by_node (Some (device which)) a is told = cc
 
 -- a file of a tree is within the limit
 pub within : (t : FileTree) (n : ℕ) → IsTree t → length (content t.shape n) ≤ FILE_LIMIT
@@ -36,9 +38,13 @@ within t n tree = by_node (node_at t.shape n) (get t.attributes n) refl refl (tr
     by_node : (found : Option Node) (a : Option Attributes) → node_at t.shape n ≡ found → get t.attributes n ≡ a → is_some a ≡ is_some found → length (unwrap_or (option_and_then file_bytes found) []) ≤ FILE_LIMIT
     by_node None a at kept same = omega arith
     by_node (Some (file bytes)) None at kept same = cc
-    by_node (Some (file bytes)) (Some a) at kept same = (tree.good n (file bytes) a at kept).0
+    by_node (Some (file bytes)) (Some a) at kept same =
+        let few = (tree.good n (file bytes) a at kept).0 in
+        let most = file_limit-most t.version in
+        omega arith
     by_node (Some (dir names)) a at kept same = omega arith
     by_node (Some (link target)) a at kept same = omega arith
+    by_node (Some (device which)) a at kept same = omega arith
 
 module _ (bytes buffer new : List ℕ) (from most size n : ℕ) (sized : size ≡ length bytes) (long : length buffer ≡ min (size - from) most) (count : n ≡ min (length buffer) (length bytes - from)) (is : new ≡ take n (drop from bytes) ++ drop n buffer) where
   left : length (drop from bytes) ≡ length bytes - from

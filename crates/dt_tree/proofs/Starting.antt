@@ -1,13 +1,14 @@
 -- At the start the tree is a root without entries, and stands for the host's.
 use Rattle.std.proofs.Common.{arith, ◌≡◌, ◌≢◌, ℕ, ◌+◌, List, [], cond, true, false, Option, Some, None, inl, refl, sym, ap, subst, ◌∙◌}
 use Rattle.std.proofs.lemmas.Option.{same_Some}
-use Rattle.std.specs.Prelude.{IsSome, is_some, unwrap_or, option_map, option_and_then}
+use Rattle.std.specs.Prelude.{IsTrue, IsSome, is_some, unwrap_or, option_map, option_and_then}
 use Rattle.std.specs.Ordering.{nat_cmp}
 use Rattle.std.specs.Cmp.{IsTotalOrder, nat_cmp_total}
 use Rattle.std.specs.Cmp.Lexicographic.{slice_cmp, nat_list_cmp_total}
 use Rattle.std.specs.declared.cmp.Ordering.{Ordering}
 use Rattle.std.specs.FinMap.{IsAntisymmetric, empty, get, insert, from_entries, get-from_entries, len, len-insert, len-empty, get-empty, same_map, nat_cmp-IsAntisymmetric}
-use Rattle.dt_host.specs.World.{Node, file, dir, node_at, dir_names, names_at, entry, empty_forest, IsDir, IsLive}
+use Rattle.dt_base.specs.Profile.{is_version}
+use Rattle.dt_host.specs.World.{Forest, Node, file, dir, node_at, dir_names, names_at, entry, empty_forest, IsDir, IsLive}
 use Rattle.dt_tables.specs.Values.{map_values}
 use Rattle.dt_tables.proofs.Found.{none_there, not_both}
 use Rattle.dt_tables.proofs.Maps.{at_insert, names_tie, get-insert_same}
@@ -17,25 +18,25 @@ use Rattle.dt_tree.specs.declared.inode.Kind.TheVariants.{Dir}
 use Rattle.dt_tree.specs.declared.inode.Inode.{Inode}
 use Rattle.dt_tree.specs.Shape.{one_for, entry_count_for, name_count_of, name_count, IsBelow, IsShaped}
 use Rattle.dt_tree.specs.FileTree.{Attributes, FileTree, IsGoodNode, IsTree}
-use Rattle.dt_tree.specs.ImageTree.{names_below, image_nodes, image_attributes, image_tree, start_attributes}
-use Rattle.dt_tree.specs.Table.{vino_of, real_of, renumbered_node, node_for, shape_of, attributes_of, tree_of, kind_of, IsUp, IsInodeOf, IsMirror}
-use Rattle.dt_tree.specs.inner.Tables.{root_table}
+use Rattle.dt_tree.specs.ImageTree.{names_below, image_nodes, image_attributes, image_tree, root_tree, start_attributes}
+use Rattle.dt_tree.specs.Table.{vino_of, real_of, renumbered_node, node_for, shape_of, attributes_of, tree_of, kind_of, IsUp, IsInodeOf, IsMirror, Stands, Table}
+use Rattle.dt_tree.specs.inner.Tables.{root_table, with_version}
 use Rattle.dt_tree.proofs.Shapes.{itself}
 use Rattle.dt_tree.proofs.Admitting.{renumbered-bare}
 
 -- the tree of a root without entries
-abbrev pub root_tree : FileTree
-root_tree = record { shape = empty_forest 1; attributes = insert empty 1 (start_attributes 493); next = 2 }
+abbrev pub bare_tree : ℕ → FileTree
+bare_tree version = record { shape = empty_forest 1; attributes = insert empty 1 (start_attributes 493); next = 2; version = version }
 
 no_pairs : {K X : Type 0} {R : K → K → Ordering} → IsTotalOrder R → IsAntisymmetric R → from_entries {X = X} {R = R} [] ≡ empty
 no_pairs {R = R} o same = same_map o same _ _ (λ q. get-from_entries o [] q ∙ sym (get-empty R q))
 
-pub image_tree-nil : image_tree [] ≡ root_tree
+pub image_tree-nil : (version : ℕ) → image_tree (record { version = version; entries = [] }) ≡ bare_tree version
 unfolding image_nodes image_attributes names_below
-image_tree-nil =
+image_tree-nil version =
     let nodes = ap (λ m. insert m 1 (dir (from_entries []))) (no_pairs {X = Node} nat_cmp_total nat_cmp-IsAntisymmetric) ∙ ap (λ names. insert empty 1 (dir names)) (no_pairs nat_list_cmp_total names_tie) in
     let attributes = ap (λ m. insert m 1 (start_attributes 493)) (no_pairs {X = Attributes} nat_cmp_total nat_cmp-IsAntisymmetric) in
-    λ i. record { shape = record { nodes = nodes i; root = 1 }; attributes = attributes i; next = 2 }
+    λ i. record { shape = record { nodes = nodes i; root = 1 }; attributes = attributes i; next = 2; version = version }
 
 -- a map of one entry
 at_only : {X : Type 0} (P : Option X → Type 0) (k : ℕ) (x : X) (q : ℕ) → (q ≡ k → P (Some x)) → (q ≢ k → P None) → P (get (insert (empty {R = nat_cmp}) k x) q)
@@ -76,24 +77,25 @@ no_name_count root =
     let bare = len-empty (slice_cmp nat_cmp) ℕ in
     omega arith
 
-good_root : (n : ℕ) (node : Node) (a : Attributes) → node_at (empty_forest 1) n ≡ Some node → get (insert (empty {R = nat_cmp}) 1 (start_attributes 493)) n ≡ Some a → IsGoodNode node a.mode
-good_root n node a = at_only (λ found. found ≡ Some node → get (insert (empty {R = nat_cmp}) 1 (start_attributes 493)) n ≡ Some a → IsGoodNode node a.mode) 1 (dir empty) n
-    (λ same e. at_only (λ found. found ≡ Some a → IsGoodNode node a.mode) 1 (start_attributes 493) n
-    (λ _ h. subst (λ x. IsGoodNode x a.mode) (same_Some (dir empty) node e) (subst (λ k. IsGoodNode (dir empty) k) (ap (λ (found : Option Attributes). unwrap_or (option_map (λ (a : Attributes). a.mode) found) 0) h) (λ name some. absurd (none_there (get (empty {X = ℕ} {R = slice_cmp nat_cmp}) name) (get-empty (slice_cmp nat_cmp) name) some), omega arith)))
+good_root : (version : ℕ) (n : ℕ) (node : Node) (a : Attributes) → node_at (empty_forest 1) n ≡ Some node → get (insert (empty {R = nat_cmp}) 1 (start_attributes 493)) n ≡ Some a → IsGoodNode version node a.mode
+good_root version n node a = at_only (λ found. found ≡ Some node → get (insert (empty {R = nat_cmp}) 1 (start_attributes 493)) n ≡ Some a → IsGoodNode version node a.mode) 1 (dir empty) n
+    (λ same e. at_only (λ found. found ≡ Some a → IsGoodNode version node a.mode) 1 (start_attributes 493) n
+    (λ _ h. subst (λ x. IsGoodNode version x a.mode) (same_Some (dir empty) node e) (subst (λ k. IsGoodNode version (dir empty) k) (ap (λ (found : Option Attributes). unwrap_or (option_map (λ (a : Attributes). a.mode) found) 0) h) (λ name some. absurd (none_there (get (empty {X = ℕ} {R = slice_cmp nat_cmp}) name) (get-empty (slice_cmp nat_cmp) name) some), omega arith)))
     (λ _ h. cc))
     (λ _ e. cc)
 
 pub one_node : len (empty_forest 1).nodes ≡ 1
 one_node = let size = len-insert nat_cmp_total (empty {X = Node} {R = nat_cmp}) 1 (dir empty) ∙ ap (λ found. cond (is_some found) (len (empty {X = Node} {R = nat_cmp})) (len (empty {X = Node} {R = nat_cmp}) + 1)) (get-empty nat_cmp 1) in let none = len-empty nat_cmp Node in omega arith
 
-pub IsTree-start : IsTree root_tree
-IsTree-start = record {
+pub IsTree-start : (version : ℕ) → IsTrue (is_version version) → IsTree (bare_tree version)
+IsTree-start version known = record {
+  version = known;
   shaped = shaped_start 1;
   root = refl;
   same = λ n. at_only (λ found. is_some found ≡ is_some (node_at (empty_forest 1) n)) 1 _ n
       (λ e. at_only (λ found. true ≡ is_some found) 1 (dir empty) n (λ _. refl) (λ apart. absurd (apart e)))
       (λ apart. at_only (λ found. false ≡ is_some found) 1 (dir empty) n (λ e. absurd (apart e)) (λ _. refl));
-  good = good_root;
+  good = good_root version;
   low = λ n live. let e = only_root 1 n live in omega arith;
   fresh = λ n live. let e = only_root 1 n live in omega arith;
   few = omega (arith, one_node);
@@ -112,11 +114,11 @@ module _ (root : ℕ) (inode : Inode) (real : inode.real ≡ root) (bare : inode
       ∙ ap (λ m. insert m 1 (node_for (root_table inode) (empty_forest root) inode)) (no_values (node_for (root_table inode) (empty_forest root)))
       ∙ ap (insert empty 1) (ap (λ found. renumbered_node (vino_of (root_table inode)) (unwrap_or found (file []))) (ap (node_at (empty_forest root)) real ∙ get-insert_same nat_cmp_total nat_cmp-IsAntisymmetric empty root (dir empty)) ∙ renumbered-bare (vino_of (root_table inode)) (dir empty) refl))
 
-  pub tree_start : attributes_of inode ≡ start_attributes 493 → tree_of (root_table inode) (empty_forest root) ≡ root_tree
+  pub tree_start : attributes_of inode ≡ start_attributes 493 → tree_of (root_table inode) (empty_forest root) ≡ bare_tree 1
   tree_start mark =
       let shape = shape_start in
       let attributes = map_values-insert nat_cmp_total attributes_of nat_cmp-IsAntisymmetric empty 1 inode ∙ ap (λ m. insert m 1 (attributes_of inode)) (no_values attributes_of) ∙ ap (insert empty 1) mark in
-      λ i. record { shape = shape i; attributes = attributes i; next = 2 }
+      λ i. record { shape = shape i; attributes = attributes i; next = 2; version = 1 }
 
   pub mirrors_start : IsMirror (root_table inode) (empty_forest root)
   mirrors_start = record {
@@ -141,4 +143,20 @@ module _ (root : ℕ) (inode : Inode) (real : inode.real ≡ root) (bare : inode
         })))
         (λ _ h. cc) e);
     counted = sym (ap (λ shape. name_count shape) shape_start ∙ no_name_count 1);
+  }
+
+-- an image of another version begins with the same tree, but for the version
+module _ (t : Table) (v : Forest) (version : ℕ) (new : tree_of t v ≡ root_tree) where
+  pub tree_versioned : tree_of (with_version t version) v ≡ image_tree (record { version = version; entries = [] })
+  unfolding shape_of
+  tree_versioned = ap (λ (t : FileTree). record t { version = version }) (new ∙ image_tree-nil 1) ∙ sym (image_tree-nil version)
+
+  mirrors_versioned : IsMirror t v → IsMirror (with_version t version) v
+  unfolding shape_of
+  mirrors_versioned s = record { pairs = record { forth = s.pairs.forth; back = s.pairs.back; live = s.pairs.live; closed = s.pairs.closed; root = s.pairs.root }; kept = s.kept; counted = s.counted }
+
+  pub stands_versioned : IsTrue (is_version version) → Stands t v → Stands (with_version t version) v
+  stands_versioned known s = record {
+    mirrors = mirrors_versioned s.mirrors;
+    tree = subst IsTree (sym (tree_versioned ∙ image_tree-nil version)) (IsTree-start version known);
   }

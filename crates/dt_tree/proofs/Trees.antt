@@ -9,10 +9,12 @@ use Rattle.std.specs.Cmp.Lexicographic.{slice_cmp, nat_list_cmp_total}
 use Rattle.std.specs.Ordering.{nat_cmp}
 use Rattle.std.specs.FinMap.{empty, get, insert, len, len-insert, get-empty, nat_cmp-IsAntisymmetric}
 use Rattle.dt_base.specs.declared.image.What.{What}
-use Rattle.dt_base.specs.declared.image.What.TheVariants.{File, Dir, Link}
+use Rattle.dt_base.specs.declared.image.What.TheVariants.{File, Dir, Link, Dev}
 use Rattle.dt_base.specs.declared.limits.TheConstants.{FILE_LIMIT, MODE_LIMIT, LINK_MODE}
+use Rattle.dt_base.specs.Profile.{file_limit, has_devices}
 use Rattle.dt_base.specs.Image.{is_good_what, is_target}
-use Rattle.dt_host.specs.World.{Node, Names, file, dir, link, node_at, names_at, entry, dir_names, with_node, with_entry, IsLive, IsDir}
+use Rattle.dt_base.proofs.Profiles.{file_limit-most}
+use Rattle.dt_host.specs.World.{Node, Names, file, dir, link, device, node_at, names_at, entry, dir_names, with_node, with_entry, IsLive, IsDir}
 use Rattle.dt_tables.specs.inner.Weight.{weight}
 use Rattle.dt_tables.proofs.Found.{none_there}
 use Rattle.dt_tables.proofs.Maps.{at_insert, names_tie, get-insert_same, get-insert_other}
@@ -39,19 +41,30 @@ pub bare_new : (what : What) → unwrap_or (dir_names (new_node what)) empty ≡
 bare_new (File bytes) = refl
 bare_new Dir = refl
 bare_new (Link target) = refl
+bare_new (Dev which) = refl
 
 -- a good file is within the limit
-pub fits : (bytes : List ℕ) (mode : ℕ) → IsTrue (is_good_what (File bytes) mode) → length bytes ≤ FILE_LIMIT
-fits bytes mode h = let parts = and_parts (nat_le (length bytes) FILE_LIMIT) (nat_le mode MODE_LIMIT) h in grind (arith, nat_tests, parts.0)
+below : (a b : ℕ) → nat_le a b ≡ true → a ≤ b
+below a b h = grind (arith, nat_tests)
 
-good_new : (what : What) (mode : ℕ) → IsTrue (is_good_what what mode) → IsGoodNode (new_node what) mode
-good_new (File bytes) mode h =
-    let parts = and_parts (nat_le (length bytes) FILE_LIMIT) (nat_le mode MODE_LIMIT) h in
-    (grind (arith, nat_tests, parts.0), grind (arith, nat_tests, parts.1))
-good_new Dir mode h = (λ name some. absurd (none_there (get (empty {X = ℕ} {R = slice_cmp nat_cmp}) name) (get-empty (slice_cmp nat_cmp) name) some), grind (arith, nat_tests))
-good_new (Link target) mode h =
+pub fits : (version : ℕ) (bytes : List ℕ) (mode : ℕ) → IsTrue (is_good_what version (File bytes) mode) → length bytes ≤ FILE_LIMIT
+fits version bytes mode h =
+    let parts = and_parts (nat_le (length bytes) (file_limit version)) (nat_le mode MODE_LIMIT) h in
+    let few = below (length bytes) (file_limit version) parts.0 in
+    let most = file_limit-most version in
+    omega arith
+
+good_new : (version : ℕ) (what : What) (mode : ℕ) → IsTrue (is_good_what version what mode) → IsGoodNode version (new_node what) mode
+good_new version (File bytes) mode h =
+    let parts = and_parts (nat_le (length bytes) (file_limit version)) (nat_le mode MODE_LIMIT) h in
+    (below (length bytes) (file_limit version) parts.0, below mode MODE_LIMIT parts.1)
+good_new version Dir mode h = (λ name some. absurd (none_there (get (empty {X = ℕ} {R = slice_cmp nat_cmp}) name) (get-empty (slice_cmp nat_cmp) name) some), grind (arith, nat_tests))
+good_new version (Link target) mode h =
     let parts = and_parts (is_target target) (mode == LINK_MODE) h in
     (parts.0, grind (arith, nat_tests, parts.1))
+good_new version (Dev which) mode h =
+    let parts = and_parts (has_devices version) (nat_le mode MODE_LIMIT) h in
+    (parts.0, below mode MODE_LIMIT parts.1)
 
 module _ (t : FileTree) (d : ℕ) (name : List ℕ) (what : What) (mode stamp : ℕ) (s : IsTree t) (may : MayCreate t d name what mode) where
   free_node : node_at t.shape t.next ≡ None
@@ -105,21 +118,22 @@ module _ (t : FileTree) (d : ℕ) (name : List ℕ) (what : What) (mode stamp : 
       (λ same _. subst (λ x. IsTrue (is_entry_name x)) (sym same) may.named)
       (λ _ h. old c (subst (λ found. IsSome (get (unwrap_or (option_and_then dir_names found) empty) c)) (node_at-with_node_other t.shape t.next (new_node what) d apart ∙ e) h))
 
-  good_dir : (a : Attributes) → get t.attributes d ≡ Some a → IsGoodNode (dir (insert (names_at (with_node t.shape t.next (new_node what)) d) name t.next)) a.mode
+  good_dir : (a : Attributes) → get t.attributes d ≡ Some a → IsGoodNode t.version (dir (insert (names_at (with_node t.shape t.next (new_node what)) d) name t.next)) a.mode
   good_dir a mark = by_node (node_at t.shape d) refl may.is_dir
     where
-      by_node : (found : Option Node) → node_at t.shape d ≡ found → IsSome (option_and_then dir_names found) → IsGoodNode (dir (insert (names_at (with_node t.shape t.next (new_node what)) d) name t.next)) a.mode
+      by_node : (found : Option Node) → node_at t.shape d ≡ found → IsSome (option_and_then dir_names found) → IsGoodNode t.version (dir (insert (names_at (with_node t.shape t.next (new_node what)) d) name t.next)) a.mode
       by_node None e h = cc
       by_node (Some (file bytes)) e h = cc
       by_node (Some (link target)) e h = cc
+      by_node (Some (device which)) e h = cc
       by_node (Some (dir names)) e h = let old = s.good d (dir names) a e mark in (good_names names e old.0, old.1)
 
-  good_all : (n : ℕ) (node : Node) (a : Attributes) → node_at (with_entry (with_node t.shape t.next (new_node what)) d name t.next) n ≡ Some node → get (insert t.attributes t.next (record { mode = mode; stamp = stamp; holds = 0 })) n ≡ Some a → IsGoodNode node a.mode
+  good_all : (n : ℕ) (node : Node) (a : Attributes) → node_at (with_entry (with_node t.shape t.next (new_node what)) d name t.next) n ≡ Some node → get (insert t.attributes t.next (record { mode = mode; stamp = stamp; holds = 0 })) n ≡ Some a → IsGoodNode t.version node a.mode
   unfolding with_entry
-  good_all n node a = at_insert nat_cmp_total nat_cmp-IsAntisymmetric (λ found. found ≡ Some node → get (insert t.attributes t.next (record { mode = mode; stamp = stamp; holds = 0 })) n ≡ Some a → IsGoodNode node a.mode) (with_node t.shape t.next (new_node what)).nodes d (dir (insert (names_at (with_node t.shape t.next (new_node what)) d) name t.next)) n
-      (λ same e mark. subst (λ x. IsGoodNode x a.mode) (same_Some _ _ e) (good_dir a (sym (get-insert_other nat_cmp_total nat_cmp-IsAntisymmetric t.attributes t.next _ d apart) ∙ ap (get (insert t.attributes t.next (record { mode = mode; stamp = stamp; holds = 0 }))) (sym same) ∙ mark)))
-      (λ _. at_first (λ found. found ≡ Some node → get (insert t.attributes t.next (record { mode = mode; stamp = stamp; holds = 0 })) n ≡ Some a → IsGoodNode node a.mode) n
-      (λ same e mark. subst (λ x. IsGoodNode x a.mode) (same_Some _ _ e) (subst (λ k. IsGoodNode (new_node what) k) (same_mode a (sym (get-insert_same nat_cmp_total nat_cmp-IsAntisymmetric t.attributes t.next (record { mode = mode; stamp = stamp; holds = 0 })) ∙ ap (get (insert t.attributes t.next (record { mode = mode; stamp = stamp; holds = 0 }))) (sym same) ∙ mark)) (good_new what mode may.good)))
+  good_all n node a = at_insert nat_cmp_total nat_cmp-IsAntisymmetric (λ found. found ≡ Some node → get (insert t.attributes t.next (record { mode = mode; stamp = stamp; holds = 0 })) n ≡ Some a → IsGoodNode t.version node a.mode) (with_node t.shape t.next (new_node what)).nodes d (dir (insert (names_at (with_node t.shape t.next (new_node what)) d) name t.next)) n
+      (λ same e mark. subst (λ x. IsGoodNode t.version x a.mode) (same_Some _ _ e) (good_dir a (sym (get-insert_other nat_cmp_total nat_cmp-IsAntisymmetric t.attributes t.next _ d apart) ∙ ap (get (insert t.attributes t.next (record { mode = mode; stamp = stamp; holds = 0 }))) (sym same) ∙ mark)))
+      (λ _. at_first (λ found. found ≡ Some node → get (insert t.attributes t.next (record { mode = mode; stamp = stamp; holds = 0 })) n ≡ Some a → IsGoodNode t.version node a.mode) n
+      (λ same e mark. subst (λ x. IsGoodNode t.version x a.mode) (same_Some _ _ e) (subst (λ k. IsGoodNode t.version (new_node what) k) (same_mode a (sym (get-insert_same nat_cmp_total nat_cmp-IsAntisymmetric t.attributes t.next (record { mode = mode; stamp = stamp; holds = 0 })) ∙ ap (get (insert t.attributes t.next (record { mode = mode; stamp = stamp; holds = 0 }))) (sym same) ∙ mark)) (good_new t.version what mode may.good)))
       (λ other e mark. s.good n node a e (sym (get-insert_other nat_cmp_total nat_cmp-IsAntisymmetric t.attributes t.next _ n other) ∙ mark)))
     where
       same_mode : (a : Attributes) → Some (record { mode = mode; stamp = stamp; holds = 0 }) ≡ Some a → mode ≡ a.mode
@@ -128,6 +142,7 @@ module _ (t : FileTree) (d : ℕ) (name : List ℕ) (what : What) (mode stamp : 
   pub IsTree-created : name_count t.shape < NAMES_LIMIT → IsTree (tree_with_new t d name (new_node what) mode stamp)
   unfolding tree_with_new
   IsTree-created few_names = record {
+    version = s.version;
     shaped = shaped_both;
     root = root-with_entry (with_node t.shape t.next (new_node what)) d name t.next ∙ s.root;
     same = λ q. both_there q ∙ sym (is_some-with_entry (with_node t.shape t.next (new_node what)) d name t.next is_first q);

@@ -4,10 +4,10 @@ use Rattle.std.specs.FinMap.{len}
 use Rattle.dt_base.specs.declared.errno.Errno.{Errno}
 use Rattle.dt_base.specs.declared.errno.Errno.TheVariants.{NoEnt, NoSpc, FBig}
 use Rattle.dt_base.specs.declared.image.What.{What}
-use Rattle.dt_base.specs.declared.limits.TheConstants.{FILE_LIMIT}
+use Rattle.dt_base.specs.Profile.{file_limit}
 use Rattle.dt_host.specs.declared.error.CallErr.{CallErr}
 use Rattle.dt_host.specs.declared.error.CallErr.TheVariants.{Errno as is_refused, Host as has_failed}
-use Rattle.dt_host.specs.World.{Forest, entry, IsDir, IsFile, IsLive}
+use Rattle.dt_host.specs.World.{Forest, entry, IsDir, IsFile, IsLive, IsDevice}
 use Rattle.dt_tree.specs.declared.limits.TheConstants.{NODE_LIMIT}
 use Rattle.dt_tree.specs.Above.{is_below}
 use Rattle.dt_tree.specs.Shape.{is_dir, is_bare, is_removed}
@@ -39,11 +39,12 @@ UnlessFailed (Ok value) P = P
 UnlessFailed (Err (is_refused errno)) P = P
 UnlessFailed (Err (has_failed error)) P = Unit {0}
 
--- a change leaves what is held: its holds, and that it is a file or a directory
+-- a change leaves what is held: its holds, and that it is a file, a directory or a device
 pub record KeepsHeld (old new : FileTree) : Type 0 where
   pub holds : (n : ℕ) → holds_of new n ≡ holds_of old n
   pub files : (n : ℕ) → 1 ≤ holds_of old n → IsFile old.shape n → IsFile new.shape n
   pub dirs : (n : ℕ) → 1 ≤ holds_of old n → IsDir old.shape n → IsDir new.shape n
+  pub devices : (n : ℕ) → 1 ≤ holds_of old n → IsDevice old.shape n → IsDevice new.shape n
 
 -- a new name: it is good, and the directory that is to have it has no such entry
 pub record IsNewName (t : FileTree) (d : ℕ) (name : List ℕ) : Type 0 where
@@ -98,8 +99,8 @@ move_name_of t from old to new stamp =
 -- a file is written: EFBIG where it would pass its limit
 abbrev pub write_at_of : FileTree → ℕ → ℕ → List ℕ → ℕ → TreeAnswer (Unit {0})
 write_at_of t n offset bytes stamp =
-    if nat_lt FILE_LIMIT (offset + length bytes) then tree_refusal t FBig else tree_answer (tree_after_write t n offset bytes stamp) tt
+    if nat_lt (file_limit t.version) (offset + length bytes) then tree_refusal t FBig else tree_answer (tree_after_write t n offset bytes stamp) tt
 
 -- a file is cut, or made longer: EFBIG where it would pass its limit
 abbrev pub cut_of : FileTree → ℕ → ℕ → ℕ → TreeAnswer (Unit {0})
-cut_of t n len stamp = if nat_lt FILE_LIMIT len then tree_refusal t FBig else tree_answer (tree_after_truncate t n len stamp) tt
+cut_of t n len stamp = if nat_lt (file_limit t.version) len then tree_refusal t FBig else tree_answer (tree_after_truncate t n len stamp) tt

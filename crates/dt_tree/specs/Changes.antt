@@ -6,8 +6,8 @@ use Rattle.std.specs.Ordering.{nat_cmp}
 use Rattle.std.specs.FinMap.{FinMap, empty, get, insert, remove}
 use Rattle.dt_base.specs.Bytes.{with_bytes_at, with_trailing_zeros, with_length}
 use Rattle.dt_base.specs.declared.image.What.{What}
-use Rattle.dt_base.specs.declared.image.What.TheVariants.{File, Dir, Link}
-use Rattle.dt_host.specs.World.{Forest, Node, file, dir, link, entry, content, with_node, with_bytes, with_entry, without_entry, without_node}
+use Rattle.dt_base.specs.declared.image.What.TheVariants.{File, Dir, Link, Dev}
+use Rattle.dt_host.specs.World.{Forest, Node, file, dir, link, device, entry, content, with_node, with_bytes, with_entry, without_entry, without_node}
 use Rattle.dt_tree.specs.declared.limits.TheConstants.{ROOT}
 use Rattle.dt_tree.specs.Shape.{name_count_of}
 use Rattle.dt_tree.specs.FileTree.{Attributes, FileTree, holds_of}
@@ -62,15 +62,16 @@ abbrev pub without_unused_found : Option ℕ → FileTree → FileTree
 without_unused_found None t = t
 without_unused_found (Some n) t = without_unused t n
 
--- the node of a file with its bytes, of a directory without entries, of a link with its target
+-- the node of a file with its bytes, of a directory without entries, of a link with its target, of a device
 abbrev pub new_node : What → Node
 new_node (File bytes) = file bytes
 new_node Dir = dir empty
 new_node (Link target) = link target
+new_node (Dev which) = device which
 
 -- a new node, without a name yet, has the next inode
 abbrev pub with_nameless : FileTree → Node → ℕ → ℕ → FileTree
-with_nameless t node mode stamp = record {
+with_nameless t node mode stamp = record t {
   shape = with_node t.shape t.next node;
   attributes = insert t.attributes t.next (record { mode = mode; stamp = stamp; holds = 0 });
   next = t.next + 1;

@@ -6,9 +6,11 @@ use Rattle.std.specs.Ordering.{nat_cmp}
 use Rattle.std.specs.FinMap.{FinMap, insert, from_entries}
 use Rattle.dt_base.specs.declared.image.Entry.{Entry}
 use Rattle.dt_base.specs.declared.image.What.{What}
-use Rattle.dt_base.specs.declared.image.What.TheVariants.{File, Dir, Link}
+use Rattle.dt_base.specs.declared.image.What.TheVariants.{File, Dir, Link, Dev}
+use Rattle.dt_base.specs.declared.profile.TheConstants.{FIRST_VERSION}
+use Rattle.dt_base.specs.Image.{ImageParts}
 use Rattle.dt_base.specs.Path.{is_slash, parent_of}
-use Rattle.dt_host.specs.World.{Forest, Names, Node, file, dir, link, empty_forest}
+use Rattle.dt_host.specs.World.{Forest, Names, Node, file, dir, link, device, empty_forest}
 use Rattle.dt_tree.specs.declared.limits.TheConstants.{ROOT, FIRST_INODE, ROOT_MODE}
 use Rattle.dt_tree.specs.FileTree.{Attributes, FileTree}
 
@@ -29,6 +31,14 @@ abbrev pub node_of : List Entry → List ℕ → What → Node
 node_of entries path (File bytes) = file bytes
 node_of entries path Dir = dir (names_below entries path)
 node_of entries path (Link target) = link target
+node_of entries path (Dev which) = device which
+
+-- what a node is: a file with its bytes, a directory without its entries, a link with its target, a device with which it is
+abbrev pub what_of : Node → What
+what_of (file bytes) = File bytes
+what_of (dir names) = Dir
+what_of (link target) = Link target
+what_of (device which) = Dev which
 
 -- the nodes by inode
 unfoldable pub image_nodes : List Entry → FinMap nat_cmp Node
@@ -42,13 +52,18 @@ start_attributes mode = record { mode = mode; stamp = 0; holds = 0 }
 unfoldable pub image_attributes : List Entry → FinMap nat_cmp Attributes
 image_attributes entries = insert (from_entries (map (λ e. (e.0, start_attributes e.1.mode)) (numbered_entries entries))) ROOT (start_attributes ROOT_MODE)
 
--- the tree of an image's entries
-abbrev pub image_tree : List Entry → FileTree
-image_tree entries = record {
-  shape = record { nodes = image_nodes entries; root = ROOT };
-  attributes = image_attributes entries;
-  next = FIRST_INODE + length entries;
+-- the tree of an image
+abbrev pub image_tree : ImageParts → FileTree
+image_tree image = record {
+  shape = record { nodes = image_nodes image.entries; root = ROOT };
+  attributes = image_attributes image.entries;
+  next = FIRST_INODE + length image.entries;
+  version = image.version;
 }
+
+-- the tree of no entries
+abbrev pub root_tree : FileTree
+root_tree = image_tree (record { version = FIRST_VERSION; entries = [] })
 
 -- the nodes of a host are a root without entries and nothing else
 abbrev pub IsEmptyRoot : Forest → Type 0

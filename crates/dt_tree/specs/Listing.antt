@@ -5,8 +5,8 @@ use Rattle.std.specs.Str.{bytes_eq}
 use Rattle.std.specs.Ordering.{nat_cmp, is_lt}
 use Rattle.std.specs.Cmp.Lexicographic.{slice_cmp}
 use Rattle.std.specs.FinMap.{entries}
-use Rattle.dt_host.specs.World.{Forest, Node, file, dir, link, node_at, names_at}
-use Rattle.dt_base.specs.declared.abi.TheConstants.{DT_DIR, DT_REG, DT_LNK}
+use Rattle.dt_host.specs.World.{Forest, Node, file, dir, link, device, node_at, names_at}
+use Rattle.dt_base.specs.declared.abi.TheConstants.{DT_DIR, DT_REG, DT_LNK, DT_CHR}
 use Rattle.dt_tree.specs.declared.list.Listed.{Listed}
 use Rattle.dt_tree.specs.Above.{dot_dot}
 
@@ -15,6 +15,7 @@ abbrev pub type_of : Node → ℕ
 type_of (file bytes) = DT_REG
 type_of (dir names) = DT_DIR
 type_of (link target) = DT_LNK
+type_of (device which) = DT_CHR
 
 -- the type of a node that is there
 abbrev pub type_at : Forest → ℕ → ℕ

@@ -2,18 +2,19 @@
 use Rattle.std.specs.Prelude.{ℕ, ◌+◌, if◌then◌else◌, length, Option, option_map, option_and_then}
 use Rattle.std.specs.List.{count_by}
 use Rattle.std.specs.FinMap.{get, entries}
-use Rattle.dt_host.specs.World.{Forest, Node, file, dir, link, node_at, names_at}
+use Rattle.dt_host.specs.World.{Forest, Node, file, dir, link, device, node_at, names_at}
 use Rattle.dt_tree.specs.declared.limits.TheConstants.{DIR_SIZE}
 use Rattle.dt_tree.specs.declared.meta.Meta.{Meta}
 use Rattle.dt_tree.specs.Shape.{name_count_of, is_dir, is_removed}
 use Rattle.dt_tree.specs.FileTree.{FileTree}
 use Rattle.dt_tree.specs.Listing.{type_of}
 
--- the size: a file's bytes, the target's of a link, and one number for every directory
+-- the size: a file's bytes, the target's of a link, one number for every directory, and 0 for a device
 abbrev pub node_size : Node → ℕ
 node_size (file bytes) = length bytes
 node_size (dir names) = DIR_SIZE
 node_size (link target) = length target
+node_size (device which) = 0
 
 -- how many of a directory's entries are for directories
 abbrev pub subdirectory_count : Forest → ℕ → ℕ

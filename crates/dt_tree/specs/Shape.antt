@@ -1,7 +1,7 @@
 -- How the nodes of a tree hang together: how many names each has, and what lies above it (inode(7), path_resolution(7)).
 use Rattle.std.specs.Prelude.{ℕ, zero, suc, Bool, not, ◌&&◌, is_some, ◌≡◌, ◌⊎◌, ◌≤◌, ◌==◌, if◌then◌else◌, List, Some, unwrap_or}
 use Rattle.std.specs.FinMap.{empty, len}
-use Rattle.dt_host.specs.World.{Forest, Node, dir_names, dir_at, target_at, names_at, entry, IsLive, IsDir, IsBare}
+use Rattle.dt_host.specs.World.{Forest, Node, dir_names, dir_at, target_at, device_at, names_at, entry, IsLive, IsDir, IsBare}
 use Rattle.dt_tables.specs.Total.{total}
 
 -- 1 for that number, and 0 for any other
@@ -61,3 +61,7 @@ is_bare v d = len (names_at v d) == 0
 -- the node is a symbolic link
 abbrev pub is_link : Forest → ℕ → Bool
 is_link v n = is_some (target_at v n)
+
+-- the node is a device
+abbrev pub is_device : Forest → ℕ → Bool
+is_device v n = is_some (device_at v n)

@@ -3,22 +3,24 @@
 use Rattle.std.specs.Prelude.{◌≡◌, ℕ, List, [], Option, None, Some, is_some, unwrap_or, option_map}
 use Rattle.std.specs.Ordering.{nat_cmp}
 use Rattle.std.specs.FinMap.{FinMap, get}
-use Rattle.dt_host.specs.World.{Forest, Node, file, dir, link, node_at, entry, IsLive}
+use Rattle.dt_base.specs.declared.image.Device as base
+use Rattle.dt_host.specs.World.{Forest, Node, file, dir, link, device, node_at, entry, IsLive}
 use Rattle.dt_tables.specs.Values.{map_values}
 use Rattle.dt_tree.specs.declared.inode.Kind.{Kind}
-use Rattle.dt_tree.specs.declared.inode.Kind.TheVariants.{File, Dir, Link}
+use Rattle.dt_tree.specs.declared.inode.Kind.TheVariants.{File, Dir, Link, Device}
 use Rattle.dt_tree.specs.declared.inode.Inode.{Inode}
 use Rattle.dt_tree.specs.declared.limits.TheConstants.{ROOT}
 use Rattle.dt_tree.specs.Shape.{name_count_of, name_count}
 use Rattle.dt_tree.specs.FileTree.{Attributes, FileTree, IsTree}
 
--- what is kept of each node by its inode, the inode of each number at the host, the inode of the next new node, and how many
--- names there are in all
+-- what is kept of each node by its inode, the inode of each number at the host, the inode of the next new node, how many
+-- names there are in all, and the version of the image
 pub record Table : Type 0 where
   pub inodes : FinMap nat_cmp Inode
   pub by_real : FinMap nat_cmp ℕ
   pub next : ℕ
   pub names : ℕ
+  pub version : ℕ
 
 -- the inode of a number at the host
 abbrev pub vino_of : Table → ℕ → ℕ
@@ -33,6 +35,7 @@ abbrev pub renumbered_node : (ℕ → ℕ) → Node → Node
 renumbered_node f (file bytes) = file bytes
 renumbered_node f (dir names) = dir (map_values f names)
 renumbered_node f (link target) = link target
+renumbered_node f (device which) = device which
 
 -- the node that is kept at the host, with inodes in its entries
 abbrev pub node_for : Table → Forest → Inode → Node
@@ -48,13 +51,21 @@ attributes_of inode = record { mode = inode.mode; stamp = inode.stamp; holds = i
 
 -- the file tree that a table and its host's nodes give
 abbrev pub tree_of : Table → Forest → FileTree
-tree_of t v = record { shape = shape_of t v; attributes = map_values attributes_of t.inodes; next = t.next }
+tree_of t v = record { shape = shape_of t v; attributes = map_values attributes_of t.inodes; next = t.next; version = t.version }
 
 -- what kind of node it is
 abbrev pub kind_of : Node → Kind
 kind_of (file bytes) = File
 kind_of (dir names) = Dir
 kind_of (link target) = Link
+kind_of (device which) = Device which
+
+-- which device a node of that kind is, if it is one
+abbrev pub device_of_kind : Kind → Option base.Device
+device_of_kind File = None
+device_of_kind Dir = None
+device_of_kind Link = None
+device_of_kind (Device which) = Some which
 
 -- a directory is named by that one, or by none
 abbrev pub IsUp : Forest → ℕ → Option ℕ → Type 0

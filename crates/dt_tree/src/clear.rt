@@ -85,7 +85,7 @@ impl Tree {
             None => Ok(()),
             Some(inode) => match inode.kind {
                 Kind::Dir => empty_dir(host, inode.real),
-                Kind::File | Kind::Link => Ok(()),
+                Kind::File | Kind::Link | Kind::Device(_) => Ok(()),
             },
         }
     }

@@ -1,5 +1,8 @@
 // What a tree keeps of a node.
 ghost use Rattle.std.specs.Prelude.{◌≡◌, None};
+ghost use Rattle.dt_tree.specs.Table.{device_of_kind};
+
+use dt_base::Device;
 
 /// What kind of node it is.
 #[derive(Clone, Copy, Debug, PartialEq, Eq)]
@@ -7,6 +10,19 @@ pub enum Kind {
     File,
     Dir,
     Link,
+    Device(Device),
+}
+
+impl Kind {
+    // Which device it is, if it is one.
+    pub(crate) fn device(self) -> Option<Device>
+        ensures { result ≡ device_of_kind self }
+    {
+        match self {
+            Kind::Device(device) => Some(device),
+            Kind::File | Kind::Dir | Kind::Link => None,
+        }
+    }
 }
 
 /// What a tree keeps of a node: its number at the host, its mode, stamp and holds, and for speed its kind,

@@ -1,11 +1,11 @@
 // An image, installed.
-ghost use Rattle.std.specs.Prelude.{◌≡◌, ◌-◌, [], length, not, OnOk, IsErrOf};
+ghost use Rattle.std.specs.Prelude.{◌≡◌, ◌-◌, ℕ, length, not, OnOk, IsErrOf};
 ghost use Rattle.std.specs.List.{suffix_len};
 ghost use Rattle.dt_base.specs.Image.{IsImage};
 ghost use Rattle.dt_base.specs.Path.{is_slash, parent_of};
 ghost use Rattle.dt_host.specs.Cause.{HasCause};
 ghost use Rattle.dt_host.specs.World.{OnlyForest};
-ghost use Rattle.dt_tree.specs.ImageTree.{last_name, image_tree};
+ghost use Rattle.dt_tree.specs.ImageTree.{last_name, image_tree, root_tree};
 ghost use Rattle.dt_tree.specs.Table.{Stands, tree_of};
 ghost use Rattle.dt_tree.specs.inner.Places.{IsInodeOfPath};
 
@@ -15,11 +15,11 @@ use dt_base::{Entry, Image};
 use dt_host::{Host, HostErr};
 
 impl Tree {
-    /// Brings the files, directories and links of an image into a tree that is new. They get the inodes 2, 3, ..
-    /// in byte order of their paths. After an error the tree may only be dropped.
+    /// Brings the files, directories, links and devices of an image into a tree that is new. They get the inodes 2, 3,
+    /// .. in byte order of their paths. After an error the tree may only be dropped.
     pub fn install<H: Host>(&mut self, host: &mut H, image: &Image) -> Result<(), HostErr>
         requires stands { Stands self.old (H.view host.old).forest }
-        requires new { tree_of self.old (H.view host.old).forest ≡ image_tree [] }
+        requires new { tree_of self.old (H.view host.old).forest ≡ root_tree }
         ensures stands { OnOk result (Stands self.new (H.view host.new).forest) }
         ensures tree { OnOk result
             (tree_of self.new (H.view host.new).forest ≡ image_tree image.now) }
@@ -28,6 +28,7 @@ impl Tree {
             (IsErrOf result HostErr.Failed) }
     {
         let _before = host.faults();
+        self.set_version(image.version());
         let entries = image.entries();
         for entry in entries {
             let (path, name) = split_path(entry.path.as_slice());
@@ -60,7 +61,7 @@ fn name_start(path: &[u8]) -> usize
 
 // The inode of the entry at a path, and the root's for the empty path.
 fn inode_at(entries: &[Entry], path: &[u8]) -> u64
-    requires { IsImage entries.now }
+    requires { (version : ℕ) × IsImage (record { version = version; entries = entries.now }) }
     ensures { IsInodeOfPath entries.now path.now result }
 {
     if path.is_empty() {

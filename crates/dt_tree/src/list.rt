@@ -10,7 +10,7 @@ ghost use Rattle.dt_tree.specs.inner.Kinds.{type_for};
 
 use crate::inode::Kind;
 use crate::tree::Tree;
-use dt_base::abi::{DT_DIR, DT_LNK, DT_REG};
+use dt_base::abi::{DT_CHR, DT_DIR, DT_LNK, DT_REG};
 use dt_base::{Blob, NoMemory};
 use dt_host::{Host, HostEntry, HostErr, sorted_names};
 
@@ -61,6 +61,7 @@ pub(crate) fn type_of(kind: Kind) -> u8
         Kind::File => DT_REG,
         Kind::Dir => DT_DIR,
         Kind::Link => DT_LNK,
+        Kind::Device(_) => DT_CHR,
     }
 }
 

@@ -1,7 +1,7 @@
 // What is read of a node.
 ghost use Rattle.std.specs.Prelude.{◌≡◌, ◌-◌, ◌++◌, Some, IfOk, is_some, length, not, take, drop, min};
 ghost use Rattle.dt_host.specs.Asks.{Asks};
-ghost use Rattle.dt_host.specs.World.{Forest, IsDir, IsFile, IsLink, content, entry, target_at};
+ghost use Rattle.dt_host.specs.World.{Forest, IsDir, IsFile, IsLink, content, device_at, entry, target_at};
 ghost use Rattle.dt_tree.specs.Above.{dot_dot, parent_at};
 ghost use Rattle.dt_tree.specs.Shape.{is_dir, is_link, is_removed};
 ghost use Rattle.dt_tree.specs.Table.{Stands, shape_of};
@@ -9,7 +9,7 @@ ghost use Rattle.dt_tree.specs.Table.{Stands, shape_of};
 use crate::inode::Kind;
 use crate::limits::ROOT;
 use crate::tree::Tree;
-use dt_base::Blob;
+use dt_base::{Blob, Device};
 use dt_host::{Host, HostErr, read_whole};
 
 impl Tree {
@@ -30,6 +30,16 @@ impl Tree {
         match self.found(vino) {
             Some(inode) => inode.kind == Kind::Link,
             None => false,
+        }
+    }
+
+    /// Which device is of this inode, if one is.
+    pub fn device(&self, vino: u64) -> Option<Device>
+        ensures { (v : Forest) → Stands self.now v → result ≡ device_at (shape_of self.now v) vino }
+    {
+        match self.found(vino) {
+            Some(inode) => inode.kind.device(),
+            None => None,
         }
     }
 

@@ -30,7 +30,7 @@ impl Tree {
     ) -> Result<u64, CallErr>
         requires stands { Stands self.old (H.view host.old).forest }
         requires new { IsNewName (tree_of self.old (H.view host.old).forest) dir name.now }
-        requires good { IsTrue (is_good_what what.now mode) }
+        requires good { IsTrue (is_good_what self.old.version what.now mode) }
         ensures done { IsTreeAnswer result (tree_of self.new (H.view host.new).forest)
             (make_node_of (tree_of self.old (H.view host.old).forest) dir name.now what.now mode stamp) }
         ensures stands { UnlessFailed result (Stands self.new (H.view host.new).forest) }

@@ -74,6 +74,7 @@ impl Tree {
                 let target = host.target(inode.real)?;
                 Ok(target.len() as u64)
             }
+            Kind::Device(_) => Ok(0),
         }
     }
 

@@ -1,5 +1,5 @@
 // The steps of which changes are made: each changes the host and what is kept together, and the tree in one way.
-ghost use Rattle.std.specs.Prelude.{◌≡◌, ◌<◌, ◌≤◌, ◌==◌, ◌&&◌, not, None, Some, IsSome, IsTrue, IfSome, IfOk, OnOk};
+ghost use Rattle.std.specs.Prelude.{◌≡◌, ℕ, ◌<◌, ◌≤◌, ◌==◌, ◌&&◌, not, None, Some, IsSome, IsTrue, IfSome, IfOk, OnOk};
 ghost use Rattle.std.specs.Prelude.{IsErrOf};
 ghost use Rattle.std.specs.FinMap.{get};
 ghost use Rattle.dt_base.specs.Image.{is_good_what};
@@ -26,12 +26,13 @@ fn kind_of_new(what: &What) -> Kind
         What::File(_) => Kind::File,
         What::Dir => Kind::Dir,
         What::Link(_) => Kind::Link,
+        What::Dev(device) => Kind::Device(*device),
     }
 }
 
 // Makes a node at the host.
 fn make_real<H: Host>(host: &mut H, what: &What, mode: u32) -> Result<u64, HostErr>
-    requires { IsTrue (is_good_what what.now mode) }
+    requires { (version : ℕ) × IsTrue (is_good_what version what.now mode) }
     ensures made { IfOk result (IsMadeAt (H.view host.old) (new_node what.now) (H.view host.new)) }
     ensures rest { OnlyForest (H.view host.old) (H.view host.new) }
     ensures cause { HasCause (H.count host.old) (H.count host.new)
@@ -45,6 +46,7 @@ fn make_real<H: Host>(host: &mut H, what: &What, mode: u32) -> Result<u64, HostE
         }
         What::Dir => host.make(NodeKind::Dir),
         What::Link(target) => host.make(NodeKind::Link(target.copy()?)),
+        What::Dev(device) => host.make(NodeKind::Device(*device)),
     }
 }
 
@@ -65,7 +67,7 @@ impl Tree {
         stamp: u64,
     ) -> Result<u64, HostErr>
         requires stands { Stands self.old (H.view host.old).forest }
-        requires good { IsTrue (is_good_what what.now mode) }
+        requires good { IsTrue (is_good_what self.old.version what.now mode) }
         ensures number { IfOk result (λ n. n ≡ self.old.next) }
         ensures mirrors { OnOk result (IsMirror self.new (H.view host.new).forest) }
         ensures tree { OnOk result (tree_of self.new (H.view host.new).forest

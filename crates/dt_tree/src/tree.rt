@@ -2,17 +2,18 @@
 ghost use Rattle.std.specs.Prelude.{◌≡◌, Some, IsSome, IfOk, OnOk};
 ghost use Rattle.std.specs.FinMap.{get, len};
 ghost use Rattle.dt_tree.specs.Table.{vino_of};
-ghost use Rattle.dt_tree.specs.inner.Tables.{with_inode, with_names, with_new, without_inode, root_table};
+ghost use Rattle.dt_tree.specs.inner.Tables.{with_inode, with_names, with_new, with_version, without_inode, root_table};
 
 use crate::inode::Inode;
 use crate::inodes;
 use crate::limits::{FIRST_INODE, ROOT};
-use dt_base::NoMemory;
+use dt_base::{FIRST_VERSION, NoMemory};
 use std::alloc::Global;
 use std::collections::BTreeMap;
 use std::marker::Model;
 
-/// The virtual tree: which node of the host each of its nodes is, and what the host doesn't keep of it.
+/// The virtual tree: which node of the host each of its nodes is, what the host doesn't keep of it, and the version of
+/// the image that it began as.
 #[derive(Drop)]
 pub struct Tree {
     pub(crate) alloc: Global,
@@ -20,6 +21,7 @@ pub struct Tree {
     by_real: BTreeMap<u64, u64>,
     next: u64,
     names: u64,
+    version: u64,
 }
 
 impl Model for Tree {
@@ -36,6 +38,7 @@ impl Model for Tree {
       by_real = map_of (λ n. n) (λ n. n) t.by_real.entries;
       next = t.next;
       names = t.names;
+      version = t.version;
     } };
 }
 
@@ -54,7 +57,22 @@ impl Tree {
             by_real,
             next: FIRST_INODE,
             names: 0,
+            version: FIRST_VERSION,
         })
+    }
+
+    /// The version of the image that the tree began as.
+    pub fn version(&self) -> u64
+        ensures { result ≡ self.now.version }
+    {
+        self.version
+    }
+
+    // Lets the tree be one of an image of that version.
+    pub(crate) fn set_version(&mut self, version: u64)
+        ensures { self.new ≡ with_version self.old version }
+    {
+        self.version = version;
     }
 
     // What is kept of a node, if it is there.

@@ -1,6 +1,7 @@
 // The bytes of a file, changed.
 ghost use Rattle.std.specs.Prelude.{◌≡◌, ◌+◌, ◌≤◌, length, OnOk, IsErrOf};
 ghost use Rattle.dt_base.specs.declared.limits.TheConstants.{FILE_LIMIT};
+ghost use Rattle.dt_base.specs.Profile.{file_limit};
 ghost use Rattle.dt_host.specs.declared.error.CallErr.TheVariants.{Host as host_failed};
 ghost use Rattle.dt_host.specs.Cause.{HasCause};
 ghost use Rattle.dt_host.specs.World.{IsFile, OnlyForest};
@@ -10,7 +11,7 @@ ghost use Rattle.dt_tree.specs.Table.{Stands, shape_of, tree_of};
 ghost use Rattle.dt_tree.specs.inner.Files.{with_padding, with_padded_write};
 
 use crate::tree::Tree;
-use dt_base::{Errno, FILE_LIMIT};
+use dt_base::{Errno, file_limit};
 use dt_host::{CallErr, Host, HostErr, write_whole};
 
 // Puts zeros behind the bytes of a file at the host up to `off`, where it is shorter.
@@ -53,7 +54,7 @@ impl Tree {
     ) -> Result<(), HostErr>
         requires stands { Stands self.old (H.view host.old).forest }
         requires file { IsFile (shape_of self.old (H.view host.old).forest) vino }
-        requires fits { off + length bytes.now ≤ FILE_LIMIT }
+        requires fits { off + length bytes.now ≤ file_limit self.old.version }
         ensures stands { OnOk result (Stands self.new (H.view host.new).forest) }
         ensures tree { OnOk result (tree_of self.new (H.view host.new).forest
             ≡ tree_after_write (tree_of self.old (H.view host.old).forest) vino off bytes.now stamp) }
@@ -78,7 +79,7 @@ impl Tree {
     ) -> Result<(), HostErr>
         requires stands { Stands self.old (H.view host.old).forest }
         requires file { IsFile (shape_of self.old (H.view host.old).forest) vino }
-        requires fits { len ≤ FILE_LIMIT }
+        requires fits { len ≤ file_limit self.old.version }
         ensures stands { OnOk result (Stands self.new (H.view host.new).forest) }
         ensures tree { OnOk result (tree_of self.new (H.view host.new).forest
             ≡ tree_after_truncate (tree_of self.old (H.view host.old).forest) vino len stamp) }
@@ -94,7 +95,7 @@ impl Tree {
     }
 
     /// Writes bytes over a file from `off` on, with zeros in the gap where that lies past its end. The file gets the
-    /// stamp. EFBIG where it would have more than 16,777,216 bytes.
+    /// stamp. EFBIG where it would pass the limit of the tree's version.
     pub fn write_at<H: Host>(
         &mut self,
         host: &mut H,
@@ -115,14 +116,14 @@ impl Tree {
             (IsErrOf result (host_failed HostErr.Failed)) }
     {
         let _before = host.faults();
-        if off.saturating_add(bytes.len() as u64) > FILE_LIMIT {
+        if off.saturating_add(bytes.len() as u64) > file_limit(self.version()) {
             return Err(CallErr::Errno(Errno::FBig));
         }
         Ok(self.write_within(host, vino, off, bytes, stamp)?)
     }
 
     /// Cuts a file to a length, or puts zeros behind its bytes up to it (ftruncate(2)). The file gets the stamp. EFBIG
-    /// where it would have more than 16,777,216 bytes.
+    /// where it would pass the limit of the tree's version.
     pub fn cut<H: Host>(
         &mut self,
         host: &mut H,
@@ -142,7 +143,7 @@ impl Tree {
             (IsErrOf result (host_failed HostErr.Failed)) }
     {
         let _before = host.faults();
-        if len > FILE_LIMIT {
+        if len > file_limit(self.version()) {
             return Err(CallErr::Errno(Errno::FBig));
         }
         Ok(self.cut_within(host, vino, len, stamp)?)

@@ -1,9 +1,10 @@
 -- The kit's transfer of whole words gives the bytes of the stream's words.
 use Rattle.std.proofs.Common.{◌≡◌, ℕ, zero, suc, ◌+◌, ◌*◌, ◌%◌, ◌^◌, ◌<◌, List, [], take, length, length-append, refl, ap, ◌∙◌, arith}
+use Rattle.std.proofs.lemmas.List.{length-take-le}
 use Rattle.std.specs.Int.{w32, to_le_bytes}
 use Rattle.rand_core.specs.Steps.{word_bytes, first_bytes, fill_via_u32}
 use Rattle.rand_chacha.specs.ChaCha.{ChaCha, next_word, key_of}
-use Rattle.dt_virt.specs.Words.{word, bytes_from, word_count}
+use Rattle.dt_virt.specs.Words.{SeededWords, word, bytes_from, next_bytes, word_count}
 
 -- a generator of a stream at a position
 abbrev pub at : List ℕ → ℕ → ℕ → ChaCha
@@ -64,3 +65,9 @@ length-bytes_from key stream word_pos (suc count) =
     let before = length-bytes_from key stream word_pos count in
     let more : length (to_le_bytes w32 (word key stream (word_pos + count))) ≡ 4 = refl in
     rw length-append (omega (arith, before, more))
+
+-- as many bytes are drawn as are asked for
+pub length-drawn : (words : SeededWords) (count : ℕ) → length (next_bytes words count) ≡ count
+length-drawn words count =
+    let all = length-bytes_from words.key 0 words.word_pos (word_count count) in
+    length-take-le count (bytes_from words.key 0 words.word_pos (word_count count)) (omega (arith, all))

@@ -7,7 +7,7 @@ use Rattle.std.specs.Str.{bytes_eq}
 use Rattle.std.specs.FinMap.{get}
 use Rattle.dt_base.specs.declared.limits.TheConstants.{NAME_LIMIT, PATH_LIMIT}
 use Rattle.dt_base.specs.Path.{has_no_nul}
-use Rattle.dt_host.specs.World.{Forest, Node, file, dir, link, node_at, dir_names, target_at, link_target, IsDir}
+use Rattle.dt_host.specs.World.{Forest, Node, file, dir, link, device, node_at, dir_names, target_at, link_target, IsDir}
 use Rattle.dt_tree.specs.Shape.{IsShaped, is_link}
 use Rattle.dt_tree.specs.FileTree.{Attributes, FileTree, IsTree, IsGoodNode, is_entry_name}
 use Rattle.dt_walk.specs.declared.place.Place.{Place}
@@ -41,13 +41,14 @@ module _ (t : FileTree) (tree : IsTree t) where
       by_good : (a : Option Attributes) → get t.attributes n ≡ a → is_some a ≡ true → node_at t.shape n ≡ Some (link target) → IsTrue (has_no_nul target)
       by_good None at some is = absurd (cc)
       by_good (Some a) at some is =
-          let good : IsGoodNode (link target) a.mode = tree.good n (link target) a is at in
+          let good : IsGoodNode t.version (link target) a.mode = tree.good n (link target) a is at in
           (and_parts (nat_le 1 (length target) && nat_le (length target) PATH_LIMIT) (has_no_nul target) good.0).1
 
       by_node : (found : Option Node) → node_at t.shape n ≡ found → option_and_then link_target found ≡ Some target → IsTrue (has_no_nul target)
       by_node None is h = absurd (cc)
       by_node (Some (file bytes)) is h = absurd (cc)
       by_node (Some (dir names)) is h = absurd (cc)
+      by_node (Some (device which)) is h = absurd (cc)
       by_node (Some (link x)) is h =
           let same : x ≡ target = cc in
           let here : node_at t.shape n ≡ Some (link target) = is ∙ ap (λ x. Some (link x)) same in
@@ -75,6 +76,7 @@ module _ (v : Forest) (s : IsShaped v) (root : v.root ≡ 1) where
       by_node (Some (file bytes)) h = refl
       by_node (Some (dir names)) h = refl
       by_node (Some (link target)) h = absurd (cc)
+      by_node (Some (device which)) h = absurd (cc)
 
   no_link : (found : Option ℕ) → IfSome found (λ n. target_at v n ≡ None) → IfSome found (λ n. is_link v n ≡ false)
   no_link None h = tt

@@ -1,8 +1,8 @@
 -- The classes of instructions, each with an opcode or a few (RISC-V unprivileged specification, "RV32/64G Instruction
--- Set Listings"). No two have an instruction in common, but for the last two words, which are classes put together.
+-- Set Listings"). No two have an instruction in common, but for the last three words, which are classes put together.
 use Rattle.std.specs.Prelude.{Bool, true, false, ◌||◌}
 use Rattle.dt_rv64.specs.declared.instruction.Instr.{Instr}
-use Rattle.dt_rv64.specs.declared.instruction.Instr.TheVariants.{Lui, Auipc, Jal, Jalr, Beq, Bne, Blt, Bge, Bltu, Bgeu, Lb, Lh, Lw, Ld, Lbu, Lhu, Lwu, Sb, Sh, Sw, Sd, Addi, Slti, Sltiu, Xori, Ori, Andi, Slli, Srli, Srai, Add, Sll, Slt, Sltu, Xor, Srl, Or, And, Sub, Sra, Mul, Mulh, Mulhsu, Mulhu, Div, Divu, Rem, Remu, Addiw, Slliw, Srliw, Sraiw, Addw, Sllw, Srlw, Subw, Sraw, Mulw, Divw, Divuw, Remw, Remuw, Fence, Ecall, Ebreak, ReadCounter}
+use Rattle.dt_rv64.specs.declared.instruction.Instr.TheVariants.{Lui, Auipc, Jal, Jalr, Beq, Bne, Blt, Bge, Bltu, Bgeu, Lb, Lh, Lw, Ld, Lbu, Lhu, Lwu, Sb, Sh, Sw, Sd, Addi, Slti, Sltiu, Xori, Ori, Andi, Slli, Srli, Srai, Add, Sll, Slt, Sltu, Xor, Srl, Or, And, Sub, Sra, Mul, Mulh, Mulhsu, Mulhu, Div, Divu, Rem, Remu, Addiw, Slliw, Srliw, Sraiw, Addw, Sllw, Srlw, Subw, Sraw, Mulw, Divw, Divuw, Remw, Remuw, LrW, ScW, AmoswapW, AmoaddW, AmoxorW, AmoandW, AmoorW, AmominW, AmomaxW, AmominuW, AmomaxuW, LrD, ScD, AmoswapD, AmoaddD, AmoxorD, AmoandD, AmoorD, AmominD, AmomaxD, AmominuD, AmomaxuD, Fence, Ecall, Ebreak, ReadCounter}
 
 -- LUI, AUIPC, JAL and JALR
 abbrev pub is_lui_auipc_or_jump : Instr → Bool
@@ -106,6 +106,36 @@ is_op_32_multiply (Remw a b c) = true
 is_op_32_multiply (Remuw a b c) = true
 is_op_32_multiply _ = false
 
+-- AMO with funct3 2, atomics of 32 bits
+abbrev pub is_atomic_32 : Instr → Bool
+is_atomic_32 (LrW a b) = true
+is_atomic_32 (ScW a b c) = true
+is_atomic_32 (AmoswapW a b c) = true
+is_atomic_32 (AmoaddW a b c) = true
+is_atomic_32 (AmoxorW a b c) = true
+is_atomic_32 (AmoandW a b c) = true
+is_atomic_32 (AmoorW a b c) = true
+is_atomic_32 (AmominW a b c) = true
+is_atomic_32 (AmomaxW a b c) = true
+is_atomic_32 (AmominuW a b c) = true
+is_atomic_32 (AmomaxuW a b c) = true
+is_atomic_32 _ = false
+
+-- AMO with funct3 3, atomics of 64 bits
+abbrev pub is_atomic_64 : Instr → Bool
+is_atomic_64 (LrD a b) = true
+is_atomic_64 (ScD a b c) = true
+is_atomic_64 (AmoswapD a b c) = true
+is_atomic_64 (AmoaddD a b c) = true
+is_atomic_64 (AmoxorD a b c) = true
+is_atomic_64 (AmoandD a b c) = true
+is_atomic_64 (AmoorD a b c) = true
+is_atomic_64 (AmominD a b c) = true
+is_atomic_64 (AmomaxD a b c) = true
+is_atomic_64 (AmominuD a b c) = true
+is_atomic_64 (AmomaxuD a b c) = true
+is_atomic_64 _ = false
+
 -- FENCE of MISC-MEM, and SYSTEM
 abbrev pub is_fence_or_system : Instr → Bool
 is_fence_or_system Fence = true
@@ -121,3 +151,7 @@ is_computational_32 i = is_op_imm_32 i || (is_op_32 i || is_op_32_multiply i)
 -- computations, those of 32 bits among them
 abbrev pub is_computational : Instr → Bool
 is_computational i = is_op_imm i || (is_op i || (is_op_multiply i || is_computational_32 i))
+
+-- computations and atomics
+abbrev pub is_computational_or_atomic : Instr → Bool
+is_computational_or_atomic i = is_atomic_32 i || (is_atomic_64 i || is_computational i)

@@ -16,6 +16,15 @@ pub record IsR (opcode funct3 funct7 rd rs1 rs2 word : ℕ) : Type 0 where
   pub rs1_is : format.rs1 word ≡ rs1
   pub rs2_is : format.rs2 word ≡ rs2
 
+-- R, as of the atomics
+pub record IsAtomic (opcode funct3 funct5 rd rs1 rs2 word : ℕ) : Type 0 where
+  pub opcode_is : format.opcode word ≡ opcode
+  pub funct3_is : format.funct3 word ≡ funct3
+  pub funct5_is : format.funct5 word ≡ funct5
+  pub rd_is : format.rd word ≡ rd
+  pub rs1_is : format.rs1 word ≡ rs1
+  pub rs2_is : format.rs2 word ≡ rs2
+
 -- I, as of ADDI and LW
 pub record IsI (opcode funct3 rd rs1 : ℕ) (immediate : ℤ) (word : ℕ) : Type 0 where
   pub opcode_is : format.opcode word ≡ opcode

@@ -93,6 +93,8 @@ fn copy_machine(alloc: Global, machine: &mut Machine, vpid: u32) -> Result<Effec
         regs: machine.regs,
         pc: machine.pc,
         space: machine.space.fork()?,
+        reserved: machine.reserved,
+        atomics: machine.atomics,
     };
     child.answer(0);
     put_stack(&mut child, machine.reg(A1));

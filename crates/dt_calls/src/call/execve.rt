@@ -10,6 +10,7 @@ use crate::container::Served;
 use crate::shared::Shared;
 use crate::task::exec_task;
 use dt_base::abi::{A0, A1, A2};
+use dt_base::has_atomics;
 use dt_exec::{Program, execve_program};
 use dt_host::{Host, HostErr};
 use dt_rv64::Machine;
@@ -42,6 +43,7 @@ pub fn execve<H: Host>(
         argv,
         envp,
         &random,
+        has_atomics(shared.fs.tree.version()),
     )?;
     match found {
         Ok(program) => replace_program(alloc, host, shared, vpid, machine, program),

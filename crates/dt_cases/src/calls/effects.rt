@@ -30,11 +30,18 @@ pub fn written(alloc: Global, numbers: &Numbers, text: &str) -> Result<Option<Ve
 }
 
 // The members of `struct stat` in order (asm-generic/stat.h): `ino=N mode=N nlink=N size=N blocks=N mtime=N`, where the
-// last one is in nanoseconds of logical time. The times of access, modification and change are one.
+// last one is in nanoseconds of logical time. The times of access, modification and change are one. Behind them
+// `rdev=N` may stand; without it st_rdev is 0.
 fn stat(alloc: Global, numbers: &Numbers, text: &str) -> Result<Vec<u8>, CaseErr> {
     let words: Vec<&str> = text.split_whitespace().collect(alloc)?;
-    let [ino, mode, nlink, size, blocks, mtime] = words.as_slice() else {
-        return Err(unreadable(alloc, text));
+    let (ino, mode, nlink, size, blocks, mtime, rdev) = match words.as_slice() {
+        [ino, mode, nlink, size, blocks, mtime] => {
+            (*ino, *mode, *nlink, *size, *blocks, *mtime, "rdev=0")
+        }
+        [ino, mode, nlink, size, blocks, mtime, rdev] => {
+            (*ino, *mode, *nlink, *size, *blocks, *mtime, *rdev)
+        }
+        _ => return Err(unreadable(alloc, text)),
     };
     let mut stat = Vec::new(alloc);
     // st_dev and st_ino.
@@ -43,8 +50,11 @@ fn stat(alloc: Global, numbers: &Numbers, text: &str) -> Result<Vec<u8>, CaseErr
     // st_mode and st_nlink, with 32 bits each.
     add_half(&mut stat, member(alloc, numbers, mode, "mode=")?)?;
     add_half(&mut stat, member(alloc, numbers, nlink, "nlink=")?)?;
-    // st_uid, st_gid, st_rdev and 8 bytes that are not used.
-    stat.extend_from_slice(&[0; 24])?;
+    // st_uid and st_gid.
+    add(&mut stat, 0)?;
+    add(&mut stat, member(alloc, numbers, rdev, "rdev=")?)?;
+    // 8 bytes that are not used.
+    add(&mut stat, 0)?;
     add(&mut stat, member(alloc, numbers, size, "size=")?)?;
     // st_blksize and 4 bytes that are not used.
     add(&mut stat, 4_096)?;

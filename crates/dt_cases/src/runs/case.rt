@@ -178,11 +178,10 @@ impl Case {
     }
 
     fn index(&self) -> Result<Vec<u8>, CaseErr> {
-        let entries = self.plan.entries.as_str();
         match &self.index {
             Some(index) => Ok(Vec::from_slice(self.alloc, index)?),
             None => {
-                let index = format!(in self.alloc; "{{\"version\":1,\"entries\":[{entries}]}}")?;
+                let index = self.plan.index()?;
                 Ok(Vec::from_slice(self.alloc, index.as_bytes())?)
             }
         }

@@ -4,7 +4,7 @@ use crate::error::CaseErr;
 use crate::numbers::Numbers;
 use crate::steps::code::S0;
 use crate::steps::layout::{ANSWERS, MEMORY_SIZE};
-use crate::steps::shown::{HEADER, add_shown};
+use crate::steps::shown::{add_shown, header};
 use crate::steps::step::take;
 use crate::text::{bytes, split_word, unreadable};
 use dt_asm::Guest;
@@ -50,6 +50,8 @@ pub struct Plan {
     pub what: String,
     /// The words after the program's name.
     pub words: Vec<String>,
+    /// The version of the image.
+    pub version: u64,
     /// The entries of the image's index.
     pub entries: String,
     pub blobs: Vec<Stored>,
@@ -78,6 +80,7 @@ impl Plan {
             place: Place::Setting,
             what: String::new(alloc),
             words: Vec::new(alloc),
+            version: 1,
             entries: String::new(alloc),
             blobs: Vec::new(alloc),
             tree: None,
@@ -86,11 +89,17 @@ impl Plan {
             second: guest(alloc)?,
             turns: Vec::new(alloc),
             faults: None,
-            shown: Vec::from_slice(alloc, HEADER)?,
+            shown: header(alloc, 1)?,
             parts: Vec::new(alloc),
             verdict: String::new(alloc),
             status: None,
         })
+    }
+
+    /// The index of the image.
+    pub fn index(&self) -> Result<String, AllocError> {
+        let (version, entries) = (self.version, self.entries.as_str());
+        format!(in self.alloc; "{{\"version\":{version},\"entries\":[{entries}]}}")
     }
 
     /// Says that the report has a part from here on by a line.
@@ -152,6 +161,7 @@ impl Plan {
         match word {
             "case" => self.what = String::from_str(alloc, rest)?,
             "words" => self.words = words(alloc, rest)?,
+            "version" => self.set_version(count(numbers, rest)?)?,
             "entry" => self.add_entry(numbers, rest)?,
             "blob" => {
                 let (name, text) = split_word(rest);
@@ -176,7 +186,14 @@ impl Plan {
         Ok(())
     }
 
-    // Adds an entry to the index: `dir PATH MODE`, `file PATH MODE BLOB` or `link PATH TARGET`.
+    // Says the version of the image, before anything shows.
+    fn set_version(&mut self, version: u64) -> Result<(), CaseErr> {
+        self.version = version;
+        self.shown = header(self.alloc, version)?;
+        Ok(())
+    }
+
+    // Adds an entry to the index: `dir PATH MODE`, `file PATH MODE BLOB`, `link PATH TARGET` or `dev PATH MODE DEVICE`.
     fn add_entry(&mut self, numbers: &Numbers, text: &str) -> Result<(), CaseErr> {
         let alloc = self.alloc;
         let words: Vec<&str> = text.split_whitespace().collect(alloc)?;
@@ -194,6 +211,12 @@ impl Plan {
             ["link", path, target] => {
                 format!(in alloc;
                     "{{\"path\":\"{path}\",\"type\":\"link\",\"target\":\"{target}\"}}"
+                )?
+            }
+            ["dev", path, mode, device] => {
+                let mode = numbers.number(mode)?;
+                format!(in alloc;
+                    "{{\"path\":\"{path}\",\"type\":\"dev\",\"mode\":{mode},\"device\":\"{device}\"}}"
                 )?
             }
             _ => return Err(unreadable(alloc, text)),

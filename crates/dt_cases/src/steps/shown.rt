@@ -4,8 +4,11 @@ use crate::numbers::Numbers;
 use crate::text::{bytes, split_word, unreadable};
 use std::alloc::{AllocError, Global};
 
-/// What a report begins with.
-pub const HEADER: &[u8] = b"dettrace 1\n";
+/// What a report on an image of that version begins with.
+pub fn header(alloc: Global, version: u64) -> Result<Vec<u8>, AllocError> {
+    let line = format!(in alloc; "dettrace {version}\n")?;
+    Vec::from_slice(alloc, line.as_bytes())
+}
 
 /// Adds to a report what a line says that shows:
 /// `told` with answers: a process writes them to stream 2;

@@ -41,14 +41,13 @@ impl<'a> Trial<'a> {
         if plan.verdict.is_empty() || plan.hosts.is_empty() {
             return Err(unreadable(alloc, "no verdict or no hosts"));
         }
-        let entries = plan.entries.as_str();
         let first = plan.first.elf()?;
         let second = plan.second.elf()?;
         Ok(Trial {
             alloc,
             plan,
             status,
-            index: format!(in alloc; "{{\"version\":1,\"entries\":[{entries}]}}")?,
+            index: plan.index()?,
             tree: tree(alloc, plan, &first, &second)?,
             first,
             second,

@@ -138,7 +138,9 @@ fn tell_descriptor<H: Host>(
         return Ok(Answer::Refused(Errno::BadF));
     };
     match desc.kind {
-        DescKind::File(n) | DescKind::Dir(n) => tell_status(fs, host, caller, space, buffer, n),
+        DescKind::File(n) | DescKind::Dir(n) | DescKind::Device(n) => {
+            tell_status(fs, host, caller, space, buffer, n)
+        }
         DescKind::PipeRead(q) | DescKind::PipeWrite(q) => {
             fill(fs, host, caller, space, buffer, &pipe_stat(q), 0)
         }
@@ -217,6 +219,6 @@ fn fill_status<H: Host>(
         (stage fs.now (H.view host.now) caller.now space.new) result
         (H.count host.now) (H.count host.now) }
 {
-    let bytes = stat_of(n, meta);
+    let bytes = stat_of(n, meta, fs.tree.device(n));
     fill(fs, host, caller, space, buffer, &bytes, 0)
 }

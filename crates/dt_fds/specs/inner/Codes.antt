@@ -6,7 +6,7 @@ use Rattle.std.specs.Ordering.{nat_cmp}
 use Rattle.std.specs.FinMap.{FinMap, code}
 use Rattle.dt_fds.specs.declared.desc.Desc.{Desc}
 use Rattle.dt_fds.specs.declared.desc.DescKind.{DescKind}
-use Rattle.dt_fds.specs.declared.desc.DescKind.TheVariants.{File, Dir, PipeRead, PipeWrite, Input, Stream}
+use Rattle.dt_fds.specs.declared.desc.DescKind.TheVariants.{File, Dir, Device, PipeRead, PipeWrite, Input, Stream}
 use Rattle.dt_fds.specs.declared.desc.Spot.{Spot}
 use Rattle.dt_fds.specs.declared.desc.Spot.TheVariants.{At, After}
 use Rattle.dt_fds.specs.declared.desc.Slot.{Slot}
@@ -16,17 +16,19 @@ use Rattle.dt_fds.specs.declared.ends.Ends.{Ends}
 abbrev pub kind_pair : DescKind → ℕ × ℕ
 kind_pair (File n) = (0, n)
 kind_pair (Dir n) = (1, n)
+kind_pair (Device n) = (6, n)
 kind_pair Input = (2, 0)
 kind_pair (Stream s) = (3, s)
 kind_pair (PipeRead q) = (4, q)
 kind_pair (PipeWrite q) = (5, q)
 
 abbrev pub pair_kind : ℕ × ℕ → DescKind
-pair_kind p = cond (p.0 == 0) (File p.1) (cond (p.0 == 1) (Dir p.1) (cond (p.0 == 2) Input (cond (p.0 == 3) (Stream p.1) (cond (p.0 == 4) (PipeRead p.1) (PipeWrite p.1)))))
+pair_kind p = cond (p.0 == 0) (File p.1) (cond (p.0 == 1) (Dir p.1) (cond (p.0 == 2) Input (cond (p.0 == 3) (Stream p.1) (cond (p.0 == 4) (PipeRead p.1) (cond (p.0 == 5) (PipeWrite p.1) (Device p.1))))))
 
 pub pair_kind-pair : (k : DescKind) → pair_kind (kind_pair k) ≡ k
 pair_kind-pair (File n) = refl
 pair_kind-pair (Dir n) = refl
+pair_kind-pair (Device n) = refl
 pair_kind-pair Input = refl
 pair_kind-pair (Stream s) = refl
 pair_kind-pair (PipeRead q) = refl

@@ -8,14 +8,15 @@ use Rattle.std.specs.Cmp.Lexicographic.{slice_cmp}
 use Rattle.std.specs.Borrow.{Bor}
 use Rattle.dt_image.specs.declared.index.EntryRef.{EntryRef}
 use Rattle.dt_image.specs.declared.index.SourceRef.{SourceRef}
-use Rattle.dt_image.specs.declared.index.SourceRef.TheVariants.{File, Dir, Link}
+use Rattle.dt_image.specs.declared.index.SourceRef.TheVariants.{File, Dir, Link, Dev}
 use Rattle.dt_image.specs.declared.blobs.Measured.{Measured}
 use Rattle.dt_host.specs.Store.{StoreFiles, size_of}
 use Rattle.dt_base.specs.declared.image.Entry.{Entry}
 use Rattle.dt_base.specs.declared.limits.TheConstants.{MODE_LIMIT}
-use Rattle.dt_base.specs.Image.{is_dir}
+use Rattle.dt_base.specs.Image.{ImageParts, is_dir}
+use Rattle.dt_base.specs.Profile.{has_devices}
 use Rattle.dt_base.specs.Path.{is_path}
-use Rattle.dt_image.specs.Index.{Source, file, dir, link, IndexEntry, is_good_source}
+use Rattle.dt_image.specs.Index.{Source, file, dir, link, dev, IndexEntry, is_good_source}
 use Rattle.dt_base.specs.declared.refusal.Refusal.{Refusal}
 use Rattle.dt_base.specs.declared.refusal.Refusal.TheVariants.{NoParent}
 use Rattle.dt_image.specs.ImageOf.{name_below, is_dir_source, has_listed_parent, with_blobs}
@@ -25,6 +26,7 @@ abbrev pub source_in : SourceRef → Source
 source_in (File mode blob) = file mode blob.now
 source_in (Dir mode) = dir mode
 source_in (Link target) = link target.now
+source_in (Dev mode device) = dev mode device
 
 -- the same of an entry
 abbrev pub entry_in : EntryRef → IndexEntry
@@ -43,6 +45,7 @@ abbrev pub blob_size : StoreFiles → List ℕ → Source → Option ℕ
 blob_size held folder (file mode blob) = size_of held (name_below folder blob)
 blob_size held folder (dir mode) = Some 0
 blob_size held folder (link target) = Some 0
+blob_size held folder (dev mode device) = Some 0
 
 -- that size was measured
 abbrev pub HasSize : StoreFiles → List ℕ → Measured → Type 0
@@ -56,23 +59,24 @@ path_cmp a b = slice_cmp nat_cmp a.path.now b.path.now
 abbrev pub has_dir : List ℕ → BTreeSet (Bor (List ℕ)) → Bool
 has_dir path dirs = list_any (λ dir. is_eq (slice_cmp nat_cmp path dir.now)) dirs.keys
 
--- a mode is within the limit
-abbrev pub has_mode : Source → Bool
-has_mode (file mode blob) = nat_le mode MODE_LIMIT
-has_mode (dir mode) = nat_le mode MODE_LIMIT
-has_mode (link target) = true
+-- a mode is within the limit, and a device stands only where the version has devices
+abbrev pub has_mode : ℕ → Source → Bool
+has_mode version (file mode blob) = nat_le mode MODE_LIMIT
+has_mode version (dir mode) = nat_le mode MODE_LIMIT
+has_mode version (link target) = true
+has_mode version (dev mode device) = has_devices version && nat_le mode MODE_LIMIT
 
 -- what holds of each entry that is read
-abbrev pub is_listed : IndexEntry → Bool
-is_listed entry = has_mode entry.source
+abbrev pub is_listed : ℕ → IndexEntry → Bool
+is_listed version entry = has_mode version entry.source
 
 -- the source is good, and so is its mode
-abbrev pub is_good_made : Source → Bool
-is_good_made source = is_good_source source && has_mode source
+abbrev pub is_good_made : ℕ → Source → Bool
+is_good_made version source = is_good_source source && has_mode version source
 
--- the entry is one that an image may have
-abbrev pub is_sound : IndexEntry → Bool
-is_sound entry = is_path entry.path && is_good_made entry.source
+-- the entry is one that an image of the version may have
+abbrev pub is_sound : ℕ → IndexEntry → Bool
+is_sound version entry = is_path entry.path && is_good_made version entry.source
 
 -- where an image's entry stands, and whether it is a directory
 abbrev pub path_kind : Entry → List ℕ × Bool
@@ -82,6 +86,7 @@ path_kind entry = (entry.path, is_dir entry.what)
 abbrev pub path_kind_of : IndexEntry → List ℕ × Bool
 path_kind_of entry = (entry.path, is_dir_source entry.source)
 
--- the image of entries in order; or that one of them stands in no directory of these, or why the blobs give none
-abbrev pub image_in_order : StoreFiles → List ℕ → List IndexEntry → Result (List Entry) Refusal
-image_in_order held folder order = if not (list_all (has_listed_parent order) order) then Err NoParent else with_blobs held folder order
+-- the image of entries in order, and the input; or that one of them stands in no directory of these, or why the blobs give none
+abbrev pub image_in_order : StoreFiles → List ℕ → Option (List ℕ) → ℕ → List IndexEntry → Result (ImageParts × List ℕ) Refusal
+image_in_order held folder input version order =
+    if not (list_all (has_listed_parent order) order) then Err NoParent else with_blobs held folder input version order

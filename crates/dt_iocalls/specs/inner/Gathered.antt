@@ -1,6 +1,5 @@
 -- Why a buffer in several ranges could not be read (writev(2)).
-use Rattle.std.specs.Prelude.{◌≡◌, ℕ, List, Result, Err}
-use Rattle.dt_space.specs.declared.access.Miss.{Miss}
+use Rattle.std.specs.Prelude.{◌≡◌, List, Err}
 use Rattle.dt_space.specs.declared.access.ReadErr.{ReadErr}
 use Rattle.dt_space.specs.declared.access.ReadErr.TheVariants as read_err
 use Rattle.dt_space.specs.Space.{PageView}

@@ -1,12 +1,12 @@
 // The words that clap reads: the arguments of `run`, `export`, `demo` and `steps`.
-ghost use Rattle.std.specs.Prelude.{◌≡◌, Option, false, map, string_bytes, codes, IfOk, option_and_then, unwrap_or};
+ghost use Rattle.std.specs.Prelude.{◌≡◌, Option, false, map, string_bytes, codes, IfOk, option_and_then, unwrap_or, option_map};
 ghost use Rattle.clap.specs.Words.{FailsBy, app_of, fault_of, found_of, one_of, rows_of, rule_of, shape_of};
 ghost use Rattle.clap.specs.Words.{subcommand_of, subcommand_rows_of};
 ghost use Rattle.clap.specs.declared.builder.command.Command.TheViews.{out-Command as fields_of};
-ghost use Rattle.dt_options.specs.Arguments.{operand_rule, demo_rule, number_rule, budget_rule, workers_rule};
+ghost use Rattle.dt_options.specs.Arguments.{operand_rule, demo_rule, number_rule, text_rule, budget_rule, workers_rule};
 ghost use Rattle.dt_options.specs.Arguments.{run_shape, export_shape, demo_shape, steps_shape};
 ghost use Rattle.dt_options.specs.Arguments.{run_app, export_app, demo_app, steps_app, app_with};
-ghost use Rattle.dt_options.specs.Arguments.{operand_in, number_in, default_seed, default_budget, default_workers};
+ghost use Rattle.dt_options.specs.Arguments.{operand_in, number_in, text_in, default_seed, default_budget, default_workers};
 
 use super::WORKERS_LIMIT;
 use clap::{Arg, ArgMatches, Command, Error};
@@ -79,7 +79,8 @@ fn run_command<'a>(alloc: Global) -> Result<Command<'a>, AllocError>
         .arg(number_arg(alloc, "seed"))?
         .arg(budget_arg(alloc))?
         .arg(workers_arg(alloc))?
-        .arg(number_arg(alloc, "host"))
+        .arg(number_arg(alloc, "host"))?
+        .arg(text_arg(alloc, "stdin"))
 }
 
 fn export_command<'a>(alloc: Global) -> Result<Command<'a>, AllocError>
@@ -92,7 +93,8 @@ fn export_command<'a>(alloc: Global) -> Result<Command<'a>, AllocError>
         .arg(number_arg(alloc, "seed"))?
         .arg(budget_arg(alloc))?
         .arg(workers_arg(alloc))?
-        .arg(number_arg(alloc, "host"))
+        .arg(number_arg(alloc, "host"))?
+        .arg(text_arg(alloc, "stdin"))
 }
 
 fn demo_command<'a>(alloc: Global) -> Result<Command<'a>, AllocError>
@@ -143,6 +145,13 @@ fn number_arg<'a>(alloc: Global, name: &'a str) -> Arg<'a>
         .value_parser(clap::value_parser!(u64))
 }
 
+fn text_arg<'a>(alloc: Global, name: &'a str) -> Arg<'a>
+    ensures rule { rule_of result ≡ text_rule name.entry.now }
+    ensures local { result.global ≡ false }
+{
+    Arg::new(alloc, name).long(name)
+}
+
 fn budget_arg<'a>(alloc: Global) -> Arg<'a>
     ensures rule { rule_of result ≡ budget_rule }
     ensures local { result.global ≡ false }
@@ -173,6 +182,13 @@ pub fn number(found: &ArgMatches<'_>, name: &str) -> Option<u64>
     ensures { result ≡ number_in name.now (rows_of (found_of found.now)) }
 {
     found.get_one::<u64>(name)
+}
+
+/// The text of an option, if it was given.
+pub fn text<'a>(found: &ArgMatches<'a>, name: &str) -> Option<&'a str>
+    ensures { option_map (λ text. text.now) result ≡ text_in name.now (rows_of (found_of found.now)) }
+{
+    found.get_str(name)
 }
 
 /// The number of `--seed`, or what a run has without it.

@@ -1,11 +1,10 @@
 -- Inner words: the steps of an export.
 use Rattle.std.specs.Prelude.{◌≡◌, ◌⊎◌, ℕ, List, ◌∷◌, ◌++◌, map, Option, Ok, Err, ⊤}
-use Rattle.dt_base.specs.declared.image.Entry.{Entry}
+use Rattle.dt_base.specs.Image.{ImageParts}
 use Rattle.dt_host.specs.Sink.{added, AddsPart}
 use Rattle.dt_host.specs.Store.{StoreFiles, StoresPart}
 use Rattle.dt_host.specs.World.{content}
 use Rattle.dt_tree.specs.FileTree.{FileTree}
-use Rattle.dt_export.specs.declared.image.TheConstants.{IMAGE_VERSION}
 use Rattle.dt_export.specs.ExportedFiles.{exported_text, exported_files, blob_at}
 use Rattle.dt_export.specs.ExportedImage.{image_of_tree}
 use Rattle.dt_export.specs.ExportedIndex.{blob_name}
@@ -24,11 +23,11 @@ told_with_blobs told folder t inodes = told_with_files told folder (map (blob_at
 -- the export of a tree was put into a folder
 pub record PutsTree (t : FileTree) (folder : List ℕ) (told now : Option StoreFiles) : Type 0 where
   pub text : List ℕ
-  pub index : exported_text IMAGE_VERSION t ≡ Ok text
+  pub index : exported_text t.version t ≡ Ok text
   pub files : now ≡ told_with_files told folder (exported_files t text)
-  pub entries : List Entry
-  pub image : image_of_tree t ≡ Ok entries
-  pub read : IsReadAs t text entries
+  pub image : ImageParts
+  pub exported : image_of_tree t ≡ Ok image
+  pub read : IsReadAs t text image
 
 -- a failure of the outside while an export is put
 abbrev pub IsPutFault : Failure → Type 0
@@ -42,7 +41,7 @@ IsPutFault NoMemory = ⊤
 
 -- the export of a tree to a folder
 abbrev pub export_of : FileTree → List ℕ → ExportTo
-export_of t folder = record { folder = folder; index = exported_text IMAGE_VERSION t }
+export_of t folder = record { folder = folder; index = exported_text t.version t }
 
 -- the blobs of the first of these inodes were put, and maybe a part of the next one
 pub record PutsBlobs (t : FileTree) (folder inodes : List ℕ) (told now : Option StoreFiles) : Type 0 where
@@ -57,7 +56,7 @@ pub record PutsBlobs (t : FileTree) (folder inodes : List ℕ) (told now : Optio
 abbrev pub FailsPut : Failure → FileTree → List ℕ → Option StoreFiles → Option StoreFiles → Type 0
 FailsPut Usage t folder told now = ⊥
 FailsPut (Image refusal) t folder told now = ⊥
-FailsPut (Export refusal) t folder told now = (exported_text IMAGE_VERSION t ≡ Err refusal) × (now ≡ told)
+FailsPut (Export refusal) t folder told now = (exported_text t.version t ≡ Err refusal) × (now ≡ told)
 FailsPut Store t folder told now = PutsSome t (export_of t folder) told now
 FailsPut Host t folder told now = (now ≡ told) ⊎ PutsSome t (export_of t folder) told now
 FailsPut Output t folder told now = ⊥

@@ -1,7 +1,7 @@
 -- Inner words: no public clause cites these. What lets the code reach a register without a test.
 use Rattle.std.specs.Prelude.{◌≡◌, ℕ, ◌<◌, ⊤, slice_index, slice_set}
 use Rattle.dt_rv64.specs.declared.instruction.Instr.{Instr}
-use Rattle.dt_rv64.specs.declared.instruction.Instr.TheVariants.{Lui, Auipc, Jal, Jalr, Beq, Bne, Blt, Bge, Bltu, Bgeu, Lb, Lh, Lw, Ld, Lbu, Lhu, Lwu, Sb, Sh, Sw, Sd, Addi, Slti, Sltiu, Xori, Ori, Andi, Slli, Srli, Srai, Add, Sub, Sll, Slt, Sltu, Xor, Srl, Sra, Or, And, Mul, Mulh, Mulhsu, Mulhu, Div, Divu, Rem, Remu, Addiw, Slliw, Srliw, Sraiw, Addw, Subw, Sllw, Srlw, Sraw, Mulw, Divw, Divuw, Remw, Remuw, Fence, Ecall, Ebreak, ReadCounter, Unknown}
+use Rattle.dt_rv64.specs.declared.instruction.Instr.TheVariants.{Lui, Auipc, Jal, Jalr, Beq, Bne, Blt, Bge, Bltu, Bgeu, Lb, Lh, Lw, Ld, Lbu, Lhu, Lwu, Sb, Sh, Sw, Sd, Addi, Slti, Sltiu, Xori, Ori, Andi, Slli, Srli, Srai, Add, Sub, Sll, Slt, Sltu, Xor, Srl, Sra, Or, And, Mul, Mulh, Mulhsu, Mulhu, Div, Divu, Rem, Remu, Addiw, Slliw, Srliw, Sraiw, Addw, Subw, Sllw, Srlw, Sraw, Mulw, Divw, Divuw, Remw, Remuw, LrW, ScW, AmoswapW, AmoaddW, AmoxorW, AmoandW, AmoorW, AmominW, AmomaxW, AmominuW, AmomaxuW, LrD, ScD, AmoswapD, AmoaddD, AmoxorD, AmoandD, AmoorD, AmominD, AmomaxD, AmominuD, AmomaxuD, Fence, Ecall, Ebreak, ReadCounter, Unknown}
 use Rattle.dt_rv64.specs.declared.machine.Machine.{Machine}
 
 -- 0 is kept for register 0, which reads as 0 whatever is kept
@@ -76,6 +76,28 @@ HasRegisters (Divw rd rs1 rs2) = (rd < 32) × (rs1 < 32) × (rs2 < 32)
 HasRegisters (Divuw rd rs1 rs2) = (rd < 32) × (rs1 < 32) × (rs2 < 32)
 HasRegisters (Remw rd rs1 rs2) = (rd < 32) × (rs1 < 32) × (rs2 < 32)
 HasRegisters (Remuw rd rs1 rs2) = (rd < 32) × (rs1 < 32) × (rs2 < 32)
+HasRegisters (LrW rd rs1) = (rd < 32) × (rs1 < 32)
+HasRegisters (ScW rd rs1 rs2) = (rd < 32) × (rs1 < 32) × (rs2 < 32)
+HasRegisters (AmoswapW rd rs1 rs2) = (rd < 32) × (rs1 < 32) × (rs2 < 32)
+HasRegisters (AmoaddW rd rs1 rs2) = (rd < 32) × (rs1 < 32) × (rs2 < 32)
+HasRegisters (AmoxorW rd rs1 rs2) = (rd < 32) × (rs1 < 32) × (rs2 < 32)
+HasRegisters (AmoandW rd rs1 rs2) = (rd < 32) × (rs1 < 32) × (rs2 < 32)
+HasRegisters (AmoorW rd rs1 rs2) = (rd < 32) × (rs1 < 32) × (rs2 < 32)
+HasRegisters (AmominW rd rs1 rs2) = (rd < 32) × (rs1 < 32) × (rs2 < 32)
+HasRegisters (AmomaxW rd rs1 rs2) = (rd < 32) × (rs1 < 32) × (rs2 < 32)
+HasRegisters (AmominuW rd rs1 rs2) = (rd < 32) × (rs1 < 32) × (rs2 < 32)
+HasRegisters (AmomaxuW rd rs1 rs2) = (rd < 32) × (rs1 < 32) × (rs2 < 32)
+HasRegisters (LrD rd rs1) = (rd < 32) × (rs1 < 32)
+HasRegisters (ScD rd rs1 rs2) = (rd < 32) × (rs1 < 32) × (rs2 < 32)
+HasRegisters (AmoswapD rd rs1 rs2) = (rd < 32) × (rs1 < 32) × (rs2 < 32)
+HasRegisters (AmoaddD rd rs1 rs2) = (rd < 32) × (rs1 < 32) × (rs2 < 32)
+HasRegisters (AmoxorD rd rs1 rs2) = (rd < 32) × (rs1 < 32) × (rs2 < 32)
+HasRegisters (AmoandD rd rs1 rs2) = (rd < 32) × (rs1 < 32) × (rs2 < 32)
+HasRegisters (AmoorD rd rs1 rs2) = (rd < 32) × (rs1 < 32) × (rs2 < 32)
+HasRegisters (AmominD rd rs1 rs2) = (rd < 32) × (rs1 < 32) × (rs2 < 32)
+HasRegisters (AmomaxD rd rs1 rs2) = (rd < 32) × (rs1 < 32) × (rs2 < 32)
+HasRegisters (AmominuD rd rs1 rs2) = (rd < 32) × (rs1 < 32) × (rs2 < 32)
+HasRegisters (AmomaxuD rd rs1 rs2) = (rd < 32) × (rs1 < 32) × (rs2 < 32)
 HasRegisters Fence = ⊤
 HasRegisters Ecall = ⊤
 HasRegisters Ebreak = ⊤

@@ -1,6 +1,6 @@
 -- The image that is left after a step in code.
-use Rattle.std.specs.Prelude.{◌≡◌, List, Result, Ok, Err}
-use Rattle.dt_base.specs.declared.image.Entry.{Entry}
+use Rattle.std.specs.Prelude.{◌≡◌, Result, Ok, Err}
+use Rattle.dt_base.specs.Image.{ImageParts}
 use Rattle.dt_export.specs.declared.refusal.ExportRefusal.{ExportRefusal}
 use Rattle.dt_export.specs.declared.refusal.ExportRefusal.TheVariants as refusal
 use Rattle.dt_engine.specs.Run.{Run, status_of_run}
@@ -23,7 +23,7 @@ IsOfPaths refusal.NotText = ⊥
 IsOfPaths refusal.BigIndex = ⊥
 
 -- an image or why there is none, as the definitions say it
-abbrev pub image_or_refusal : Result (List Entry) NoImage → Result (List Entry) ExportRefusal
+abbrev pub image_or_refusal : Result ImageParts NoImage → Result ImageParts ExportRefusal
 image_or_refusal (Ok image) = Ok image
 image_or_refusal (Err none) = Err (refusal_of none)
 

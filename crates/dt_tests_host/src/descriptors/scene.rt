@@ -288,7 +288,7 @@ impl Scene {
         self.files.held(pid, fd)
     }
 
-    /// Opens what has a name in the root, which is no link.
+    /// Opens what has a name in the root, which is no link and no device.
     pub fn open(&mut self, pid: u32, name: &[u8]) -> Result<Outcome, HostErr>
         requires { IsBacked (at self.old.files self.old.tree self.old.host.view) }
         ensures { OnOk result (IsBacked (at self.new.files self.new.tree self.new.host.view)) }
@@ -299,6 +299,8 @@ impl Scene {
         if self.tree.is_dir(inode) {
             self.add(pid, DescKind::Dir(inode))
         } else if self.tree.is_link(inode) {
+            Ok(Outcome::Misused)
+        } else if self.tree.device(inode).is_some() {
             Ok(Outcome::Misused)
         } else {
             self.add(pid, DescKind::File(inode))
@@ -376,6 +378,7 @@ fn is_of_dir(files: &Files, pid: u32, fd: u32) -> bool
         Some(desc) => match desc.kind {
             DescKind::Dir(_) => true,
             DescKind::File(_)
+            | DescKind::Device(_)
             | DescKind::PipeRead(_)
             | DescKind::PipeWrite(_)
             | DescKind::Input
@@ -413,6 +416,7 @@ fn desc(kind: DescKind) -> Desc
     let spot = match kind {
         DescKind::Dir(_) => Spot::After(None),
         DescKind::File(_)
+        | DescKind::Device(_)
         | DescKind::PipeRead(_)
         | DescKind::PipeWrite(_)
         | DescKind::Input

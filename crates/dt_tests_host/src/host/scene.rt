@@ -145,7 +145,9 @@ impl Scene {
     {
         match &self.kind {
             NodeKind::Dir => directory::make(&mut self.host, self.number, call),
-            NodeKind::File | NodeKind::Pipe | NodeKind::Link(_) => Ok(Outcome::Misused),
+            NodeKind::File | NodeKind::Pipe | NodeKind::Link(_) | NodeKind::Device(_) => {
+                Ok(Outcome::Misused)
+            },
         }
     }
 
@@ -156,7 +158,9 @@ impl Scene {
     {
         match &self.kind {
             NodeKind::File => file::make(&mut self.host, alloc, self.number, call),
-            NodeKind::Dir | NodeKind::Pipe | NodeKind::Link(_) => Ok(Outcome::Misused),
+            NodeKind::Dir | NodeKind::Pipe | NodeKind::Link(_) | NodeKind::Device(_) => {
+                Ok(Outcome::Misused)
+            },
         }
     }
 
@@ -169,7 +173,9 @@ impl Scene {
             NodeKind::Pipe => {
                 pipe::make(&mut self.host, alloc, self.number, &mut self.most, call)
             }
-            NodeKind::Dir | NodeKind::File | NodeKind::Link(_) => Ok(Outcome::Misused),
+            NodeKind::Dir | NodeKind::File | NodeKind::Link(_) | NodeKind::Device(_) => {
+                Ok(Outcome::Misused)
+            },
         }
     }
 }

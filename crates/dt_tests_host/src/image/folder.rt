@@ -102,7 +102,8 @@ pub type BlobBytes<'a> = (&'a str, &'a [u8]);
 pub fn image_of(alloc: Global, line: &str, blobs: &[BlobBytes<'_>]) -> Result<Image, ImageErr> {
     let mut store = MemStore::new(alloc, Picker::new(Vec::new(alloc), 1), Vec::new(alloc))?;
     put_all(alloc, &mut store, line, blobs)?;
-    read_image(alloc, &mut store, "img")
+    let (image, _input) = read_image(alloc, &mut store, "img", None)?;
+    Ok(image)
 }
 
 fn put_all(
@@ -137,7 +138,8 @@ pub fn image_of_sizes(
     let picker = Picker::new(Vec::new(alloc), 1);
     let bytes = Some(text.as_bytes());
     let mut store = folder(alloc, picker, Vec::new(alloc), bytes, blobs)?;
-    read_image(alloc, &mut store, "img")
+    let (image, _input) = read_image(alloc, &mut store, "img", None)?;
+    Ok(image)
 }
 
 /// Why a folder has no image; None where it has one.
@@ -148,7 +150,7 @@ pub fn refusal(
 ) -> Result<Option<Refusal>, ImageErr> {
     let picker = Picker::new(Vec::new(alloc), 1);
     let mut store = folder(alloc, picker, Vec::new(alloc), index, blobs)?;
-    match read_image(alloc, &mut store, "img").err() {
+    match read_image(alloc, &mut store, "img", None).err() {
         None => Ok(None),
         Some(ImageErr::Refused(refusal)) => Ok(Some(refusal)),
         Some(error) => Err(error),

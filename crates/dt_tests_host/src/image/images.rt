@@ -1,7 +1,7 @@
 // Images that are read, and the first reason against one.
 use super::folder::{BlobSize, folder, image_of_sizes, index, many, refusal};
 use crate::expect::{same, same_at};
-use dt_base::{Entry, FILE_LIMIT, ImageErr, NoMemory, Refusal, What};
+use dt_base::{Entry, FIRST_FILE_LIMIT, ImageErr, NoMemory, Refusal, What};
 use dt_host::Store;
 use dt_image::read_image;
 use dt_memhost::{MemStore, Picker};
@@ -10,7 +10,7 @@ use std::process::Abort;
 
 const BLOBS: &[BlobSize<'static>] = &[("a", 1), ("b", 2)];
 
-const PAST_LIMIT: usize = FILE_LIMIT as usize + 1;
+const PAST_LIMIT: usize = FIRST_FILE_LIMIT as usize + 1;
 
 // The entries of an index, each with its path, its mode, and its bytes or its target.
 type EntryRow = (&'static [u8], u32, &'static [u8]);
@@ -46,6 +46,7 @@ fn holds(entry: &Entry, row: &EntryRow) -> bool {
         What::File(bytes) => bytes.as_slice(),
         What::Dir => b"a directory",
         What::Link(target) => target.as_slice(),
+        What::Dev(_) => b"a device",
     };
     entry.path.as_slice() == path && entry.mode == mode && bytes == held
 }
@@ -156,7 +157,7 @@ type Ended = (Option<ImageErr>, u64);
 // calls behind the index.
 fn ended(alloc: Global, text: &str, call: u64, blobs: &[BlobSize<'_>]) -> Result<Ended, ImageErr> {
     let mut store = failing(alloc, text, call, blobs)?;
-    let error = read_image(alloc, &mut store, "img").err();
+    let error = read_image(alloc, &mut store, "img", None).err();
     Ok((error, store.faults()))
 }
 
@@ -206,7 +207,7 @@ fn expect_ended(rt: &impl Abort, found: Ended, want: Ended) {
 // The store fails at the call after that for the size of the blob.
 #[test]
 fn a_blob_past_the_limit_is_not_read(rt: HostRuntime) -> Result<(), ImageErr> {
-    let (most, more) = ([("a", FILE_LIMIT as usize)], [("a", PAST_LIMIT)]);
+    let (most, more) = ([("a", FIRST_FILE_LIMIT as usize)], [("a", PAST_LIMIT)]);
     let line = "file:/a:420:a";
     expect_ended(&rt, ended_line(rt.alloc(), line, 2, &most)?, FAILED);
     expect_ended(&rt, ended_line(rt.alloc(), line, 2, &more)?, TOO_BIG);

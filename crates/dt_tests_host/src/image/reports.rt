@@ -13,7 +13,10 @@ use std::test::Fail;
 
 #[test]
 fn events_as_text(rt: HostRuntime) -> Result<(), Fail> {
-    same(&rt, header(), b"dettrace 1\n".as_slice());
+    let first = header(rt.alloc(), 1)?;
+    same(&rt, first.as_slice(), b"dettrace 1\n".as_slice());
+    let second = header(rt.alloc(), 2)?;
+    same(&rt, second.as_slice(), b"dettrace 2\n".as_slice());
     let hello = Vec::from_slice(rt.alloc(), b"hello\n")?;
     let events = [
         Event::Out(1, Blob::new(hello)),

@@ -54,7 +54,7 @@ pub fn file_in_root(host: &mut MemHost, tree: &Tree, name: &[u8]) -> Result<Opti
     let Some(inode) = tree.find(host, ROOT, name)? else {
         return Ok(None);
     };
-    if tree.is_dir(inode) || tree.is_link(inode) {
+    if tree.is_dir(inode) || tree.is_link(inode) || tree.device(inode).is_some() {
         return Ok(None);
     }
     Ok(Some(inode))

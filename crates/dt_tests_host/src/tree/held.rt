@@ -58,7 +58,7 @@ fn file_text(alloc: Global, host: &mut MemHost, real: u64) -> Result<Vec<u8>, Ho
     Ok(text)
 }
 
-// What the host holds under a number. The inode that it has in the tree tells what kind of node it is.
+// What the host holds under a number, of a device nothing. The inode that it has in the tree tells what kind of node it is.
 fn text_of(
     alloc: Global,
     host: &mut MemHost,
@@ -75,6 +75,8 @@ fn text_of(
         dir_text(alloc, host, real)
     } else if tree.is_link(inode) {
         link_text(alloc, host, real)
+    } else if tree.device(inode).is_some() {
+        Ok(Vec::new(alloc))
     } else {
         file_text(alloc, host, real)
     }

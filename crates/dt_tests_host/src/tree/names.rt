@@ -7,18 +7,18 @@ ghost use Rattle.dt_tree.specs.Table.{Stands, shape_of};
 
 use super::fixture::file_in_root;
 use super::row::{Found, NewNode};
-use dt_base::{Blob, FILE_LIMIT, NoMemory, What};
+use dt_base::{Blob, NoMemory, What, file_limit};
 use dt_host::{CallErr, HostErr};
 use dt_memhost::MemHost;
 use dt_tree::{ROOT, Tree};
 use std::alloc::Global;
 
-// A node to be made, and its mode; None for a file that is too big.
-fn what_of(alloc: Global, node: NewNode) -> Result<Option<(What, u32)>, NoMemory>
-    ensures { IfOk result (λ found. IfSome found (λ made. IsTrue (is_good_what made.0 made.1))) }
+// A node to be made in a tree of that version, and its mode; None for a file that is too big.
+fn what_of(alloc: Global, version: u64, node: NewNode) -> Result<Option<(What, u32)>, NoMemory>
+    ensures { IfOk result (λ found. IfSome found (λ made. IsTrue (is_good_what version made.0 made.1))) }
 {
     let (what, mode) = match node {
-        NewNode::File(bytes) if bytes.len() as u64 > FILE_LIMIT => return Ok(None),
+        NewNode::File(bytes) if bytes.len() as u64 > file_limit(version) => return Ok(None),
         NewNode::File(bytes) => (What::File(Blob::new(Vec::from_slice(alloc, bytes)?)), 0o644),
         NewNode::Dir => (What::Dir, 0o755),
         NewNode::Link => (
@@ -39,7 +39,7 @@ pub fn make_new(
     requires { Stands tree.old host.old.view.forest }
     ensures { OnOk result (Stands tree.new host.new.view.forest) }
 {
-    match what_of(alloc, node)? {
+    match what_of(alloc, tree.version(), node)? {
         Some((what, mode)) => make_of(host, tree, &what, mode),
         None => Ok(Found::Absent),
     }
@@ -48,7 +48,7 @@ pub fn make_new(
 // The same of what is good for an image.
 fn make_of(host: &mut MemHost, tree: &mut Tree, what: &What, mode: u32) -> Result<Found, HostErr>
     requires stands { Stands tree.old host.old.view.forest }
-    requires good { IsTrue (is_good_what what.now mode) }
+    requires good { IsTrue (is_good_what tree.old.version what.now mode) }
     ensures { OnOk result (Stands tree.new host.new.view.forest) }
 {
     if tree.find(host, ROOT, b"new")?.is_some() {

@@ -19,5 +19,5 @@ pub record MayCreate (t : FileTree) (d : ℕ) (name : List ℕ) (what : What) (m
   pub under : IsUnder t.shape d
   pub free : entry t.shape d name ≡ None
   pub named : IsTrue (is_entry_name name)
-  pub good : IsTrue (is_good_what what mode)
+  pub good : IsTrue (is_good_what t.version what mode)
   pub room : len t.shape.nodes < NODE_LIMIT

@@ -14,4 +14,4 @@ pub returns-clause-sound : goal.returns-clause-sound
 returns-clause-sound c =
     let pointer = c.in_ok-stack.ensures.pointer in
     let low : c.in_ok-stack.stack.pointer < 2 ^ 64 = omega (arith, pointer) in
-    rw c.from.ensures (is_machine c.in_ok-stack.stack.pointer c.args.elf.now.entry c.in_ok-space.space low c.requires.entry c.in_ok-space.ensures.sound)
+    rw c.from.ensures (is_machine c.in_ok-stack.stack.pointer c.args.elf.now.entry c.in_ok-space.space c.args.atomics low c.requires.entry c.in_ok-space.ensures.sound)

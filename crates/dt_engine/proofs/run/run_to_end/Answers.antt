@@ -12,7 +12,7 @@ use Rattle.dt_engine.proofs.run.run_to_end.Goals as goal
 
 pub returns-in_err-engine-clause-part : goal.returns-in_err-engine-clause-part
 returns-in_err-engine-clause-part g c =
-    part-begun (run_of c.args.image.now c.args.command.now c.args.seed c.args.budget) _ _ c.begin.ensures.part
+    part-begun c.args.image.now.version (run_of c.args.image.now c.args.command.now c.args.seed c.args.budget) _ _ c.begin.ensures.part
 
 pub finish-requires-clause-over : goal.finish-requires-clause-over
 finish-requires-clause-over g c = subst IsSome (sym c.in_ok-go_on.ensures.done.verdict) refl
@@ -22,16 +22,16 @@ returns-in_err-go_on-clause-part g c =
     let old = g.O.Sink.told c.args.out.now in
     let e = playing_of c.in_ok-engine.engine (g.H.Host.view c.begin.new.host) in
     let same = run-is _ _ c.args.seed c.args.budget e c.in_ok-engine.ensures.run in
-    subst (λ (r : Run). AddsPart old (g.O.Sink.told c.go_on.new.out) (report_of r)) same
-    (part-going (left_of e) old (g.O.Sink.told c.begin.new.out) c.in_ok-engine.ensures.wrote (g.O.Sink.told c.go_on.new.out) c.go_on.ensures.part)
+    subst (λ (r : Run). AddsPart old (g.O.Sink.told c.go_on.new.out) (report_of c.args.image.now.version r)) same
+    (part-going c.args.image.now.version (left_of e) old (g.O.Sink.told c.begin.new.out) c.in_ok-engine.ensures.wrote (g.O.Sink.told c.go_on.new.out) c.go_on.ensures.part)
 
 pub returns-in_err-status-clause-part : goal.returns-in_err-status-clause-part
 returns-in_err-status-clause-part g c =
     let old = g.O.Sink.told c.args.out.now in
     let e = playing_of c.in_ok-engine.engine (g.H.Host.view c.begin.new.host) in
     let same = run-is _ _ c.args.seed c.args.budget e c.in_ok-engine.ensures.run in
-    subst (λ (r : Run). AddsPart old (g.O.Sink.told c.finish.new.out) (report_of r)) same
-    (part-finished (left_of e) old (g.O.Sink.told c.begin.new.out) (g.O.Sink.told c.go_on.new.out) c.go_on.new.self
+    subst (λ (r : Run). AddsPart old (g.O.Sink.told c.finish.new.out) (report_of c.args.image.now.version r)) same
+    (part-finished c.args.image.now.version (left_of e) old (g.O.Sink.told c.begin.new.out) (g.O.Sink.told c.go_on.new.out) c.go_on.new.self
     (g.H.Host.view c.go_on.new.host) c.in_ok-engine.ensures.wrote c.in_ok-go_on.ensures.done
     (g.O.Sink.told c.finish.new.out) c.finish.ensures.part)
 
@@ -40,8 +40,8 @@ returns-clause-part g c =
     let old = g.O.Sink.told c.args.out.now in
     let e = playing_of c.in_ok-engine.engine (g.H.Host.view c.begin.new.host) in
     let same = run-is _ _ c.args.seed c.args.budget e c.in_ok-engine.ensures.run in
-    subst (λ (r : Run). AddsPart old (g.O.Sink.told c.finish.new.out) (report_of r)) same
-    (part-finished (left_of e) old (g.O.Sink.told c.begin.new.out) (g.O.Sink.told c.go_on.new.out) c.go_on.new.self
+    subst (λ (r : Run). AddsPart old (g.O.Sink.told c.finish.new.out) (report_of c.args.image.now.version r)) same
+    (part-finished c.args.image.now.version (left_of e) old (g.O.Sink.told c.begin.new.out) (g.O.Sink.told c.go_on.new.out) c.go_on.new.self
     (g.H.Host.view c.go_on.new.host) c.in_ok-engine.ensures.wrote c.in_ok-go_on.ensures.done
     (g.O.Sink.told c.finish.new.out) c.finish.ensures.part)
 
@@ -50,8 +50,8 @@ returns-clause-completed g c =
     let old = g.O.Sink.told c.args.out.now in
     let e = playing_of c.in_ok-engine.engine (g.H.Host.view c.begin.new.host) in
     let same = run-is _ _ c.args.seed c.args.budget e c.in_ok-engine.ensures.run in
-    subst (λ (r : Run). Completes r c.in_ok-status.status old (g.O.Sink.told c.finish.new.out) (g.H.Host.view c.finish.new.host)) same
-    (finished (left_of e) old (g.O.Sink.told c.begin.new.out) (g.O.Sink.told c.go_on.new.out) c.go_on.new.self
+    subst (λ (r : Run). Completes c.args.image.now.version r c.in_ok-status.status old (g.O.Sink.told c.finish.new.out) (g.H.Host.view c.finish.new.host)) same
+    (finished c.args.image.now.version (left_of e) old (g.O.Sink.told c.begin.new.out) (g.O.Sink.told c.go_on.new.out) c.go_on.new.self
     (g.H.Host.view c.go_on.new.host) c.in_ok-engine.ensures.wrote c.in_ok-go_on.ensures.done
     (g.H.Host.view c.finish.new.host) (g.O.Sink.told c.finish.new.out) c.in_ok-status.status c.finish.ensures.stays c.in_ok-go_on.ensures.sound
     c.in_ok-status.ensures.status c.in_ok-status.ensures.wrote)

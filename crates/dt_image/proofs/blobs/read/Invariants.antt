@@ -13,5 +13,5 @@ invariant-loop-blob g l = record {
   later : g.S.Store.count l.fn.store ≤ g.S.Store.count l.store;
   entries : IfSome (g.S.Store.told l.fn.store) (λ held. l.entries.items ≡ map (λ blob. entry_with held l.folder (entry_in blob.entry)) (take l.blob-index l.blobs));
   spots : map path_kind l.entries.items ≡ map (λ blob. path_kind_of (entry_in blob.entry)) (take l.blob-index l.blobs);
-  good : IsTrue (list_all is_good_entry l.entries.items);
+  good : IsTrue (list_all (is_good_entry l.version) l.entries.items);
 }

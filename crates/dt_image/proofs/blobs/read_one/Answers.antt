@@ -4,4 +4,4 @@ use Rattle.dt_image.specs.inner.IndexView.{source_in, is_good_made}
 use Rattle.dt_image.proofs.blobs.read_one.Goals as goal
 
 pub make_what-requires-clause-sound : goal.make_what-requires-clause-sound
-make_what-requires-clause-sound g c = (and_parts (is_path c.args.blob.entry.path.now) (is_good_made (source_in c.args.blob.entry.source)) c.requires.sound).1
+make_what-requires-clause-sound g c = (and_parts (is_path c.args.blob.entry.path.now) (is_good_made c.args.version (source_in c.args.blob.entry.source)) c.requires.sound).1

@@ -24,3 +24,4 @@ returns-clause-ok c =
     command-some string_bytes c.args.words.now c.in-Some.program c.new.result good (sym c.program.ensures.value ∙ c.in-Some.is)
     (c.new.ensures.args ∙ (c.in_ok-blobs.ensures ∙ ap (map string_bytes) c.split_at.ensures.back))
     (c.new.ensures.env ∙ (c.in_ok-blobs-2.ensures ∙ ap (map string_bytes) c.split_at.ensures.front))
+    c.new.ensures.input

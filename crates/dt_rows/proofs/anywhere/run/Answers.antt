@@ -6,7 +6,7 @@ use Rattle.dt_run.specs.Wanted.{wanted, form_outcome}
 use Rattle.dt_rows.proofs.anywhere.run.Goals as goal
 
 pub returns-clause-completed : goal.returns-clause-completed
-returns-clause-completed g c = λ is. let some = c.dettrace.ensures.some_image is in (some.form, some.image, some.commands, some.parsed, some.good, completed-status _ _ _ _ _ _ _ some.holds.0 some.holds.1)
+returns-clause-completed g c = λ is. let some = c.dettrace.ensures.some_image is in (some.form, some.image, some.input, some.commands, some.parsed, some.good, completed-status _ _ _ _ _ _ _ some.holds.0 some.holds.1)
 
 pub returns-clause-refused : goal.returns-clause-refused
 unfolding wanted

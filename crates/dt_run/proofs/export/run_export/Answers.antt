@@ -17,8 +17,8 @@ returns-clause-completed g c =
     let forest = (g.H.Host.view c.run_image.new.host).forest in
     let last : tree_of c.tree.result.now forest ≡ run.last.tree = ap (λ t. tree_of t forest) c.tree.ensures ∙ sym (ap (λ shared. shared.tree) c.in_ok-ended.ensures.left) in
     let put = subst (λ folder. PutsTree (tree_of c.tree.result.now forest) folder told now) c.as_str.ensures c.in_ok-put_tree.ensures.put in (
-      subst (λ world. Finishes (reported run) c.in_ok-ended.ended.status (g.O.Sink.told c.args.out.now) (g.O.Sink.told c.run_image.new.out) world) (sym c.put_tree.ensures.stays) c.in_ok-ended.ensures.completed,
-      tree-put c.args.options.now.to run told now (subst (λ t. PutsTree t c.args.options.now.to told now) last put),
+      subst (λ world. Finishes (reported c.args.image.now.version run) c.in_ok-ended.ended.status (g.O.Sink.told c.args.out.now) (g.O.Sink.told c.run_image.new.out) world) (sym c.put_tree.ensures.stays) c.in_ok-ended.ensures.completed,
+      tree-put c.args.options.now.to (reported c.args.image.now.version run) told now (subst (λ t. PutsTree t c.args.options.now.to told now) last put),
     )
 
 pub returns-in_err-put_tree-clause-failed : goal.returns-in_err-put_tree-clause-failed
@@ -32,7 +32,7 @@ returns-in_err-put_tree-clause-failed g c =
     let there = subst (λ folder. FailsPut c.in_err-put_tree.field-0.0 (tree_of c.tree.result.now forest) folder told now) c.as_str.ensures c.in_err-put_tree.ensures.failed in
     let own = subst (λ t. FailsPut c.in_err-put_tree.field-0.0 t c.args.options.now.to told now) last there in
     on_err _ _ _ c.from_residual-in_err-put_tree.ensures.1
-    (fails-put c.args.options.now.to run _ _ _ told now own c.in_ok-ended.ensures.completed.report)
+    (fails-put c.args.options.now.to (reported c.args.image.now.version run) _ _ _ told now own c.in_ok-ended.ensures.completed.report)
 
 pub returns-in_err-put_tree-clause-begun : goal.returns-in_err-put_tree-clause-begun
 returns-in_err-put_tree-clause-begun g c =
@@ -44,7 +44,7 @@ returns-in_err-put_tree-clause-begun g c =
     let last : tree_of c.tree.result.now forest ≡ run.last.tree = ap (λ t. tree_of t forest) c.tree.ensures ∙ sym (ap (λ shared. shared.tree) c.in_ok-ended.ensures.left) in
     let there = subst (λ folder. FailsPut c.in_err-put_tree.field-0.0 (tree_of c.tree.result.now forest) folder told now) c.as_str.ensures c.in_err-put_tree.ensures.failed in
     let own = subst (λ t. FailsPut c.in_err-put_tree.field-0.0 t c.args.options.now.to told now) last there in
-    on_fail _ _ (some-put c.args.options.now.to run _ _ _ told now own c.in_ok-ended.ensures.completed.report)
+    on_fail _ _ (some-put c.args.options.now.to (reported c.args.image.now.version run) _ _ _ told now own c.in_ok-ended.ensures.completed.report)
 
 pub returns-in_err-put_tree-clause-refused_stays : goal.returns-in_err-put_tree-clause-refused_stays
 returns-in_err-put_tree-clause-refused_stays g c = λ r is.

@@ -33,6 +33,14 @@ pub returns-in-TooMany : goal.returns-in-TooMany
 unfolding digits
 returns-in-TooMany c = rw c.in-TooMany.is
 
+pub returns-in-NoInput : goal.returns-in-NoInput
+unfolding digits
+returns-in-NoInput c = rw c.in-NoInput.is
+
+pub returns-in-InputBig : goal.returns-in-InputBig
+unfolding digits
+returns-in-InputBig c = rw c.in-InputBig.is
+
 pub returns-in-BadSteps : goal.returns-in-BadSteps
 unfolding digits
 returns-in-BadSteps c = rw c.in-BadSteps.is

@@ -32,9 +32,9 @@ loop-action-preserved g c =
       driving = c.in_ok-step.ensures.driving;
       at = subst (λ d. IsAt (point_after action d) c.step.new.self (g.H.Host.view c.step.new.host)) is (c.in_ok-step.ensures.at d.shown);
       reported = subst (λ d. let after = point_after action d in
-          HasReported (run_of c.args.image.now c.args.command.now c.args.seed c.args.budget) after.shown
+          HasReported c.args.image.now.version (run_of c.args.image.now c.args.command.now c.args.seed c.args.budget) after.shown
           (g.O.Sink.told c.args.out.now) c.step.new.self (g.H.Host.view c.step.new.host) (g.O.Sink.told c.step.new.out)) is
-          (c.in_ok-step.ensures.reported _ d.shown _ l.invariant.reported);
+          (c.in_ok-step.ensures.reported _ _ d.shown _ l.invariant.reported);
       rest = sym (next-rest c.args.actions.now l.action-index d _ c.loop-action-test.true) ∙ l.invariant.rest;
       host_later = omega (arith, l.invariant.host_later, c.step.ensures.host.later);
       sink_later = omega (arith, l.invariant.sink_later, c.step.ensures.sink.later);
@@ -44,11 +44,11 @@ pub returns-in_err-step-clause-part : goal.returns-in_err-step-clause-part
 returns-in_err-step-clause-part g c =
     let h = c.loop-action.invariant in
     let d = h.point in
-    prefix-is-part _ d.shown _ _ (c.step.ensures.part _ d.shown _ h.reported)
+    prefix-is-part _ _ d.shown _ _ (c.step.ensures.part _ _ d.shown _ h.reported)
 
 pub returns-clause-completed : goal.returns-clause-completed
 returns-clause-completed g c =
-    let h = c.loop-action.invariant in let d = h.point in c.end.ensures.completed _ d.shown _ h.reported
+    let h = c.loop-action.invariant in let d = h.point in c.end.ensures.completed _ _ d.shown _ h.reported
 
 pub returns-clause-shown : goal.returns-clause-shown
 returns-clause-shown g c = λ none.
@@ -57,8 +57,8 @@ returns-clause-shown g c = λ none.
     let last : d ≡ point_after_all c.args.actions.now (first_point c.args.image.now c.args.command.now c.args.seed c.args.budget) =
     sym (no-rest c.args.actions.now l.action-index d c.loop-action-test.false) ∙ l.invariant.rest in
     subst (λ d. let after = point_after_admission d in
-    HasWritten after.shown (g.O.Sink.told c.args.out.now) (g.O.Sink.told c.end.new.out)) (l.invariant.at ∙ last)
-    (let done = c.end.ensures.reported _ d.shown _ l.invariant.reported none in done.wrote)
+    HasWritten c.args.image.now.version after.shown (g.O.Sink.told c.args.out.now) (g.O.Sink.told c.end.new.out)) (l.invariant.at ∙ last)
+    (let done = c.end.ensures.reported _ _ d.shown _ l.invariant.reported none in done.wrote)
 
 pub returns-clause-over : goal.returns-clause-over
 returns-clause-over g c =
@@ -73,7 +73,7 @@ pub returns-clause-part : goal.returns-clause-part
 returns-clause-part g c =
     let h = c.loop-action.invariant in
     let d = h.point in
-    prefix-is-part _ d.shown _ _ (c.end.ensures.part _ d.shown _ h.reported)
+    prefix-is-part _ _ d.shown _ _ (c.end.ensures.part _ _ d.shown _ h.reported)
 
 pub returns-clause-host : goal.returns-clause-host
 returns-clause-host g c = cause-from _ _ _ c.loop-action.invariant.host_later c.end.ensures.host

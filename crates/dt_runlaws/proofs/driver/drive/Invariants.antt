@@ -9,7 +9,7 @@ invariant-loop-action g l = record {
   point : Point;
   driving : IsDrivingAt l.driver (g.H.Host.view l.host);
   at : IsAt point l.driver (g.H.Host.view l.host);
-  reported : HasReported (run_of l.image l.command l.seed l.budget) point.shown (g.O.Sink.told l.fn.out) l.driver (g.H.Host.view l.host)
+  reported : HasReported l.image.version (run_of l.image l.command l.seed l.budget) point.shown (g.O.Sink.told l.fn.out) l.driver (g.H.Host.view l.host)
       (g.O.Sink.told l.out);
   rest : point_after_all (drop l.action-index l.actions) point
       ≡ point_after_all l.actions (first_point l.image l.command l.seed l.budget);

@@ -15,4 +15,4 @@ returns-clause-sound c =
     let a1 = set-keeps _ c.from-5.result c.frame_address-at.result (omega arith) (omega arith) a0 in
     let a2 = set-keeps _ c.from-6.result 0 (omega arith) (omega arith) a1 in
     let sound : IsSpace c.write_bytes.new.self = Stores-space _ _ _ _ _ c.frame_of-frame.ensures.bytes is.space c.write_bytes.ensures.stored c.write_bytes.ensures.kept in
-    record { registers = a2.registers; words = a2.words; zero = a2.zero; counter = omega arith; space = sound }
+    record { registers = a2.registers; words = a2.words; zero = a2.zero; counter = omega arith; space = sound; pair = tt }

@@ -24,7 +24,7 @@ returns-in_err-next-clause-answers g c =
     let told = g.O.Sink.told c.args.out.now in
     let none = c.in_err-next.field-0.0 in
     let gone = gone-refused c.args.seed c.args.budget c.args.commands.now l.index l.next whole told (g.O.Sink.told l.out)
-    c.args.cache.now l.cache l.invariant.gone none (record { args = []; env = [] }) c.loop-index-test.true c.in_err-next.was in
+    c.args.cache.now l.cache l.invariant.gone none (record { args = []; env = []; input = [] }) c.loop-index-test.true c.in_err-next.was in
     refused-answer whole told (g.O.Sink.told l.out) c.args.cache.now l.cache none c.from_residual-in_err-next.result c.from_residual-in_err-next.ensures.1
     (gone-all whole (Err (refusal_of none)) (l.index + 1) told (g.O.Sink.told l.out) c.args.cache.now l.cache gone)
 
@@ -35,7 +35,7 @@ returns-in_err-next-clause-part g c =
     let told = g.O.Sink.told c.args.out.now in
     let none = c.in_err-next.field-0.0 in
     let gone = gone-refused c.args.seed c.args.budget c.args.commands.now l.index l.next whole told (g.O.Sink.told l.out)
-    c.args.cache.now l.cache l.invariant.gone none (record { args = []; env = [] }) c.loop-index-test.true c.in_err-next.was in
+    c.args.cache.now l.cache l.invariant.gone none (record { args = []; env = []; input = [] }) c.loop-index-test.true c.in_err-next.was in
     gone-part whole (no_step (Err (refusal_of none))) (l.index + 1) told (g.O.Sink.told l.out) c.args.cache.now l.cache gone
 
 pub returns-in_err-next-clause-cache : goal.returns-in_err-next-clause-cache
@@ -45,7 +45,7 @@ returns-in_err-next-clause-cache g c =
     let told = g.O.Sink.told c.args.out.now in
     let none = c.in_err-next.field-0.0 in
     let gone = gone-refused c.args.seed c.args.budget c.args.commands.now l.index l.next whole told (g.O.Sink.told l.out)
-    c.args.cache.now l.cache l.invariant.gone none (record { args = []; env = [] }) c.loop-index-test.true c.in_err-next.was in
+    c.args.cache.now l.cache l.invariant.gone none (record { args = []; env = []; input = [] }) c.loop-index-test.true c.in_err-next.was in
     gone-some whole (no_step (Err (refusal_of none))) (l.index + 1) told (g.O.Sink.told l.out) c.args.cache.now l.cache gone
 
 -- ---- memory was wanting
@@ -66,7 +66,7 @@ returns-in_err-step-clause-part g c =
     let whole = steps_on c.args.image.now c.args.commands.now c.args.seed c.args.budget in
     let told = g.O.Sink.told c.args.out.now in
     let input = input_of c.args.seed c.args.budget c.in_ok-next.field-0 c.in_ok-copy-2.field-0 in
-    let text = step_text (l.index + 1) (run_of_step input) in
+    let text = step_text (l.index + 1) input.image.version (run_of_step input) in
     let rest = rest-of c.args.seed c.args.budget (l.index + 1) (run_of_step input) (drop (l.index + 1) c.args.commands.now) in
     let turn = gone-turn c.args.seed c.args.budget c.args.commands.now l.index l.next whole told (g.O.Sink.told l.out)
     c.args.cache.now l.cache l.invariant.gone c.in_ok-next.field-0 c.in_ok-copy-2.field-0 c.index-commands-index.result
@@ -92,7 +92,7 @@ returns-in_err-step-clause-known g c =
     let whole = steps_on c.args.image.now c.args.commands.now c.args.seed c.args.budget in
     let told = g.O.Sink.told c.args.out.now in
     let input = input_of c.args.seed c.args.budget c.in_ok-next.field-0 c.in_ok-copy-2.field-0 in
-    let text = step_text (l.index + 1) (run_of_step input) in
+    let text = step_text (l.index + 1) input.image.version (run_of_step input) in
     let rest = rest-of c.args.seed c.args.budget (l.index + 1) (run_of_step input) (drop (l.index + 1) c.args.commands.now) in
     let turn = gone-turn c.args.seed c.args.budget c.args.commands.now l.index l.next whole told (g.O.Sink.told l.out)
     c.args.cache.now l.cache l.invariant.gone c.in_ok-next.field-0 c.in_ok-copy-2.field-0 c.index-commands-index.result
@@ -111,7 +111,7 @@ returns-then-step-ne-ENDED_ZERO-clause-answers g c =
     let whole = steps_on c.args.image.now c.args.commands.now c.args.seed c.args.budget in
     let told = g.O.Sink.told c.args.out.now in
     let input = input_of c.args.seed c.args.budget c.in_ok-next.field-0 c.in_ok-copy-2.field-0 in
-    let text = step_text (l.index + 1) (run_of_step input) in
+    let text = step_text (l.index + 1) input.image.version (run_of_step input) in
     let rest = rest-of c.args.seed c.args.budget (l.index + 1) (run_of_step input) (drop (l.index + 1) c.args.commands.now) in
     let turn = gone-turn c.args.seed c.args.budget c.args.commands.now l.index l.next whole told (g.O.Sink.told l.out)
     c.args.cache.now l.cache l.invariant.gone c.in_ok-next.field-0 c.in_ok-copy-2.field-0 c.index-commands-index.result
@@ -127,7 +127,7 @@ returns-then-step-ne-ENDED_ZERO-clause-part g c =
     let whole = steps_on c.args.image.now c.args.commands.now c.args.seed c.args.budget in
     let told = g.O.Sink.told c.args.out.now in
     let input = input_of c.args.seed c.args.budget c.in_ok-next.field-0 c.in_ok-copy-2.field-0 in
-    let text = step_text (l.index + 1) (run_of_step input) in
+    let text = step_text (l.index + 1) input.image.version (run_of_step input) in
     let rest = rest-of c.args.seed c.args.budget (l.index + 1) (run_of_step input) (drop (l.index + 1) c.args.commands.now) in
     let turn = gone-turn c.args.seed c.args.budget c.args.commands.now l.index l.next whole told (g.O.Sink.told l.out)
     c.args.cache.now l.cache l.invariant.gone c.in_ok-next.field-0 c.in_ok-copy-2.field-0 c.index-commands-index.result
@@ -143,7 +143,7 @@ returns-then-step-ne-ENDED_ZERO-clause-cache g c =
     let whole = steps_on c.args.image.now c.args.commands.now c.args.seed c.args.budget in
     let told = g.O.Sink.told c.args.out.now in
     let input = input_of c.args.seed c.args.budget c.in_ok-next.field-0 c.in_ok-copy-2.field-0 in
-    let text = step_text (l.index + 1) (run_of_step input) in
+    let text = step_text (l.index + 1) input.image.version (run_of_step input) in
     let rest = rest-of c.args.seed c.args.budget (l.index + 1) (run_of_step input) (drop (l.index + 1) c.args.commands.now) in
     let turn = gone-turn c.args.seed c.args.budget c.args.commands.now l.index l.next whole told (g.O.Sink.told l.out)
     c.args.cache.now l.cache l.invariant.gone c.in_ok-next.field-0 c.in_ok-copy-2.field-0 c.index-commands-index.result
@@ -159,7 +159,7 @@ returns-then-step-ne-ENDED_ZERO-clause-known g c =
     let whole = steps_on c.args.image.now c.args.commands.now c.args.seed c.args.budget in
     let told = g.O.Sink.told c.args.out.now in
     let input = input_of c.args.seed c.args.budget c.in_ok-next.field-0 c.in_ok-copy-2.field-0 in
-    let text = step_text (l.index + 1) (run_of_step input) in
+    let text = step_text (l.index + 1) input.image.version (run_of_step input) in
     let rest = rest-of c.args.seed c.args.budget (l.index + 1) (run_of_step input) (drop (l.index + 1) c.args.commands.now) in
     let turn = gone-turn c.args.seed c.args.budget c.args.commands.now l.index l.next whole told (g.O.Sink.told l.out)
     c.args.cache.now l.cache l.invariant.gone c.in_ok-next.field-0 c.in_ok-copy-2.field-0 c.index-commands-index.result
@@ -178,7 +178,7 @@ loop-index-preserved g c =
     let whole = steps_on c.args.image.now c.args.commands.now c.args.seed c.args.budget in
     let told = g.O.Sink.told c.args.out.now in
     let input = input_of c.args.seed c.args.budget c.in_ok-next.field-0 c.in_ok-copy-2.field-0 in
-    let text = step_text (l.index + 1) (run_of_step input) in
+    let text = step_text (l.index + 1) input.image.version (run_of_step input) in
     let rest = rest-of c.args.seed c.args.budget (l.index + 1) (run_of_step input) (drop (l.index + 1) c.args.commands.now) in
     let turn = gone-turn c.args.seed c.args.budget c.args.commands.now l.index l.next whole told (g.O.Sink.told l.out)
     c.args.cache.now l.cache l.invariant.gone c.in_ok-next.field-0 c.in_ok-copy-2.field-0 c.index-commands-index.result

@@ -14,7 +14,7 @@ write_whole-requires-clause-file g c = IsFile-made _ _ _ c.in_ok-real-in-File.en
 
 pub write_whole-requires-clause-fits : goal.write_whole-requires-clause-fits
 write_whole-requires-clause-fits g c =
-    let few = fits c.in-File.bytes c.args.mode (subst (λ what. IsTrue (is_good_what what c.args.mode)) c.in-File.is c.requires) in
+    let few = fits c.requires.0 c.in-File.bytes c.args.mode (subst (λ what. IsTrue (is_good_what c.requires.0 what c.args.mode)) c.in-File.is c.requires.1) in
     let same = ap length c.as_slice.ensures in
     omega arith
 

@@ -54,6 +54,7 @@ returns g c =
       holds = row.others.holds;
       files = row.others.files;
       dirs = row.others.dirs;
+      devices = row.others.devices;
     } in
     let kept = keeps-called shared p world c.requires.sound c.requires.lives fs task v m.space mid.space sound others row.rest in
     let e = c.in_ok-give_answer.field-0 in

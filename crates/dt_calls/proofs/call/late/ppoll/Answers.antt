@@ -1,4 +1,3 @@
-use Rattle.std.proofs.Common.{refl}
 use Rattle.dt_late.specs.Poll.{events_found, ppoll_of}
 use Rattle.dt_calls.specs.Container.{task_in}
 use Rattle.dt_calls.specs.FileCalls.{arguments}

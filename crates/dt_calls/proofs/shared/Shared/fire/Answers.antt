@@ -1,7 +1,5 @@
-use Rattle.std.proofs.Common.{ℕ, ap, ◌∙◌}
 use Rattle.dt_procs.specs.Members.{vpids_of}
 use Rattle.dt_procs.specs.Table.{members_of}
-use Rattle.dt_calls.specs.Timers.{tasks_after_timers}
 use Rattle.dt_calls.proofs.Fired.{changes-timers}
 use Rattle.dt_calls.proofs.shared.Shared.fire.Goals as goal
 

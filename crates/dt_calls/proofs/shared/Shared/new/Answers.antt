@@ -39,6 +39,7 @@ returns-clause-ok g c =
       pipes = record { contents = contents i; next = c.in_ok-first.ensures.next i };
       clock = c.new.ensures i;
       rand = c.new-2.ensures i;
+      input = (c.new-4.ensures ∙ c.new-3.ensures.items) i;
       members = c.in_ok-pids.ensures.members i;
       tasks = tasks i;
     }

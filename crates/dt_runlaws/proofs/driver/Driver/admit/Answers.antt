@@ -13,15 +13,15 @@ returns-clause-driving g c =
     done.open done.whole done.sound done.run
 
 pub returns-clause-reported : goal.returns-clause-reported
-returns-clause-reported g c = λ all shown start h.
+returns-clause-reported g c = λ version all shown start h.
     let done = c.admit.ensures in
-    reported-admitted c.admit.result all shown start c.args.self.now _ (g.H.Host.view c.args.host.now) (g.H.Host.view c.admit.new.host)
+    reported-admitted c.admit.result version all shown start c.args.self.now _ (g.H.Host.view c.args.host.now) (g.H.Host.view c.admit.new.host)
     (g.O.Sink.told c.args.out.now) (g.O.Sink.told c.admit.new.out) h refl done.run done.wrote
 
 pub returns-clause-part : goal.returns-clause-part
-returns-clause-part g c = λ all shown start h.
+returns-clause-part g c = λ version all shown start h.
     let f = c.args.self.now in
-    admission-writes all shown (playing_of f.engine (g.H.Host.view c.args.host.now)) (lent_of f.lent.items) start
+    admission-writes version all shown (playing_of f.engine (g.H.Host.view c.args.host.now)) (lent_of f.lent.items) start
     (g.O.Sink.told c.args.out.now) (g.O.Sink.told c.admit.new.out) h.shows h.wrote c.admit.ensures.part
 
 pub returns-clause-over : goal.returns-clause-over

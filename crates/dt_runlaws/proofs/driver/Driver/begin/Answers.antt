@@ -10,7 +10,7 @@ use Rattle.dt_runlaws.proofs.driver.Driver.begin.Goals as goal
 
 pub returns-in_err-engine-clause-part : goal.returns-in_err-engine-clause-part
 returns-in_err-engine-clause-part g c =
-    begin-writes (run_of c.args.image.now c.args.command.now c.args.seed c.args.budget) _ _ c.begin.ensures.part
+    begin-writes c.args.image.now.version (run_of c.args.image.now c.args.command.now c.args.seed c.args.budget) _ _ c.begin.ensures.part
 
 pub returns-clause-driving : goal.returns-clause-driving
 returns-clause-driving g c =
@@ -34,12 +34,12 @@ returns-clause-reported g c =
     record {
       shows = subst (λ items. Shows (run_of c.args.image.now c.args.command.now c.args.seed c.args.budget) [] (playing_of e w) (lent_of items))
           (sym c.new.ensures.items) (first-shown _ _ _ _ (playing_of e w) c.in_ok-engine.ensures.run);
-      wrote = first-written _ _ c.in_ok-engine.ensures.wrote;
+      wrote = first-written c.args.image.now.version _ _ c.in_ok-engine.ensures.wrote;
     }
 
 pub returns-clause-part : goal.returns-clause-part
 returns-clause-part g c =
-    begin-writes (run_of c.args.image.now c.args.command.now c.args.seed c.args.budget) _ _ c.begin.ensures.part
+    begin-writes c.args.image.now.version (run_of c.args.image.now c.args.command.now c.args.seed c.args.budget) _ _ c.begin.ensures.part
 
 pub returns-clause-at : goal.returns-clause-at
 returns-clause-at g c =

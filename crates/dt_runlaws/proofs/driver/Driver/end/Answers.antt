@@ -18,31 +18,31 @@ pub finish-requires-clause-sound : goal.finish-requires-clause-sound
 finish-requires-clause-sound g c = c.in_ok-admit.ensures.driving.sound
 
 pub returns-in_ok-finish-in-Over-clause-completed : goal.returns-in_ok-finish-in-Over-clause-completed
-returns-in_ok-finish-in-Over-clause-completed g c = λ all shown start h.
-    let k = c.in_ok-admit.ensures.reported all shown start h in
+returns-in_ok-finish-in-Over-clause-completed g c = λ version all shown start h.
+    let k = c.in_ok-admit.ensures.reported version all shown start h in
     let a = admission (playing_of c.args.self.now.engine (g.H.Host.view c.args.host.now)) in
     let f = c.admit.new.self in
     let done = c.in_ok-finish-in-Over.ensures in
-    finished-so all (shown ++ a.events) f.engine (g.H.Host.view c.admit.new.host) (lent_of f.lent.items) _ start
+    finished-so version all (shown ++ a.events) f.engine (g.H.Host.view c.admit.new.host) (lent_of f.lent.items) _ start
     (g.O.Sink.told c.admit.new.out) k.shows k.wrote (c.in_ok-admit.ensures.over _ c.in-Over.is) _
     (g.H.Host.view c.finish.new.host) (g.O.Sink.told c.finish.new.out) c.finish.ensures.stays
     c.in_ok-admit.ensures.driving.sound done.status done.wrote
 
 pub returns-in_ok-finish-in-Over-clause-part : goal.returns-in_ok-finish-in-Over-clause-part
-returns-in_ok-finish-in-Over-clause-part g c = λ all shown start h.
-    let k = c.in_ok-admit.ensures.reported all shown start h in
+returns-in_ok-finish-in-Over-clause-part g c = λ version all shown start h.
+    let k = c.in_ok-admit.ensures.reported version all shown start h in
     let a = admission (playing_of c.args.self.now.engine (g.H.Host.view c.args.host.now)) in
     let f = c.admit.new.self in
-    part-ended all shown a.events f.engine (g.H.Host.view c.admit.new.host) (lent_of f.lent.items) _ start
+    part-ended version all shown a.events f.engine (g.H.Host.view c.admit.new.host) (lent_of f.lent.items) _ start
     (g.O.Sink.told c.admit.new.out) (g.O.Sink.told c.finish.new.out) k.shows k.wrote
     (c.in_ok-admit.ensures.over _ c.in-Over.is) c.finish.ensures.part
 
 pub returns-in_err-finish-in-Over-clause-part : goal.returns-in_err-finish-in-Over-clause-part
-returns-in_err-finish-in-Over-clause-part g c = λ all shown start h.
-    let k = c.in_ok-admit.ensures.reported all shown start h in
+returns-in_err-finish-in-Over-clause-part g c = λ version all shown start h.
+    let k = c.in_ok-admit.ensures.reported version all shown start h in
     let a = admission (playing_of c.args.self.now.engine (g.H.Host.view c.args.host.now)) in
     let f = c.admit.new.self in
-    part-ended all shown a.events f.engine (g.H.Host.view c.admit.new.host) (lent_of f.lent.items) _ start
+    part-ended version all shown a.events f.engine (g.H.Host.view c.admit.new.host) (lent_of f.lent.items) _ start
     (g.O.Sink.told c.admit.new.out) (g.O.Sink.told c.finish.new.out) k.shows k.wrote
     (c.in_ok-admit.ensures.over _ c.in-Over.is) c.finish.ensures.part
 
@@ -64,4 +64,4 @@ pub returns-in-NotArrived-clause-at : goal.returns-in-NotArrived-clause-at
 returns-in-NotArrived-clause-at g c = λ shown none. c.in_ok-admit.ensures.at shown
 
 pub returns-in-NotArrived-clause-reported : goal.returns-in-NotArrived-clause-reported
-returns-in-NotArrived-clause-reported g c = λ all shown start h none. c.in_ok-admit.ensures.reported all shown start h
+returns-in-NotArrived-clause-reported g c = λ version all shown start h none. c.in_ok-admit.ensures.reported version all shown start h

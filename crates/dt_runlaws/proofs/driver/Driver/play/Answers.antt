@@ -23,28 +23,28 @@ returns-then-not-is_empty-clause-at g c = λ shown.
     subst (λ d. IsAt d f (g.H.Host.view c.args.host.now)) (sym (happening-not c.args.happening f.lent.items d some)) refl
 
 pub returns-then-not-is_empty-clause-reported : goal.returns-then-not-is_empty-clause-reported
-returns-then-not-is_empty-clause-reported g c = λ all shown start h.
+returns-then-not-is_empty-clause-reported g c = λ version all shown start h.
     let f = c.args.self.now in
     let d = point_of f (g.H.Host.view c.args.host.now) shown in
     let some : length f.lent.items ≡ 0 → ⊥ = λ empty. grind (arith, nat_tests) in
-    subst (λ (d : Point). HasReported all d.shown start f (g.H.Host.view c.args.host.now) (g.O.Sink.told c.args.out.now))
+    subst (λ (d : Point). HasReported version all d.shown start f (g.H.Host.view c.args.host.now) (g.O.Sink.told c.args.out.now))
     (sym (happening-not c.args.happening f.lent.items d some)) h
 
 pub returns-then-not-is_empty-clause-part : goal.returns-then-not-is_empty-clause-part
-returns-then-not-is_empty-clause-part g c = λ all shown start h. part-still all shown start _ _ _ h
+returns-then-not-is_empty-clause-part g c = λ version all shown start h. part-still version all shown start _ _ _ h
 
 pub returns-in_err-play-clause-part : goal.returns-in_err-play-clause-part
-returns-in_err-play-clause-part g c = λ all shown start h.
+returns-in_err-play-clause-part g c = λ version all shown start h.
     let f = c.args.self.now in
     let empty : length f.lent.items ≡ 0 = grind (arith, nat_tests) in
-    part-played all shown start f (g.H.Host.view c.args.host.now) (c.args.happening ∷ []) (g.O.Sink.told c.args.out.now)
+    part-played version all shown start f (g.H.Host.view c.args.host.now) (c.args.happening ∷ []) (g.O.Sink.told c.args.out.now)
     (g.O.Sink.told c.play.new.out) h empty c.play.ensures.part
 
 pub returns-clause-part : goal.returns-clause-part
-returns-clause-part g c = λ all shown start h.
+returns-clause-part g c = λ version all shown start h.
     let f = c.args.self.now in
     let empty : length f.lent.items ≡ 0 = grind (arith, nat_tests) in
-    part-played all shown start f (g.H.Host.view c.args.host.now) (c.args.happening ∷ []) (g.O.Sink.told c.args.out.now)
+    part-played version all shown start f (g.H.Host.view c.args.host.now) (c.args.happening ∷ []) (g.O.Sink.told c.args.out.now)
     (g.O.Sink.told c.play.new.out) h empty c.play.ensures.part
 
 pub returns-clause-driving : goal.returns-clause-driving
@@ -56,11 +56,11 @@ returns-clause-driving g c =
     c.play.ensures.open done.whole done.sound done.run
 
 pub returns-clause-reported : goal.returns-clause-reported
-returns-clause-reported g c = λ all shown start h.
+returns-clause-reported g c = λ version all shown start h.
     let f = c.args.self.now in
     let empty : length f.lent.items ≡ 0 = grind (arith, nat_tests) in
     let done = c.in_ok-play.ensures in
-    reported-played all shown start f _ (g.H.Host.view c.args.host.now) (g.H.Host.view c.play.new.host) c.args.happening
+    reported-played version all shown start f _ (g.H.Host.view c.args.host.now) (g.H.Host.view c.play.new.host) c.args.happening
     (g.O.Sink.told c.args.out.now) (g.O.Sink.told c.play.new.out) h empty refl done.run done.wrote
 
 pub returns-clause-at : goal.returns-clause-at

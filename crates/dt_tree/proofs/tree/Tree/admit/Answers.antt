@@ -14,4 +14,4 @@ returns-clause-ok c =
     let back =
     ap (map_of (λ (n : ℕ). n) (λ (n : ℕ). n)) c.in_ok-insert-2.ensures.entries
     ∙ map_of-insert_entry nat_cmp_total (λ (n : ℕ). n) (λ (n : ℕ). n) nat_cmp-IsAntisymmetric c.self.inside.by_real.entries c.args.inode.real c.self.inside.next in
-    rw (← c.self.view_is) (λ i. record { inodes = lines i; by_real = back i; next = c.self.inside.next + 1; names = c.self.inside.names })
+    rw (← c.self.view_is) (λ i. record { inodes = lines i; by_real = back i; next = c.self.inside.next + 1; names = c.self.inside.names; version = c.self.inside.version })

@@ -1,4 +1,5 @@
-use Rattle.std.proofs.Common.{[], sym, subst}
+use Rattle.std.proofs.Common.{[], sym, subst, arith}
+use Rattle.dt_base.proofs.Profiles.{file_limit-most}
 use Rattle.dt_tree.specs.Table.{tree_of}
 use Rattle.dt_tree.specs.Calls.{KeepsHeld}
 use Rattle.dt_tree.proofs.Mirroring.{has_inode-file}
@@ -10,6 +11,9 @@ inode-requires g c = has_inode-file _ (g.H.Host.view c.args.host.now).forest _ c
 
 pub cut-requires-clause-file : goal.cut-requires-clause-file
 cut-requires-clause-file g c = real_file c.args.self.now (g.H.Host.view c.args.host.now).forest c.args.vino c.inode.result [] c.requires.stands.mirrors c.inode.ensures c.requires.file
+
+pub cut-requires-clause-fits : goal.cut-requires-clause-fits
+cut-requires-clause-fits g c = let most = file_limit-most c.args.self.now.version in omega (arith, c.requires.fits)
 
 pub returns-clause-tree : goal.returns-clause-tree
 returns-clause-tree g c =

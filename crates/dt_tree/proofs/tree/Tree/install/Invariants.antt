@@ -10,6 +10,6 @@ invariant-loop-entry g l = record {
   later : g.H.Host.count l.fn.host ≤ g.H.Host.count l.host;
   rest : OnlyForest (g.H.Host.view l.fn.host) (g.H.Host.view l.host);
   stands : Stands l.self (g.H.Host.view l.host).forest;
-  tree : tree_of l.self (g.H.Host.view l.host).forest ≡ image_tree (take l.entry-index l.entries);
+  tree : tree_of l.self (g.H.Host.view l.host).forest ≡ image_tree (record { version = l.fn.image.version; entries = take l.entry-index l.entries });
   nodes : len (shape_of l.self (g.H.Host.view l.host).forest).nodes ≡ l.entry-index + 1;
 }

@@ -8,6 +8,9 @@ use Rattle.dt_tree.proofs.Trees.{bare_new}
 use Rattle.dt_tree.proofs.Making.{mirrors_made, tree_made}
 use Rattle.dt_tree.proofs.tree.Tree.make.Goals as goal
 
+pub make_real-requires : goal.make_real-requires
+make_real-requires g c = (c.args.self.now.version, c.requires.good)
+
 pub returns-clause-mirrors : goal.returns-clause-mirrors
 returns-clause-mirrors g c =
     let inode : Inode = record { real = c.in_ok-real.real; mode = c.args.mode; stamp = c.args.stamp; holds = 0; kind = c.kind_of_new-kind.result; names = 0; up = None } in

@@ -11,4 +11,4 @@ set-requires c = subst (λ found. IsSome found) (sym (ap (λ t. get t.inodes c.a
 pub returns : goal.returns
 returns c =
     let put = put-kept c.self.inside.inodes c.set.new.inodes c.args.n c.args.inode c.set.ensures.here c.set.ensures.others in
-    rw (← c.self.view_is) (λ i. record { inodes = put i; by_real = map_of (λ n. n) (λ n. n) c.self.inside.by_real.entries; next = c.self.inside.next; names = c.self.inside.names })
+    rw (← c.self.view_is) (λ i. record { inodes = put i; by_real = map_of (λ n. n) (λ n. n) c.self.inside.by_real.entries; next = c.self.inside.next; names = c.self.inside.names; version = c.self.inside.version })

@@ -1,6 +1,6 @@
 use Rattle.std.proofs.Common.{Some, sym, ap, ◌∙◌}
 use Rattle.dt_tree.proofs.Mirroring.{has_inode, real_live}
-use Rattle.dt_tree.proofs.Looked.{size-file, size-dir, size-link, real_link}
+use Rattle.dt_tree.proofs.Looked.{size-file, size-dir, size-link, size-device, real_link}
 use Rattle.dt_tree.proofs.tree.Tree.size.Goals as goal
 
 pub inode-inode-requires : goal.inode-inode-requires
@@ -21,3 +21,6 @@ returns-in-Dir-clause-ok g c = size-dir _ (g.H.Host.view c.args.host.now).forest
 pub returns-in_ok-target-in-Link-clause-ok : goal.returns-in_ok-target-in-Link-clause-ok
 returns-in_ok-target-in-Link-clause-ok g c =
     size-link _ (g.H.Host.view c.args.host.now).forest c.requires.stands.mirrors _ _ c.inode-inode.ensures c.in-Link.is _ c.in_ok-target-in-Link.ensures.ok ∙ ap Some (sym c.len.ensures)
+
+pub returns-in-Device-clause-ok : goal.returns-in-Device-clause-ok
+returns-in-Device-clause-ok g c = size-device _ (g.H.Host.view c.args.host.now).forest c.requires.stands.mirrors _ _ c.inode-inode.ensures _ c.in-Device.is

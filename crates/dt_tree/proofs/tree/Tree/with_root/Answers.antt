@@ -16,4 +16,4 @@ returns c =
     ap (map_of (λ (n : ℕ). n) (λ (n : ℕ). n)) c.in_ok-insert-2.ensures.entries
     ∙ map_of-insert_entry nat_cmp_total (λ (n : ℕ). n) (λ (n : ℕ). n) nat_cmp-IsAntisymmetric c.new-by_real.result.entries c.args.inode.real 1
     ∙ ap (λ m. insert m c.args.inode.real 1) (map_of-nil nat_cmp_total (λ (n : ℕ). n) (λ (n : ℕ). n) c.new-by_real.result.entries c.new-by_real.ensures.empty) in
-    λ i. record { inodes = lines i; by_real = back i; next = 2; names = 0 }
+    λ i. record { inodes = lines i; by_real = back i; next = 2; names = 0; version = 1 }

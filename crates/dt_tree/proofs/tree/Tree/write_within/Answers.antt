@@ -1,4 +1,5 @@
-use Rattle.std.proofs.Common.{sym, subst}
+use Rattle.std.proofs.Common.{sym, subst, arith}
+use Rattle.dt_base.proofs.Profiles.{file_limit-most}
 use Rattle.dt_tree.specs.Table.{tree_of}
 use Rattle.dt_tree.specs.Calls.{KeepsHeld}
 use Rattle.dt_tree.proofs.Mirroring.{has_inode-file}
@@ -10,6 +11,9 @@ inode-requires g c = has_inode-file _ (g.H.Host.view c.args.host.now).forest _ c
 
 pub write_padded-requires-clause-file : goal.write_padded-requires-clause-file
 write_padded-requires-clause-file g c = real_file c.args.self.now (g.H.Host.view c.args.host.now).forest c.args.vino c.inode.result c.args.bytes.now c.requires.stands.mirrors c.inode.ensures c.requires.file
+
+pub write_padded-requires-clause-fits : goal.write_padded-requires-clause-fits
+write_padded-requires-clause-fits g c = let most = file_limit-most c.args.self.now.version in omega (arith, c.requires.fits)
 
 pub returns-clause-tree : goal.returns-clause-tree
 returns-clause-tree g c =
