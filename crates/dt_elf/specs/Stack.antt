@@ -6,7 +6,8 @@ use Rattle.dt_base.specs.Fields.{low_bytes}
 use Rattle.dt_elf.specs.declared.layout.TheConstants.{STACK_START, STACK_TOP, STACK_ALIGN, RANDOM_SIZE, HEADER_SIZE, AT_NULL, AT_PHDR, AT_PHENT, AT_PHNUM, AT_PAGESZ, AT_ENTRY, AT_UID, AT_EUID, AT_GID, AT_EGID, AT_CLKTCK, AT_SECURE, AT_RANDOM, AT_EXECFN, ROOT_ID, CLOCK_TICKS}
 use Rattle.dt_elf.specs.Executable.{Executable}
 
--- what a program is executed with: argument and environment words, the path that it is executed by, random bytes
+-- what a program is executed with: argument and environment words, with the standard input beside them, the path that it
+-- is executed by, random bytes
 pub record Invocation : Type 0 where
   pub words : Words
   pub execfn : List ℕ

@@ -25,7 +25,8 @@ abbrev pub within_limits : Executable → Option Machine → Result Program Errn
 within_limits program None = Err TooBig
 within_limits program (Some m) = Ok (record { machine = m; break_start = program_break program })
 
--- the program of a file that was read as an executable, on a machine with atomics or without, as here in all
+-- the program of a file that was read as an executable, on a machine with atomics or without (as the last argument of
+-- each definition here says)
 abbrev pub program_of_elf : Invocation → List ℕ → Result Executable ElfErr → Bool → Result Program Errno
 program_of_elf given bytes (Err e) atomics = Err NoExec
 program_of_elf given bytes (Ok program) atomics = within_limits program (first program bytes given atomics)

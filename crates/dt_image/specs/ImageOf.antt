@@ -100,7 +100,7 @@ source_mode (dev mode device) = mode
 abbrev pub entry_with : StoreFiles → List ℕ → IndexEntry → Entry
 entry_with files folder entry = record { path = entry.path; mode = source_mode entry.source; what = source_what files folder entry.source }
 
--- the bytes of a blob that is there, if they are no more than standard input may have
+-- the bytes of a blob, if it is there and they are no more than standard input may have
 abbrev pub input_within_limit : Option (List ℕ) → Result (List ℕ) Refusal
 input_within_limit None = Err NoInput
 input_within_limit (Some bytes) = if nat_le (length bytes) FILE_LIMIT then Ok bytes else Err InputBig
@@ -122,7 +122,7 @@ abbrev pub image_of_order : StoreFiles → List ℕ → ℕ → List IndexEntry 
 image_of_order files folder version order = record { version = version; entries = map (entry_with files folder) order }
 
 -- that image and the input; or the first of these that holds: a blob is missing, one is too long, there are too many entries,
--- there is no such input
+-- there is no such input, it is too long
 unfoldable pub with_blobs : StoreFiles → List ℕ → Option (List ℕ) → ℕ → List IndexEntry → Result (ImageParts × List ℕ) Refusal
 with_blobs files folder input version order =
     if not (list_all (λ entry. has_blob files folder entry.source) order) then Err NoBlob

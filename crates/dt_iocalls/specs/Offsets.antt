@@ -15,7 +15,7 @@ is_readable desc = not (desc.access == O_WRONLY)
 abbrev pub is_writable : Desc → Bool
 is_writable desc = not (desc.access == O_RDONLY)
 
--- the offset at which a file is read or written next; a directory has none, which is told as 0
+-- the offset at which a file or the input is read or written next; a directory has none, which is told as 0
 abbrev pub offset_of : Spot → ℕ
 offset_of (At offset) = offset
 offset_of (After name) = 0

@@ -106,7 +106,8 @@ readv_row args s =
     on_ranges s (ranges_at s.space (argument args 1) (low_word (argument args 2)))
     (λ ranges. on_description s (description_of s fd) (λ desc. read_reply fd ranges desc s))
 
--- a read at an offset by what the descriptor refers to: a device has the same bytes at each; pipes, the input and the streams have no offsets
+-- a read at an offset by what the descriptor refers to: a device looks at none; pipes, the input and the
+-- streams have none
 abbrev pub read_at_reply_by_kind : ℕ → List Range → DescKind → Scene → Reply
 read_at_reply_by_kind offset ranges (File n) s = file_read_at_reply n offset ranges s
 read_at_reply_by_kind offset ranges (Dir n) s = refused_reply s IsDir

@@ -1,6 +1,6 @@
--- What an atomic does: it reads memory, writes it or does both in one step (RISC-V unprivileged specification, "A", its
--- sections on Zalrsc and Zaamo). LR keeps the pair of its address and its size, and SC succeeds exactly where that pair is
--- kept: nothing but SC itself, or another LR, changes the pair while the machine runs.
+-- What an atomic does: it reads memory, writes it or does both in one step (RISC-V unprivileged specification, version
+-- 20191213, sections 8.2 and 8.4). LR keeps the pair of its address and its size, and SC succeeds exactly where that pair
+-- is kept: nothing but SC itself, or another LR, changes the pair while the machine runs.
 use Rattle.std.specs.Prelude.{ℕ, ◌*◌, ◌%◌, ◌^◌, Bool, false, ◌==◌, ◌&&◌, not, nat_lt, int_lt, List, Option, None, Some, Result, Ok, Err, if◌then◌else◌}
 use Rattle.dt_base.specs.Fields.{low_bytes}
 use Rattle.dt_base.specs.declared.abi.TheConstants.{SIGBUS, SIGILL, SIGSEGV}

@@ -185,9 +185,33 @@ impl Machine {
 
     /// Stores a register where its address is reserved, and tells another whether it did; reserves nothing from here on
     /// (SC).
+    #[inline(always)]
+    pub(crate) fn store_conditional(
+        &mut self,
+        data: &mut PageHint,
+        width: Width,
+        rd: u8,
+        rs1: u8,
+        rs2: u8,
+    ) -> Result<Step, NoMemory>
+        requires written { rd < 32 }
+        requires address { rs1 < 32 }
+        requires value { rs2 < 32 }
+        requires zero { HasZero self.old }
+        ensures ran { IfOk result (λ step.
+            sc_result self.old (bytes_of width) rd rs1 rs2 ≡ record { step = step; machine = self.new }) }
+        ensures kept { OnErr result (self.new ≡ self.old) }
+        ensures zero { HasZero self.new }
+    {
+        // The call's answer has a place of its own in memory. In its caller's, each step of the loop would be stored.
+        let step = self.store_where_reserved(data, width, rd, rs1, rs2)?;
+        Ok(step)
+    }
+
+    // Stores conditionally, out of the loop over steps.
     #[inline(never)]
     #[tactic(auto, unfolding(crate::specs::Atomics::sc_result))]
-    pub(crate) fn store_conditional(
+    fn store_where_reserved(
         &mut self,
         data: &mut PageHint,
         width: Width,
@@ -242,9 +266,35 @@ impl Machine {
     }
 
     /// Stores what comes of the number at an address and a register, and keeps the old number in another (AMO).
+    #[inline(always)]
+    pub(crate) fn modify(
+        &mut self,
+        data: &mut PageHint,
+        width: Width,
+        operation: Operation,
+        rd: u8,
+        rs1: u8,
+        rs2: u8,
+    ) -> Result<Step, NoMemory>
+        requires written { rd < 32 }
+        requires address { rs1 < 32 }
+        requires value { rs2 < 32 }
+        requires zero { HasZero self.old }
+        ensures ran { IfOk result (λ step.
+            amo_result self.old (bytes_of width) rd rs1 rs2 (operation_of operation (bits_of width))
+            ≡ record { step = step; machine = self.new }) }
+        ensures kept { OnErr result (self.new ≡ self.old) }
+        ensures zero { HasZero self.new }
+    {
+        // The call's answer has a place of its own, as above.
+        let step = self.load_and_store(data, width, operation, rd, rs1, rs2)?;
+        Ok(step)
+    }
+
+    // Modifies memory, out of the loop over steps.
     #[inline(never)]
     #[tactic(auto, unfolding(crate::specs::Atomics::amo_result))]
-    pub(crate) fn modify(
+    fn load_and_store(
         &mut self,
         data: &mut PageHint,
         width: Width,

@@ -83,7 +83,7 @@ tree_with_new t d name node mode stamp =
     let new = with_nameless t node mode stamp in
     with_shape new (with_entry new.shape d name t.next)
 
--- a directory, a link or a file is made: it and the directory that names it have the stamp
+-- a directory, a link, a file or a device is made: it and the directory that names it have the stamp
 unfoldable pub tree_after_make : FileTree → ℕ → List ℕ → What → ℕ → ℕ → FileTree
 tree_after_make t d name what mode stamp = tree_with_stamp (tree_with_new t d name (new_node what) mode stamp) d stamp
 

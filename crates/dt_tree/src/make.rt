@@ -17,7 +17,7 @@ use dt_base::{Errno, What};
 use dt_host::{CallErr, Host, HostErr};
 
 impl Tree {
-    /// Makes a directory, a link or a file under a new name, and answers its inode. It and the directory get the stamp.
+    /// Makes a directory, a link, a file or a device under a new name, and answers its inode. It and the directory get the stamp.
     /// ENOENT where the directory is removed; then ENOSPC where the tree has 4,096 nodes.
     pub fn make_node<H: Host>(
         &mut self,
