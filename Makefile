@@ -5,7 +5,7 @@ DESTDIR =
 release = $(wildcard VERSION)
 program = $(if $(release),dettrace,crates/dettrace/out/dettrace)
 
-.PHONY: help install uninstall dist check bench hostile has_program has_sources
+.PHONY: help install uninstall dist check bench hostile soak has_program has_sources
 
 help:
 	@echo 'make install PREFIX=DIR   puts dettrace, its tools, pages and completion below DIR ($(PREFIX)); DESTDIR=ROOT'
@@ -15,7 +15,8 @@ help:
 	@echo 'make check                proves all, and runs all tests (two hours)'
 	@echo 'make bench                times the program that is there'
 	@echo 'make hostile              tries it with 20,000 images, programs and words that mean harm'
-	@echo 'The last four are for a checkout. ./dettrace build makes the program.'
+	@echo 'make soak                 runs demonstrations and examples a thousand times beside other load, one digest each'
+	@echo 'The last five are for a checkout. ./dettrace build makes the program.'
 
 has_program:
 	@test -x $(program) || { \
@@ -58,3 +59,8 @@ bench: has_sources has_program
 # says what is looked at. What failed is kept in out/hostile.
 hostile: has_sources has_program
 	tools/hostile --program $(program) $(HOSTILE)
+
+# Demonstrations and examples by random numbers of workers, beside processes that keep the processors busy, from a seed
+# that is printed: SOAK='--seed N --runs N --busy N --minutes N'. It ends after a thousand runs or half an hour.
+soak: has_sources has_program
+	tools/soak --program $(program) $(SOAK)
