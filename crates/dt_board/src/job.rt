@@ -32,13 +32,7 @@ impl Job {
         ensures { IfOk result (λ job. job ≡ record { start = machine; machine = machine; outcome = None }) }
     {
         let mut machine = machine;
-        let start = Machine {
-            regs: machine.regs,
-            pc: machine.pc,
-            space: machine.space.fork()?,
-            reserved: machine.reserved,
-            atomics: machine.atomics,
-        };
+        let start = machine.fork()?;
         Ok(Job {
             start,
             machine,

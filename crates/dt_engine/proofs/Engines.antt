@@ -31,7 +31,7 @@ use Rattle.dt_engine.specs.Happenings.{is_owing_work, is_live}
 use Rattle.dt_engine.specs.Lent.{state_without_work, state_with_work, playing_with_work, returned_work}
 use Rattle.dt_engine.specs.InPlay.{EngineView, playing_of, IsKeptProcess, IsKeptIn, IsKept, IsInPlay}
 use Rattle.dt_engine.specs.inner.InCode.{phase_at, noted_stop, with_stop, phase_in, work_in, works_in, state_of}
-use Rattle.dt_engine.specs.inner.Round.{with_arrival}
+use Rattle.dt_engine.specs.inner.Arriving.{with_arrival}
 use Rattle.dt_engine.proofs.Works.{get-works_in, works_in-insert, works_in-remove}
 use Rattle.dt_engine.proofs.Queued.{over-head, pids-arrived}
 use Rattle.dt_engine.proofs.Standings.{phase-absent}
@@ -70,6 +70,15 @@ not-idle e w p whole none ready idle =
     let off : is_idle (playing_of e w) ≡ false = ap (λ v. is_some v || is_some (awaited (state_of e.state w))) none ∙ ap is_some late in
     let bad = sym off ∙ idle in
     cc
+
+-- nobody is awaited where the budget doesn't pay for the head's turn
+pub awaited-over : (e : EngineView) (w : World) (v : Verdict) → IsInPlay e → e.verdict ≡ None → IsCore e.state.core
+    → head e.state.core ≡ Over v → awaited (state_of e.state w) ≡ None
+awaited-over e w v whole none sound over =
+    ⊎_elim
+    (λ (stands : e.state.core.verdict ≡ Some v). let running = whole.running none in cc)
+    (λ h. awaited-spent e.state w whole.kept h.1.1)
+    (over-head e.state.core v sound over)
 
 -- where the budget doesn't pay for the head's turn
 pub admission-spent : (e : EngineView) (w : World) (v : Verdict) → IsInPlay e → e.verdict ≡ None → IsCore e.state.core

@@ -22,8 +22,7 @@ use Rattle.dt_engine.specs.Playing.{Playing, rest_of, playing_with_all_segments}
 use Rattle.dt_engine.specs.Admission.{admission, admission_by, answer_of_turn, awaited, awaited_of, is_ready_work}
 use Rattle.dt_engine.specs.InPlay.{EngineView, playing_of, IsKept, IsInPlay}
 use Rattle.dt_engine.specs.inner.InCode.{phase_in, works_in, state_of}
-use Rattle.dt_engine.specs.Onward.{left_of, IsDone}
-use Rattle.dt_engine.specs.inner.Going.{left_with, Goes}
+use Rattle.dt_engine.specs.Onward.{left_of, IsDone, left_with, Goes}
 use Rattle.dt_engine.proofs.Turns.{run-by-turns, runs-alike, after-after}
 use Rattle.dt_engine.proofs.Aways.{turn-away}
 use Rattle.dt_engine.proofs.Queued.{pids}

@@ -2,5 +2,4 @@
 pub mod Errors
 pub mod InCode
 pub mod Good
-pub mod Going
-pub mod Round
+pub mod Arriving

@@ -1,7 +1,8 @@
 // A run in play, which is taken on by segments and admissions in any order.
 ghost use Rattle.std.specs.Prelude.{◌≡◌, ◌==◌, ◌<◌, ◌≤◌, ℕ, List, [], true, false, Some, None, is_some, IsSome, IsTrue, IsOk, IfOk, OnOk, IsErrOf};
+ghost use Rattle.std.specs.Prelude.{length};
 ghost use Rattle.std.specs.FinMap.{get};
-ghost use Rattle.std.specs.List.{list_any};
+ghost use Rattle.std.specs.List.{list_any, Contains};
 ghost use Rattle.dt_host.specs.Cause.{HasCause};
 ghost use Rattle.dt_host.specs.Sink.{added, AddsPart};
 ghost use Rattle.dt_host.specs.World.{World};
@@ -11,7 +12,8 @@ ghost use Rattle.dt_sched.specs.declared.settled.Head.TheVariants.{Ready};
 ghost use Rattle.dt_calls.specs.Sound.{IsSoundContainer};
 ghost use Rattle.dt_engine.specs.Work.{owing_work};
 ghost use Rattle.dt_engine.specs.Turn.{turn};
-ghost use Rattle.dt_engine.specs.Admission.{admission, admission_of_turn, is_idle};
+ghost use Rattle.dt_engine.specs.Ahead.{with_segment_of};
+ghost use Rattle.dt_engine.specs.Admission.{admission, admission_of_turn, awaited, is_idle};
 ghost use Rattle.dt_engine.specs.Happenings.{is_live, is_owing_work};
 ghost use Rattle.dt_engine.specs.Lent.{playing_without_work, playing_with_work, returned_work};
 ghost use Rattle.dt_engine.specs.InPlay.{playing_of, works_of, with_places, owing_of, IsFull, IsInPlay, steps_left};
@@ -21,11 +23,11 @@ ghost use Rattle.dt_engine.specs.inner.Good.{IsGood};
 use crate::error::RunErr;
 use crate::happening::Admitted;
 use crate::state::State;
-use dt_base::{Event, Verdict};
+use dt_base::{Event, NoMemory, Verdict};
 use dt_calls::Container;
 use dt_host::{Host, Sink, SinkErr, sink_all};
 use dt_image::events_text;
-use dt_rv64::{Machine, Seg};
+use dt_rv64::{Hints, Machine, Seg, Stop};
 use dt_sched::Head;
 use std::alloc::Global;
 use std::marker::Model;
@@ -52,8 +54,8 @@ impl Engine {
         self.state.core.owing()
     }
 
-    // Likewise, by the queue.
-    pub(crate) fn owing_queue(&self) -> &[u32]
+    /// The virtual pids of the processes that owe a segment, as the queue tells them.
+    pub fn owing_queue(&self) -> &[u32]
         ensures order { result.now ≡ owing_vpids self.now.state.core.queue }
         ensures core { IsCore self.now.state.core }
     {
@@ -67,13 +69,33 @@ impl Engine {
         self.state.core.owing().contains(&vpid)
     }
 
-    // How many processes live.
-    pub(crate) fn live(&self) -> usize {
+    /// How many processes live.
+    pub fn live(&self) -> usize
+        ensures { result ≡ length self.now.state.core.queue }
+    {
         self.state.core.live()
     }
 
-    // Whether a verdict stands.
-    pub(crate) fn is_over(&self) -> bool
+    /// The virtual pid of the head of the queue, where no verdict stands and its segment has not arrived.
+    pub fn awaited(&self) -> Option<u32>
+        requires { IsInPlay self.now }
+        ensures running { IsSome result → self.now.verdict ≡ None }
+        ensures head { self.now.verdict ≡ None
+            → (w : World) → (let e = playing_of self.now w in awaited e.state) ≡ result }
+    {
+        match self.verdict {
+            Some(_) => None,
+            None => match self.state.core.head() {
+                Head::NotArrived(vpid) => Some(vpid),
+                Head::Ready(_) => None,
+                Head::Over(_) => None,
+                Head::AllWait => unreachable!(),
+            },
+        }
+    }
+
+    /// Whether a verdict stands.
+    pub fn is_over(&self) -> bool
         ensures { result ≡ is_some self.now.verdict }
     {
         self.verdict.is_some()
@@ -101,6 +123,26 @@ impl Engine {
     {
         let _queue = self.state.core.owing();
         self.state.container.take_machine(vpid)
+    }
+
+    /// Runs the segment that a process owes, where each live process's machine is at home, and lets it arrive. The answer is
+    /// how it stopped. No answer depends on the hints.
+    pub fn arrive(&mut self, vpid: u32, hints: &mut Hints) -> Result<Stop, NoMemory>
+        requires whole { IsInPlay self.old }
+        requires full { (w : World) → let e = playing_of self.old w in IsFull e.state }
+        requires owing { Contains (owing_vpids self.old.state.core.queue) vpid }
+        ensures ran { (w : World) → OnOk result (playing_of self.new w
+            ≡ (let e = playing_of self.old w in record e { state = with_segment_of vpid e.state })) }
+        ensures whole { OnOk result (IsInPlay self.new) }
+        ensures full { (w : World) → OnOk result (let e = playing_of self.new w in IsFull e.state) }
+        ensures sound { (w : World) → IsSoundContainer self.old.state.container w
+            → OnOk result (IsSoundContainer self.new.state.container w) }
+        ensures smaller { OnOk result (steps_left self.new.state.core < steps_left self.old.state.core) }
+        ensures open { self.new.finished ≡ self.old.finished }
+    {
+        let _queue = self.state.core.owing();
+        let stop = self.state.arrive(vpid, hints)?;
+        Ok(stop)
     }
 
     /// Takes a machine back that was lent, with the segment that it has run, of 1 to 65,536 steps. Nothing is charged

@@ -1,4 +1,4 @@
-//! A run in play: its turns, who runs its segments, and what it shows.
+//! A run in play: its turns, and what it shows.
 //!
 //! An `Engine` lends machines, takes them back with their segments run, and admits turns. What it shows is what the
 //! definition of a run says, in whatever order that is done.
@@ -8,11 +8,7 @@ mod engine;
 mod error;
 mod happening;
 mod laws;
-mod onward;
-mod pace;
 mod play;
-mod round;
-mod run;
 mod start;
 mod state;
 pub mod status;
@@ -30,4 +26,3 @@ pub use laws::{
     runs_do_not_see_what_ran_ahead, turn_does_not_see_machines_that_are_away,
     turn_does_not_see_what_ran_ahead,
 };
-pub use run::{Ended, run_to_end};

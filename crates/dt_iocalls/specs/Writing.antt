@@ -56,16 +56,6 @@ pipe_write_reply fd bytes s =
 abbrev pub device_write_reply : List ℕ → Scene → Reply
 device_write_reply bytes s = value_reply s (length bytes)
 
--- it is of a device
-abbrev pub is_of_device : DescKind → Bool
-is_of_device (File n) = false
-is_of_device (Dir n) = false
-is_of_device (Device n) = true
-is_of_device (PipeRead q) = false
-is_of_device (PipeWrite q) = false
-is_of_device Input = false
-is_of_device (Stream stream) = false
-
 -- some bytes are written by what the descriptor refers to: those of a stream go out
 abbrev pub write_reply_by_kind : ℕ → Bool → ℕ → DescKind → List ℕ → Scene → Reply
 write_reply_by_kind fd append offset (File n) bytes s = appending_write_reply fd n append offset bytes s

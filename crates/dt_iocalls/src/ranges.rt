@@ -119,7 +119,11 @@ pub(crate) fn gather(alloc: Global, space: &Space, ranges: &[Range]) -> Result<V
     let mut bytes = Vec::new(alloc);
     for range in ranges {
         let part = space.read_vec(alloc, range.address, range.len)?;
-        bytes.extend_from_slice(&part)?;
+        if bytes.is_empty() {
+            bytes = part;
+        } else {
+            bytes.extend_from_slice(&part)?;
+        }
     }
     Ok(bytes)
 }

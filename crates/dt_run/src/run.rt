@@ -7,8 +7,9 @@ ghost use Rattle.dt_engine.specs.Run.{run_of, report_of};
 ghost use Rattle.dt_engine.specs.Completed.{Completes};
 
 use dt_base::{Command, Image};
-use dt_engine::{RunErr, run_to_end};
+use dt_engine::RunErr;
 use dt_host::{Gate, Host, Sink};
+use dt_rounds::run_to_end;
 use std::thread::Threads;
 use std::time::Clock;
 

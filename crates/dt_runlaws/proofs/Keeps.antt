@@ -23,7 +23,7 @@ use Rattle.dt_engine.specs.inner.InCode.{turn_by_earliest, turn_unless_over, tur
 use Rattle.dt_engine.proofs.Kept.{all-weaker, own-lives, child-is}
 use Rattle.dt_engine.proofs.Noted.{fits-next}
 use Rattle.dt_engine.proofs.Placed.{born-child, next-later, next-child}
-use Rattle.dt_engine.proofs.Rounds.{all-more}
+use Rattle.dt_rounds.proofs.Rounds.{all-more}
 use Rattle.dt_engine.proofs.Standings.{GoesOn, IsNext, makes_child}
 use Rattle.dt_engine.proofs.Waited.{turn-waits}
 use Rattle.dt_runlaws.specs.Shown.{AreDistinct, HasDistinctOrder}

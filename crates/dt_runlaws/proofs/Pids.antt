@@ -3,7 +3,7 @@ use Rattle.std.proofs.Common.{◌≡◌, ◌≢◌, ℕ, ◌==◌, ◌||◌, Boo
 use Rattle.std.proofs.lemmas.Bool.Decides.{nat_tests}
 use Rattle.std.specs.List.{AllByRecursion, filter, list_any}
 use Rattle.dt_engine.proofs.Kept.{all-weaker}
-use Rattle.dt_engine.proofs.Rounds.{all-more}
+use Rattle.dt_rounds.proofs.Rounds.{all-more}
 use Rattle.dt_runlaws.specs.Shown.{AreDistinct}
 
 -- one more that is none of them

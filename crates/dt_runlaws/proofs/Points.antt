@@ -24,7 +24,7 @@ use Rattle.dt_engine.specs.Admission.{admission, admission_by, answer_of_turn, a
 use Rattle.dt_engine.specs.Lent.{playing_without_work, playing_with_work, returned_work}
 use Rattle.dt_engine.specs.Played.{played}
 use Rattle.dt_engine.specs.InPlay.{EngineView, playing_of, works_of, owing_of}
-use Rattle.dt_engine.proofs.Rounds.{map-removed}
+use Rattle.dt_rounds.proofs.Rounds.{map-removed}
 use Rattle.dt_runlaws.specs.declared.driver.Action.{Action}
 use Rattle.dt_runlaws.specs.declared.driver.LentMachine.{LentMachine}
 use Rattle.dt_runlaws.specs.declared.driver.Driver.{Driver}

@@ -36,10 +36,10 @@ use Rattle.dt_engine.specs.Lent.{playing_without_work, playing_with_work, return
 use Rattle.dt_engine.specs.Played.{played}
 use Rattle.dt_engine.specs.InPlay.{EngineView, playing_of, works_of, owing_of, IsInPlay}
 use Rattle.dt_engine.specs.Onward.{IsDone}
-use Rattle.dt_engine.proofs.Completed.{completed}
+use Rattle.dt_rounds.proofs.Completed.{completed}
 use Rattle.dt_engine.proofs.Going.{texts-append, over-stands}
 use Rattle.dt_engine.proofs.Queueing.{found-contained}
-use Rattle.dt_engine.proofs.Rounds.{map-removed}
+use Rattle.dt_rounds.proofs.Rounds.{map-removed}
 use Rattle.dt_runlaws.specs.declared.driver.LentMachine.{LentMachine}
 use Rattle.dt_runlaws.specs.Shown.{Lent, lent_pids, lent_works, IsLent, AreLent, left_with_lent, Shows, HasWritten, WritesPrefix}
 use Rattle.dt_runlaws.specs.declared.driver.Driver.{Driver}

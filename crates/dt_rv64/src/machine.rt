@@ -101,6 +101,21 @@ impl Machine {
         self.pc = self.pc.wrapping_add(4);
     }
 
+    /// An equal machine, which shares its pages with this one until either writes to them. Memory is wanted for the list of
+    /// pages alone.
+    pub fn fork(&mut self) -> Result<Machine, NoMemory>
+        ensures same { IfOk result (λ copy. copy ≡ self.old) }
+        ensures kept { self.new ≡ self.old }
+    {
+        Ok(Machine {
+            regs: self.regs,
+            pc: self.pc,
+            space: self.space.fork()?,
+            reserved: self.reserved,
+            atomics: self.atomics,
+        })
+    }
+
     /// Reserves nothing from here on.
     pub fn unreserve(&mut self)
         ensures unreserved { self.new ≡ with_reserved None self.old }

@@ -17,9 +17,10 @@ ghost use Rattle.dt_steps.specs.inner.Left.{IsStep, IsOfPaths, image_or_refusal,
 use crate::cache::Cache;
 use crate::input::StepInput;
 use dt_base::{Image, NoMemory};
-use dt_engine::{Ended, RunErr, run_to_end};
+use dt_engine::RunErr;
 use dt_export::{ExportErr, ExportRefusal, image_of_tree};
 use dt_host::{Gate, Host, HostErr, Sink, SinkErr, VecSink, sink_all};
+use dt_rounds::{Ended, run_to_end};
 use dt_tree::Tree;
 use std::alloc::Global;
 use std::io::Write;

@@ -9,9 +9,13 @@ mod atomic_vectors;
 #[cfg(test)]
 mod atomics;
 #[cfg(test)]
+mod boards;
+#[cfg(test)]
 mod breaks;
 #[cfg(test)]
 mod clocks;
+#[cfg(test)]
+mod crews;
 #[cfg(test)]
 mod encodings;
 #[cfg(test)]

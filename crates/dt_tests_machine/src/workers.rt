@@ -191,15 +191,15 @@ fn nothing_is_run_for_no_slot(rt: HostRuntime) {
     }
 }
 
-// A worker at the gate: whether it has come, and whether it has seen the other there.
+/// A worker at the gate: whether it has come, and whether it has seen the other there.
 #[derive(Drop)]
-struct Visitor {
+pub struct Visitor {
     has_come: AtomicBool,
-    has_met: AtomicBool,
+    pub has_met: AtomicBool,
 }
 
 impl Visitor {
-    fn new() -> Self {
+    pub fn new() -> Self {
         Visitor {
             has_come: AtomicBool::new(false),
             has_met: AtomicBool::new(false),
@@ -218,11 +218,11 @@ impl Visitor {
     }
 }
 
-// A gate at which the workers of the first two slots wait for each other.
+/// A gate at which those who pass it with 0 and with another index wait for each other.
 #[derive(Drop)]
-struct Meeting {
-    first: Visitor,
-    second: Visitor,
+pub struct Meeting {
+    pub first: Visitor,
+    pub second: Visitor,
 }
 
 impl Gate for Meeting {

@@ -1,4 +1,4 @@
-//! The workers: they run the segments of machines that are lent, on threads.
+//! Workers that run the segments of a list of machines, on threads, a chunk of the list on each.
 #![tactic(auto)]
 
 mod slot;

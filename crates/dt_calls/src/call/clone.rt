@@ -89,13 +89,7 @@ fn copy_machine(alloc: Global, machine: &mut Machine, vpid: u32) -> Result<Effec
     ensures served { IfOk result (λ e. e.served ≡ Served.Child vpid) }
 {
     let flags = machine.reg(A0);
-    let mut child = Machine {
-        regs: machine.regs,
-        pc: machine.pc,
-        space: machine.space.fork()?,
-        reserved: machine.reserved,
-        atomics: machine.atomics,
-    };
+    let mut child = machine.fork()?;
     child.answer(0);
     put_stack(&mut child, machine.reg(A1));
     put_pid(

@@ -134,7 +134,6 @@ impl<'a> Trial<'a> {
         let mut failed = 0u64;
         for number in 1..FAULT_LIMIT {
             let came = self.came(rt, &words, Words::Stream(1), Some(number))?;
-            tally.runs = tally.runs.saturating_add(1);
             let ended = came.status == self.status;
             if !(ended && is_report(self.plan, &came.out, &whole) || is_cut(&came, &whole)) {
                 let under = format!(in self.alloc; "call {number} fails")?;
@@ -148,8 +147,10 @@ impl<'a> Trial<'a> {
         self.count_faults(tally, failed, least)
     }
 
-    // Adds it if fewer calls fail than have to, or if there seems to be no end of them.
+    // Counts these runs as one: how often a host is asked depends on which jobs of workers are finished first. Adds it if
+    // fewer calls fail than have to, or if there seems to be no end of them.
     fn count_faults(&self, tally: &mut Tally, failed: u64, least: u64) -> Result<(), CaseErr> {
+        tally.runs = tally.runs.saturating_add(1);
         if failed < least || FAULT_LIMIT <= failed.saturating_add(1) {
             let what = self.plan.what.as_str();
             let line = format!(in self.alloc; "{what}: {failed} calls fail\n")?;

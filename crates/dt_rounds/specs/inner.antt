@@ -1,0 +1,3 @@
+-- Inner words: no public clause cites these.
+pub mod Crew
+pub mod Round
